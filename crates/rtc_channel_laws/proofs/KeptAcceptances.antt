@@ -84,10 +84,10 @@ stays_closed NoneAnnounced phase h = refl
 
 module _ {I D S M E X T W N : Type 0} (m : Meanings I D S M E X T W N) where
   -- entries stay, and what was established over an association that runs is
-  abbrev LeavesEntries : SctpStreams S → SctpStreams S → Type 0
+  abbrev pub LeavesEntries : SctpStreams S → SctpStreams S → Type 0
   LeavesEntries p q = (q.entries ≡ p.entries) × (AreRunning m.association p → is_established q.state ≡ true) × OnlyActs m.association p q
 
-  leaves_same : (p q : SctpStreams S) → q ≡ p → LeavesEntries p q
+  pub leaves_same : (p q : SctpStreams S) → q ≡ p → LeavesEntries p q
   leaves_same p q is = (
     ap (λ (s : SctpStreams S). s.entries) is,
     λ k. ap (λ (s : SctpStreams S). is_established s.state) is ∙ k.1,
@@ -100,7 +100,7 @@ module _ {I D S M E X T W N : Type 0} (m : Meanings I D S M E X T W N) where
   unneeded false true e = refl
   unneeded a false e = absurd (true≢false (sym e))
 
-  sctp_entries : AssociationLaws m.association → (rows : List LineRow) (client : Bool) (now max : ℕ) (halves : Option InitHalves) (drops : Bool) (p : SctpStreams S)
+  pub sctp_entries : AssociationLaws m.association → (rows : List LineRow) (client : Bool) (now max : ℕ) (halves : Option InitHalves) (drops : Bool) (p : SctpStreams S)
       (r : Result (Unit {0}) SctpError) (q : SctpStreams S) → StartsSctp m.association p rows client now max halves drops r q
       → LeavesEntries p q
   sctp_entries w rows client now max halves drops p r q h = (
@@ -129,7 +129,7 @@ module _ {I D S M E X T W N : Type 0} (m : Meanings I D S M E X T W N) where
   moving_entries w p c restart creds candidates control active rows client max halves drops (AtStart follows starts started) =
       sctp_entries w rows client p.greatest max halves drops p.sctp (Err SctpAlloc) c.sctp started
 
-  stops_entries : AssociationLaws m.association → (p : Peer I D S M N) (count : ℕ) (asked : Option Asked) (changes : List Change) (sdp : Sdp) (restart : Option (IceCreds × Bool))
+  pub stops_entries : AssociationLaws m.association → (p : Peer I D S M N) (count : ℕ) (asked : Option Asked) (changes : List Change) (sdp : Sdp) (restart : Option (IceCreds × Bool))
       (control : Option Bool) (drawn : N) (c : Peer I D S M N) → StopsAccepting m (record p { counter = count }) asked changes sdp restart control drawn c
       → LeavesEntries p.sctp c.sctp
   stops_entries w p count asked changes sdp restart control drawn c (AtVerdict is) = leaves_same p.sctp c.sctp (ap (λ (x : Peer I D S M N). x.sctp) is)

@@ -53,7 +53,7 @@ written_is stream generation binary bytes (Ok count) = refl
 written_is stream generation binary bytes (Err error) = refl
 
 -- a write leaves the entries, and how the association was begun
-written_same : {S : Type 0} (m : AssociationMeaning S) (can current : Bool) (id : ℕ) (binary : Bool) (bytes : List ℕ) (p : SctpStreams S)
+pub written_same : {S : Type 0} (m : AssociationMeaning S) (can current : Bool) (id : ℕ) (binary : Bool) (bytes : List ℕ) (p : SctpStreams S)
     (r : Result ℕ SctpError) (q : SctpStreams S) → WrittenIf m can current id binary bytes p r q → (q.entries ≡ p.entries) × (begun_as q ≡ begun_as p)
 written_same m false current id binary bytes p r q h = (ap (λ x. x.entries) h.1, ap begun_as h.1)
 written_same m true false id binary bytes p r q h = (ap (λ x. x.entries) h.1, ap begun_as h.1)

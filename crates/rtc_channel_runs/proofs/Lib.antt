@@ -72,4 +72,13 @@ pub mod ThereRuns
 pub mod PiecePairs
 pub mod AloneSides
 pub mod UnresetSides
+pub mod BandedRows
+pub mod BandedMoments
+pub mod BandedInputs
+pub mod BandedChanges
+pub mod BandedNegotiation
+pub mod BandedAcceptances
+pub mod StepWalks
+pub mod BandedSteps
+pub mod BandedRuns
 pub mod SettlesRuns

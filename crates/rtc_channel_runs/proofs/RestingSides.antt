@@ -23,7 +23,7 @@ use Rattle.rtc_history.specs.Performs.{Acts, DrainsOn, DrainsPeer, PollsOnce, St
 use Rattle.rtc_history.specs.Runs.{Reached}
 use Rattle.rtc_history.specs.Sides.{other_side, same_side, side_of}
 use Rattle.rtc_channel_runs.specs.DrainedSides.{DrainedByEntry, DrainedByEvent, DrainedByOutcome, DrainedByOutputs, DrainedByStep, IsDrained}
-use Rattle.rtc_channel_runs.specs.SettledPairs.{EndInTimeout, IsResting, RestsByEntry, RestsByOutcome, RestsByStep, RestsUntil}
+use Rattle.rtc_channel_runs.specs.RestingPasts.{EndInTimeout, IsResting, RestsByEntry, RestsByOutcome, RestsByStep, RestsUntil}
 
 module _ {I D S M E X T W N : Type 0} (m : Meanings I D S M E X T W N) (is_so : ℕ → Type 0) where
   -- a poll that ended in a timeout left the peer so

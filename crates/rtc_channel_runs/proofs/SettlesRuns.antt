@@ -1,5 +1,5 @@
 -- Whatever run leaves a pair settled, its channels are open as the law tells.
-use Rattle.std.proofs.Common.{ℕ, Bool, List}
+use Rattle.std.proofs.Common.{ℕ, Bool, List, sym, subst}
 use Rattle.rtc_plain_media.specs.declared.plain_media_event.PlainMediaEvent.{PlainMediaEvent}
 use Rattle.rtc_ids.specs.Draws.{Draws}
 use Rattle.rtc_history.specs.declared.reply.Reply.{Reply}
@@ -7,6 +7,7 @@ use Rattle.rtc_history.specs.declared.step.Step.{Step}
 use Rattle.rtc_history.specs.Runs.{Reached, Runs}
 use Rattle.rtc_joined_runs.specs.NewPairs.{IsNewPair}
 use Rattle.rtc_joined_runs.specs.PlainPairs.{PlainPair, plain_over}
+use Rattle.rtc_channel_runs.specs.InBandSteps.{AreInBandSteps}
 use Rattle.rtc_channel_runs.specs.SettledPairs.{SettlesOpen}
 use Rattle.rtc_channel_runs.specs.UsesOfRuns.{reached_by}
 use Rattle.rtc_channel_runs.proofs.DrainedRuns.{new_unused}
@@ -15,6 +16,7 @@ use Rattle.rtc_channel_runs.proofs.SettledRuns.{settled_answered, settled_confir
 use Rattle.rtc_channel_runs.proofs.OwnSides.{settled_alone, settled_own, settled_parted, settled_waits_none}
 use Rattle.rtc_channel_runs.proofs.RoleSides.{settled_sides}
 use Rattle.rtc_channel_runs.proofs.UnresetSides.{settled_unreset}
+use Rattle.rtc_channel_runs.proofs.BandedRuns.{settled_first, settled_in_band}
 
 module _ {N : Type 0} (draws : Draws N) where
   pub run_settles_open : (stun : List ℕ → Bool) (start pair : PlainPair N) (steps : List Step) (replies : List (Reply PlainMediaEvent))
@@ -43,4 +45,11 @@ module _ {N : Type 0} (draws : Draws N) where
             settled_alone draws stun start run.past pair ran new (new_pair_told draws start new) (new_unused draws start new) settled at idle;
         unreset = λ settled at later.
             settled_unreset draws stun start run.past pair ran new (new_pair_told draws start new) (new_unused draws start new) settled at later;
+        in_band = λ none steps settled at s.
+            settled_in_band draws stun start run.past pair ran new none
+            (subst (λ (l : List Step). AreInBandSteps l) (sym run.steps_are) steps) settled at s;
+        all_in_band = λ none steps settled at later.
+            settled_first draws stun start run.past pair ran new none
+            (subst (λ (l : List Step). AreInBandSteps l) (sym run.steps_are) steps) settled (new_pair_told draws start new)
+            (new_unused draws start new) at later;
       }

@@ -9,7 +9,7 @@ use Rattle.rtc_history.specs.declared.side.Side.TheVariants.{Left, Right}
 use Rattle.rtc_history.specs.declared.step.Step.{Step}
 use Rattle.rtc_history.specs.declared.step.Step.TheVariants.{Time, Poll, Drain, Close}
 use Rattle.rtc_history.specs.Past.{Entry}
-use Rattle.rtc_channel_runs.specs.SettledPairs.{IsResting, RestsUntil}
+use Rattle.rtc_channel_runs.specs.RestingPasts.{IsResting, RestsUntil}
 
 abbrev entry_of : Step → Outcome (Unit {0}) → Entry (Unit {0})
 entry_of step outcome = record { step = step; outcome = outcome; table = None; made = [] }

@@ -9,5 +9,7 @@ pub mod DrainedSides
 pub mod ConfirmedChannels
 pub mod StillPairs
 pub mod OwnOpenings
+pub mod RestingPasts
+pub mod InBandSteps
 pub mod SettledPairs
 pub mod HandedOut

@@ -15,56 +15,22 @@ use Rattle.rtc_channels.specs.Openings.{channels_wake}
 use Rattle.rtc_peer_state.specs.declared.phase.Phase.TheVariants.{Alive}
 use Rattle.rtc_polling.specs.ChannelCalls.{open_stream_under, stream_under}
 use Rattle.rtc_polling_laws.specs.Drained.{IsTriedAgain}
-use Rattle.rtc_history.specs.declared.outcome.Outcome.{Outcome}
-use Rattle.rtc_history.specs.declared.outcome.Outcome.TheVariants.{Polled}
 use Rattle.rtc_history.specs.declared.reply.Reply.{Reply}
-use Rattle.rtc_history.specs.declared.shown.Shown.{Shown}
-use Rattle.rtc_history.specs.declared.shown.Shown.TheVariants.{Timeout, Packet, Event}
 use Rattle.rtc_history.specs.declared.side.Side.{Side}
 use Rattle.rtc_history.specs.declared.step.Step.{Step}
-use Rattle.rtc_history.specs.declared.step.Step.TheVariants.{Poll, Drain}
 use Rattle.rtc_history.specs.PairState.{rtc_at}
 use Rattle.rtc_history.specs.Past.{Entry}
 use Rattle.rtc_history.specs.Runs.{Runs}
-use Rattle.rtc_history.specs.Sides.{other_side, same_side, side_of}
+use Rattle.rtc_history.specs.Sides.{other_side}
 use Rattle.rtc_joined_runs.specs.PlainPairs.{PlainPair, PlainPolled, plain_over}
 use Rattle.rtc_channel_runs.specs.ChannelUses.{ChannelUse}
 use Rattle.rtc_channel_runs.specs.OpenUses.{AreJoinedUses}
 use Rattle.rtc_channel_runs.specs.ConfirmedChannels.{WasConfirmed}
+use Rattle.rtc_channel_runs.specs.InBandSteps.{AreInBandSteps}
 use Rattle.rtc_channel_runs.specs.OwnOpenings.{HasEntryOf, HasOpening, IsInBandChannel, IsOfSide}
+use Rattle.rtc_channel_runs.specs.RestingPasts.{IsResting, RestsUntil}
 use Rattle.rtc_channel_runs.specs.StillPairs.{IsStillPair}
 use Rattle.rtc_channel_runs.specs.UsesOfRuns.{reached_by, uses_in_run}
-
--- outputs end in a timeout at a moment that is so
-abbrev pub EndInTimeout : {E : Type 0} → (ℕ → Type 0) → List (Shown E) → Type 0
-EndInTimeout is_so [] = ⊥
-EndInTimeout is_so (Timeout moment reason ∷ outputs) = is_so moment
-EndInTimeout is_so (Packet number len ∷ outputs) = EndInTimeout is_so outputs
-EndInTimeout is_so (Event event ∷ outputs) = EndInTimeout is_so outputs
-
-abbrev pub RestsByOutcome : {E : Type 0} → (ℕ → Type 0) → Outcome E → Type 0
-RestsByOutcome is_so (Polled outputs end) = EndInTimeout is_so outputs
-RestsByOutcome is_so outcome = ⊥
-
--- a step polled a peer up to such a timeout
-abbrev pub RestsByStep : {E : Type 0} → (ℕ → Type 0) → Step → Outcome E → Type 0
-RestsByStep is_so (Poll at) outcome = RestsByOutcome is_so outcome
-RestsByStep is_so (Drain at) outcome = RestsByOutcome is_so outcome
-RestsByStep is_so step outcome = ⊥
-
-abbrev pub RestsByEntry : {E : Type 0} → (ℕ → Type 0) → (acting : Bool) → Step → Outcome E → (earlier : Type 0) → Type 0
-RestsByEntry is_so true step outcome earlier = RestsByStep is_so step outcome
-RestsByEntry is_so false step outcome earlier = earlier
-
--- a side was polled up to a timeout at a moment that is so, and no input came to it and no call was made on it since
-abbrev pub RestsUntil : {E : Type 0} → (ℕ → Type 0) → Side → List (Entry E) → Type 0
-RestsUntil is_so at [] = ⊥
-RestsUntil is_so at (entry ∷ past) =
-    RestsByEntry is_so (same_side (side_of entry.step) at) entry.step entry.outcome (RestsUntil is_so at past)
-
--- whatever the moment
-abbrev pub IsResting : {E : Type 0} → Side → List (Entry E) → Type 0
-IsResting at past = RestsUntil (λ moment. Unit {0}) at past
 
 -- nothing was due by then: the moment is later than each that the peer took
 abbrev pub HasNothingDue : {E N : Type 0} → Side → List (Entry E) → PlainPair N → Type 0
@@ -228,18 +194,8 @@ AreConfirmedAlone draws confirmed uses p others q =
     → AreInBandChannels stream p q
     → IsOpenAtBoth draws channel uses p others q ⊎ IsRefusedAlone stream p q
 
--- each channel of one side that was confirmed is open at both, where neither side settled its stream by other means
-abbrev pub AreConfirmedInBand : {N : Type 0} → Draws N → (confirmed : ℕ → Type 0) → (uses : List ChannelUse) → PlainPolled N
-    → (others : List ChannelUse) → PlainPolled N → Type 0
-AreConfirmedInBand draws confirmed uses p others q =
-    (channel stream : ℕ)
-    → confirmed channel
-    → stream_under channel p.core.channels ≡ Some stream
-    → AreInBandStreams stream p q
-    → AreInBandChannels stream p q
-    → IsOpenAtBoth draws channel uses p others q
-
--- the same of streams that are in their first generation: neither was ever reset
+-- Each channel of one side that was confirmed is open at both, where neither side settled its stream by other means, and the stream is in
+-- its first generation: it was never reset.
 abbrev pub AreConfirmedUnreset : {N : Type 0} → Draws N → (confirmed : ℕ → Type 0) → (uses : List ChannelUse) → PlainPolled N
     → (others : List ChannelUse) → PlainPolled N → Type 0
 AreConfirmedUnreset draws confirmed uses p others q =
@@ -251,10 +207,21 @@ AreConfirmedUnreset draws confirmed uses p others q =
     → generation_of p.core.sctp.association stream ≡ 0
     → IsOpenAtBoth draws channel uses p others q
 
+-- each channel of one side that was confirmed is open at both, where its stream was never reset
+abbrev pub AreConfirmedFirst : {N : Type 0} → Draws N → (confirmed : ℕ → Type 0) → (uses : List ChannelUse) → PlainPolled N
+    → (others : List ChannelUse) → PlainPolled N → Type 0
+AreConfirmedFirst draws confirmed uses p others q =
+    (channel stream : ℕ)
+    → confirmed channel
+    → stream_under channel p.core.channels ≡ Some stream
+    → generation_of p.core.sctp.association stream ≡ 0
+    → IsOpenAtBoth draws channel uses p others q
+
 -- A run by these steps with these replies leaves it so at both sides, where it left the pair settled. Of channels that were confirmed it
 -- tells where nothing is due for those of the side; they are open where besides no opening is under way at either side, and where the last
 -- timeouts of both are late enough. One side is the client and the other one the server; each opening is over a stream of its own side, so
--- that both never open one, and no opening waits for its answer.
+-- that both never open one, and no opening waits for its answer. Where no step added a channel that was settled by other means than
+-- messages, and the pair kept no session description before, no stream was settled so.
 pub record SettlesOpen {N : Type 0} (draws : Draws N) (stun : List ℕ → Bool) (start : PlainPair N) (steps : List Step)
     (replies : List (Reply PlainMediaEvent)) (pair : PlainPair N) (run : Runs (plain_over draws) stun start steps replies pair)
     : Type 0 where
@@ -297,6 +264,15 @@ pub record SettlesOpen {N : Type 0} (draws : Draws N) (stun : List ℕ → Bool)
       (uses_in_run (plain_over draws) stun start steps replies pair run (other_side at)) (rtc_at (other_side at) pair)
   pub unreset : IsSettledPair run.past pair → (at : Side) → HasNothingDue at run.past pair
       → AreConfirmedUnreset draws
+      (λ channel. WasConfirmed (plain_over draws) stun start at channel run.past pair
+      (reached_by (plain_over draws) stun start run.past pair run.went))
+      (uses_in_run (plain_over draws) stun start steps replies pair run at) (rtc_at at pair)
+      (uses_in_run (plain_over draws) stun start steps replies pair run (other_side at)) (rtc_at (other_side at) pair)
+  pub in_band : start.sdps ≡ [] → AreInBandSteps steps → IsSettledPair run.past pair → (at : Side) (stream : ℕ)
+      → AreInBandStreams stream (rtc_at at pair) (rtc_at (other_side at) pair)
+      × AreInBandChannels stream (rtc_at at pair) (rtc_at (other_side at) pair)
+  pub all_in_band : start.sdps ≡ [] → AreInBandSteps steps → IsSettledPair run.past pair → (at : Side) → HasNothingDue at run.past pair
+      → AreConfirmedFirst draws
       (λ channel. WasConfirmed (plain_over draws) stun start at channel run.past pair
       (reached_by (plain_over draws) stun start run.past pair run.went))
       (uses_in_run (plain_over draws) stun start steps replies pair run at) (rtc_at at pair)

@@ -1,5 +1,5 @@
 //! The channels of a run of two peers over plain parts that ended with nothing under way.
-ghost use Rattle.std.specs.Prelude.{ℕ, ◌≡◌, Bool, List, None};
+ghost use Rattle.std.specs.Prelude.{ℕ, ◌≡◌, Bool, List, [], None};
 ghost use Rattle.rtc_assoc_state.specs.PlainMeaning.{plain_meaning};
 ghost use Rattle.rtc_channels.specs.Openings.{channels_wake};
 ghost use Rattle.rtc_plain_media.specs.declared.plain_media_event.PlainMediaEvent.{PlainMediaEvent};
@@ -7,12 +7,14 @@ ghost use Rattle.rtc_history.specs.declared.reply.Reply.{Reply};
 ghost use Rattle.rtc_history.specs.declared.side.Side.{Side};
 ghost use Rattle.rtc_history.specs.declared.step.Step.{Step};
 ghost use Rattle.rtc_history.specs.PairState.{rtc_at};
-ghost use Rattle.rtc_history.specs.Past.{Entry};
+ghost use Rattle.rtc_history.specs.Past.{Entry, steps_of};
 ghost use Rattle.rtc_history.specs.Runs.{Reached, Runs};
 ghost use Rattle.rtc_history.specs.Sides.{other_side};
 ghost use Rattle.rtc_joined_runs.specs.NewPairs.{IsNewPair};
 ghost use Rattle.rtc_joined_runs.specs.PlainPairs.{PlainPair, plain_over};
 ghost use Rattle.rtc_channel_runs.specs.ConfirmedChannels.{WasConfirmed};
+ghost use Rattle.rtc_channel_runs.specs.InBandSteps.{AreInBandSteps};
+ghost use Rattle.rtc_channel_runs.specs.SettledPairs.{AreConfirmedFirst, AreInBandChannels, AreInBandStreams};
 ghost use Rattle.rtc_channel_runs.specs.SettledPairs.{AreAnswered, AreConfirmedAlone, AreConfirmedOpen, AreConfirmedSettled};
 ghost use Rattle.rtc_channel_runs.specs.SettledPairs.{AreConfirmedUnreset, AreOnSides, AreOpenAtBoth, AreOwnOpenings, OpenNoneBoth};
 ghost use Rattle.rtc_channel_runs.specs.SettledPairs.{HasNothingDue, HasNothingSoon, IsLevelStream, IsSettledPair, SettlesOpen, WaitsNone};
@@ -41,6 +43,9 @@ use rtc_ids::Ids;
 /// for its answer, and the last of the three cases does not come. Nor does the second one, of a stream that was never reset, which is in
 /// its first generation: each channel that was confirmed and has such a stream is then open at both sides, where the last timeout of its
 /// side is later than each moment that its peer took.
+///
+/// Where no step added a channel with a stream that both ends settled by other means, and the pair kept no session description at its
+/// start, no stream was settled so: each channel that was confirmed, and whose stream was never reset, is then open at both sides.
 pub fn settled_pairs_have_open_channels<N: Ids>()
     ensures level { (stun : List ℕ → Bool) (start pair : PlainPair N) (past : List (Entry PlainMediaEvent)) → IsNewPair N.ids start
         → Reached (plain_over N.ids) stun start past pair → IsSettledPair past pair → (at : Side) (stream : ℕ)
@@ -92,6 +97,17 @@ pub fn settled_pairs_have_open_channels<N: Ids>()
     ensures unreset { (stun : List ℕ → Bool) (start pair : PlainPair N) (past : List (Entry PlainMediaEvent)) → IsNewPair N.ids start
         → (ran : Reached (plain_over N.ids) stun start past pair) → IsSettledPair past pair → (at : Side) → HasNothingDue at past pair
         → AreConfirmedUnreset N.ids (λ channel. WasConfirmed (plain_over N.ids) stun start at channel past pair ran)
+        (uses_of (plain_over N.ids) stun start at past pair ran) (rtc_at at pair)
+        (uses_of (plain_over N.ids) stun start (other_side at) past pair ran) (rtc_at (other_side at) pair) }
+    ensures in_band { (stun : List ℕ → Bool) (start pair : PlainPair N) (past : List (Entry PlainMediaEvent)) → IsNewPair N.ids start
+        → start.sdps ≡ [] → Reached (plain_over N.ids) stun start past pair → AreInBandSteps (steps_of past) → IsSettledPair past pair
+        → (at : Side) (stream : ℕ)
+        → AreInBandStreams stream (rtc_at at pair) (rtc_at (other_side at) pair)
+        × AreInBandChannels stream (rtc_at at pair) (rtc_at (other_side at) pair) }
+    ensures all_in_band { (stun : List ℕ → Bool) (start pair : PlainPair N) (past : List (Entry PlainMediaEvent)) → IsNewPair N.ids start
+        → start.sdps ≡ [] → (ran : Reached (plain_over N.ids) stun start past pair) → AreInBandSteps (steps_of past)
+        → IsSettledPair past pair → (at : Side) → HasNothingDue at past pair
+        → AreConfirmedFirst N.ids (λ channel. WasConfirmed (plain_over N.ids) stun start at channel past pair ran)
         (uses_of (plain_over N.ids) stun start at past pair ran) (rtc_at at pair)
         (uses_of (plain_over N.ids) stun start (other_side at) past pair ran) (rtc_at (other_side at) pair) }
     ensures ran { (stun : List ℕ → Bool) (start pair : PlainPair N) (steps : List Step) (replies : List (Reply PlainMediaEvent))

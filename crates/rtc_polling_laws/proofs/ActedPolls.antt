@@ -28,7 +28,7 @@ use Rattle.rtc_sctp.specs.Streams.{SctpStreams}
 use Rattle.rtc_stream_uses.specs.UsedCalls.{IsUsedOver}
 use Rattle.rtc_stream_uses.proofs.OpeningEntries.{open_is}
 use Rattle.rtc_stream_contents.specs.RunningStreams.{AreRunning}
-use Rattle.rtc_polling_laws.proofs.ChangedRows.{changed_on, rows_same}
+use Rattle.rtc_polling_laws.proofs.PolledRows.{polled_on, polled_same}
 use Rattle.rtc_polling_laws.proofs.StreamsJoin.{answer_met, given_on, live_kept, same_given, states_same}
 use Rattle.rtc_polling_laws.proofs.VisitActs.{contents_met, EventShows, MeetsData, VisitDid, still_visit, repeats_acts}
 use Rattle.rtc_polling_laws.proofs.ActedVisits.{visits_act}
@@ -68,8 +68,8 @@ module _ {I D S M E X T W N : Type 0} (m : Meanings I D S M E X T W N) (laws : P
         (same_given n.core.channels.given x.core.channels.given (ap (λ (y : Channels). y.given) held));
     fresh = λ s own k. opened_idle moment p n x s own sctp held (h.fresh s own (open_is s own n.core.sctp.entries x.core.sctp.entries (ap (λ (y : SctpStreams S). y.entries) sctp) k));
     changed =
-        changed_on m.association p.core.channels p.core.sctp n.core.channels n.core.sctp x.core.channels x.core.sctp h.changed
-        (rows_same m.association n.core.channels n.core.sctp x.core.channels x.core.sctp held sctp);
+        polled_on m.association p.core.channels p.core.sctp n.core.channels n.core.sctp x.core.channels x.core.sctp h.changed
+        (polled_same m.association n.core.channels n.core.sctp x.core.channels x.core.sctp held sctp);
   })
 
   -- what an answer shows is what was met

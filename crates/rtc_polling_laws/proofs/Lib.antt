@@ -15,6 +15,7 @@ pub mod ActJoins
 pub mod ActedClosing
 pub mod ActedInputs
 pub mod ChangedRows
+pub mod PolledRows
 pub mod StreamsJoin
 pub mod ChannelsOver
 pub mod UnsharedRows

@@ -22,8 +22,8 @@ use Rattle.rtc_polling.specs.StreamStages.{channel_over}
 use Rattle.rtc_polling_laws.specs.PeerActs.{nothing_came, queue_and_role}
 use Rattle.rtc_polling_laws.specs.Acts.{PeerDid, ArePassed}
 use Rattle.rtc_polling_laws.specs.ChannelStreams.{IsGone, LeavesLiveChannel, UnlessLacking, OpensByAnswer, TellsByAnswer, WasOpenInBand, Already}
-use Rattle.rtc_polling_laws.specs.RowsChanged.{Polled, RowsAnswered, RowsChanged, begun_as}
-use Rattle.rtc_polling_laws.proofs.ChangedRows.{one_changed}
+use Rattle.rtc_polling_laws.specs.RowsChanged.{Polled, RowsAnswered, RowsPolled, begun_as}
+use Rattle.rtc_polling_laws.proofs.PolledRows.{one_polled}
 use Rattle.rtc_polling_laws.proofs.StreamsJoin.{answer_met, unless_map}
 use Rattle.rtc_polling_laws.proofs.UnsharedRows.{AreApart}
 use Rattle.rtc_polling_laws.proofs.ActJoins.{streams_did}
@@ -104,9 +104,9 @@ module _ {I D S M E X T W N : Type 0} (m : Meanings I D S M E X T W N) (laws : P
           opened_anew x answer p q s own (opening s own) (did.fresh s own (open_is s own streams.entries q.core.sctp.entries entries.0 h))) anew;
       changed =
           unless_map (answer_met x) (RowsAnswered answer p.core.channels q.core.channels)
-          (RowsChanged m.association p.core.channels p.core.sctp q.core.channels q.core.sctp)
+          (RowsPolled m.association p.core.channels p.core.sctp q.core.channels q.core.sctp)
           (λ after.
-          one_changed m.association p.core.channels p.core.sctp q.core.channels q.core.sctp (Polled answer streams polled after is entries.0 (ap (λ b. b.0) entries.1) (ap (λ b. b.1) entries.1))) rowed;
+          one_polled m.association p.core.channels p.core.sctp q.core.channels q.core.sctp (Polled answer streams polled after is entries.0 (ap (λ b. b.0) entries.1) (ap (λ b. b.1) entries.1)) tt) rowed;
       opens = opens;
       tells = tells;
       running = λ w k. (

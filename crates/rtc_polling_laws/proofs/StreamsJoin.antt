@@ -33,10 +33,11 @@ use Rattle.rtc_polling.specs.declared.output.Output.{Output}
 use Rattle.rtc_polling.specs.declared.output.Output.TheVariants as outputs
 use Rattle.rtc_polling.specs.declared.polled_peer.PolledPeer.{PolledPeer}
 use Rattle.rtc_polling.specs.StreamStages.{channel_over}
-use Rattle.rtc_polling_laws.proofs.ChangedRows.{changed_on, no_acts, rows_stay}
+use Rattle.rtc_polling_laws.proofs.ChangedRows.{no_acts}
+use Rattle.rtc_polling_laws.proofs.PolledRows.{polled_on, polled_stay}
 use Rattle.rtc_polling_laws.proofs.UnsharedRows.{AreApart}
 use Rattle.rtc_polling_laws.proofs.ActedClosing.{BesideIce, BesideDtls, BesideMedia}
-use Rattle.rtc_polling_laws.specs.RowsChanged.{OnlyActs, RowsChanged, begun_as}
+use Rattle.rtc_polling_laws.specs.RowsChanged.{OnlyActs, RowsPolled, begun_as}
 use Rattle.rtc_polling_laws.specs.ChannelStreams.{IsGone, IsLiveChannel, LeavesLiveBy, LeavesLiveChannel, UnlessLacking, IsUsedStream, OpensByAnswer, TellsByAnswer, StreamsWent, WasOpenInBand, Already, Announced, NoNumber}
 
 -- what is met, as a poll answers it
@@ -181,8 +182,8 @@ module _ {I D S M E X T W N : Type 0} (m : Meanings I D S M E X T W N) where
         unless_of answer ((s : ℕ) (own : Option ℕ) → HasOpenInBand s own q.core.sctp.entries → WasOpenInBand s own p answer q)
         (λ s own h. Already (open_is s own p.core.sctp.entries q.core.sctp.entries kept.0 h));
     changed =
-        unless_of answer (RowsChanged m.association p.core.channels p.core.sctp q.core.channels q.core.sctp)
-        (rows_stay m.association p.core.channels p.core.sctp q.core.channels q.core.sctp kept.1 kept.2.only);
+        unless_of answer (RowsPolled m.association p.core.channels p.core.sctp q.core.channels q.core.sctp)
+        (polled_stay m.association p.core.channels p.core.sctp q.core.channels q.core.sctp kept.1 kept.2.only);
   }
 
   -- what was open behind a stage that told nothing
@@ -268,10 +269,10 @@ module _ {I D S M E X T W N : Type 0} (m : Meanings I D S M E X T W N) where
         ((s : ℕ) (own : Option ℕ) → HasOpenInBand s own q.core.sctp.entries → WasOpenInBand s own p answer q)
         (λ after s own h. open_through answer moment p b q s own y.given (x.fresh s own) (after s own h)) y.fresh;
     changed =
-        unless_map answer (RowsChanged m.association b.core.channels b.core.sctp q.core.channels q.core.sctp)
-        (RowsChanged m.association p.core.channels p.core.sctp q.core.channels q.core.sctp)
+        unless_map answer (RowsPolled m.association b.core.channels b.core.sctp q.core.channels q.core.sctp)
+        (RowsPolled m.association p.core.channels p.core.sctp q.core.channels q.core.sctp)
         (λ after.
-        changed_on m.association p.core.channels p.core.sctp b.core.channels b.core.sctp q.core.channels q.core.sctp x.changed after) y.changed;
+        polled_on m.association p.core.channels p.core.sctp b.core.channels b.core.sctp q.core.channels q.core.sctp x.changed after) y.changed;
   }
     where
       rising_kept : AreRising 0 p.core.channels.rows → AreRising 0 b.core.channels.rows

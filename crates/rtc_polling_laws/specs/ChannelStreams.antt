@@ -19,7 +19,7 @@ use Rattle.rtc_polling.specs.declared.output.Output.{Output}
 use Rattle.rtc_polling.specs.declared.output.Output.TheVariants as outputs
 use Rattle.rtc_polling.specs.declared.polled_peer.PolledPeer.{PolledPeer}
 use Rattle.rtc_polling.specs.StreamStages.{channel_over}
-use Rattle.rtc_polling_laws.specs.RowsChanged.{RowsChanged}
+use Rattle.rtc_polling_laws.specs.RowsChanged.{RowsPolled}
 
 -- the numbers of channels rise, each was given, and no two channels have one stream
 abbrev pub AreNumberedChannels : Channels → Type 0
@@ -123,7 +123,7 @@ module _ {I D S M E X T W N : Type 0} (m : Meanings I D S M E X T W N) where
 
   -- What a poll leaves of streams and live channels by what it wrote and read, and of channels that have gone; which message it tells;
   -- and that an association that runs does so still. What it left open in-band was open before, or is announced. The changes of channels
-  -- and of the entries of streams are told one by one.
+  -- and of the entries of streams are told one by one, and none confirms or adds a channel.
   pub record StreamsWent (p : PolledPeer I D S M N) (answer : Result (Output E) RtcError) (wrote heard : List StreamMessage)
       (q : PolledPeer I D S M N) : Type 0 where
     pub uses : AssociationLaws m.association → GenerationLaws m.association → (s : ℕ) (written read : List StreamMessage)
@@ -137,4 +137,4 @@ module _ {I D S M E X T W N : Type 0} (m : Meanings I D S M E X T W N) where
     pub running : AssociationLaws m.association → AreRunning m.association p.core.sctp → AreRunning m.association q.core.sctp
     pub given : p.core.channels.given ≤ q.core.channels.given
     pub fresh : UnlessLacking answer ((s : ℕ) (own : Option ℕ) → HasOpenInBand s own q.core.sctp.entries → WasOpenInBand s own p answer q)
-    pub changed : UnlessLacking answer (RowsChanged m.association p.core.channels p.core.sctp q.core.channels q.core.sctp)
+    pub changed : UnlessLacking answer (RowsPolled m.association p.core.channels p.core.sctp q.core.channels q.core.sctp)

@@ -98,3 +98,24 @@ module _ {S : Type 0} (m : AssociationMeaning S) where
   pub record RowsChanged (held : Channels) (a : SctpStreams S) (held' : Channels) (b : SctpStreams S) : Type 0 where
     pub changes : ℕ
     pub changed : ChangeRows changes held a held' b
+
+  -- a change confirms no channel, and adds none
+  abbrev pub ConfirmsNone : (held : Channels) (a : SctpStreams S) (held' : Channels) (b : SctpStreams S) → RowsChange held a held' b → Type 0
+  ConfirmsNone held a held' b (Confirmed channels is h) = ⊥
+  ConfirmsNone held a held' b (Made config is h) = ⊥
+  ConfirmsNone held a held' b change = Unit {0}
+
+  -- so many such changes, one after the other
+  abbrev pub PollRows : ℕ → Channels → SctpStreams S → Channels → SctpStreams S → Type 0
+  PollRows zero held a held' b = (held' ≡ held) × (b ≡ a)
+  PollRows (suc n) held a held' b =
+      (between : Channels)
+      × (c : SctpStreams S)
+      × PollRows n held a between c
+      × (change : RowsChange between c held' b)
+      × ConfirmsNone between c held' b change
+
+  -- the changes by a poll
+  pub record RowsPolled (held : Channels) (a : SctpStreams S) (held' : Channels) (b : SctpStreams S) : Type 0 where
+    pub changes : ℕ
+    pub changed : PollRows changes held a held' b

@@ -4,6 +4,7 @@ use Rattle.rtc_channel_runs.proofs.OwnSides.{settled_alone, settled_own, settled
 use Rattle.rtc_channel_runs.proofs.RoleSides.{settled_sides}
 use Rattle.rtc_channel_runs.proofs.SettlesRuns.{run_settles_open}
 use Rattle.rtc_channel_runs.proofs.UnresetSides.{settled_unreset}
+use Rattle.rtc_channel_runs.proofs.BandedRuns.{settled_first, settled_in_band}
 use Rattle.rtc_channel_runs.proofs.SettledRuns.{settled_answered, settled_confirmed, settled_idle, settled_later, settled_level, settled_open, settled_refused}
 use Rattle.rtc_channel_runs.proofs.settling.settled_pairs_have_open_channels.Goals as goal
 
@@ -56,6 +57,15 @@ pub returns-clause-unreset : goal.returns-clause-unreset
 returns-clause-unreset g c = λ stun start pair past new ran settled at later.
     settled_unreset g.N.Ids.ids stun start past pair ran new (new_pair_told g.N.Ids.ids start new) (new_unused g.N.Ids.ids start new) settled at
     later
+
+pub returns-clause-in_band : goal.returns-clause-in_band
+returns-clause-in_band g c = λ stun start pair past new none ran steps settled at s.
+    settled_in_band g.N.Ids.ids stun start past pair ran new none steps settled at s
+
+pub returns-clause-all_in_band : goal.returns-clause-all_in_band
+returns-clause-all_in_band g c = λ stun start pair past new none ran steps settled at later.
+    settled_first g.N.Ids.ids stun start past pair ran new none steps settled (new_pair_told g.N.Ids.ids start new)
+    (new_unused g.N.Ids.ids start new) at later
 
 pub returns-clause-ran : goal.returns-clause-ran
 returns-clause-ran g c = λ stun start pair steps replies new run. run_settles_open g.N.Ids.ids stun start pair steps replies new run
