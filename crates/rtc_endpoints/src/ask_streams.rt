@@ -6,10 +6,8 @@ use rtc_peer::Mid;
 pub enum AskStreams {
     /// A stream that is received is expected, and marked.
     Expect(Mid, u32, u64),
-    /// A stream that is sent is declared, and marked.
-    Declare(Mid, u32, u64),
-    /// A stream that is sent is declared with its retransmissions, and marked.
-    DeclareResent(Mid, u32, u32, u64),
+    /// A stream that is sent is declared, with its retransmissions where they have a source, and marked.
+    Declare(Mid, u32, Option<u32>, u64),
     /// A stream that is received is made.
     MakeReceived(Mid, u32),
     /// A stream that is sent is made.

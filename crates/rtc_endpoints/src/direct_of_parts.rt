@@ -28,6 +28,13 @@ fn counts(mark: Option<&mut PlainMark>, count: u64) -> bool {
     }
 }
 
+fn source(ssrc: Option<u32>) -> Option<Ssrc> {
+    match ssrc {
+        Some(ssrc) => Some(Ssrc(ssrc)),
+        None => None,
+    }
+}
+
 impl<
     I: IceAgent,
     D: DtlsInstance,
@@ -74,14 +81,8 @@ impl<
                     Err(_) => false,
                 }
             }
-            AskStreams::Declare(mid, ssrc, count) => {
-                match api.declare_stream_tx(Ssrc(ssrc), None, mid, None) {
-                    Ok(made) => marks(made, count),
-                    Err(_) => false,
-                }
-            }
-            AskStreams::DeclareResent(mid, ssrc, rtx, count) => {
-                match api.declare_stream_tx(Ssrc(ssrc), Some(Ssrc(rtx)), mid, None) {
+            AskStreams::Declare(mid, ssrc, rtx, count) => {
+                match api.declare_stream_tx(Ssrc(ssrc), source(rtx), mid, None) {
                     Ok(made) => marks(made, count),
                     Err(_) => false,
                 }

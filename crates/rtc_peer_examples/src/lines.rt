@@ -30,6 +30,6 @@ pub fn declare_lines<P: Direct>(peer: &mut P, mid: Mid, other: Mid) -> bool {
 /// The fourth number is in use with its retransmissions, so that the sixth is given.
 pub fn pass_over_sources<P: Direct>(peer: &mut P, mid: Mid) -> bool {
     let declared = peer.does_directly(AskDirect::Declare(mid, MediaKind::Audio));
-    let made = peer.does_on_streams(AskStreams::DeclareResent(mid, 4, 5, 0));
+    let made = peer.does_on_streams(AskStreams::Declare(mid, 4, Some(5), 0));
     declared & made & peer.does_directly(AskDirect::DrawSource(6))
 }

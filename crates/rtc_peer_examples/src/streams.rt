@@ -10,7 +10,7 @@ fn keeps_received<P: Direct>(peer: &mut P, mid: Mid) -> bool {
 }
 
 fn keeps_sent<P: Direct>(peer: &mut P, mid: Mid) -> bool {
-    let made = peer.does_on_streams(AskStreams::Declare(mid, 8, 6));
+    let made = peer.does_on_streams(AskStreams::Declare(mid, 8, None, 6));
     let kept = peer.does_on_streams(AskStreams::HaveSent(mid, 8, 6));
     let same = peer.does_on_streams(AskStreams::Renumber(mid, 8));
     let renumbered = peer.does_on_streams(AskStreams::Renumber(mid, 9));
@@ -26,7 +26,7 @@ pub fn keep_marks<P: Direct>(peer: &mut P, mid: Mid) -> bool {
 fn make_streams<P: Direct>(peer: &mut P, mid: Mid) -> bool {
     let declared = peer.does_directly(AskDirect::Declare(mid, MediaKind::Audio));
     let received = peer.does_on_streams(AskStreams::Expect(mid, 7, 0));
-    declared & received & peer.does_on_streams(AskStreams::Declare(mid, 8, 0))
+    declared & received & peer.does_on_streams(AskStreams::Declare(mid, 8, None, 0))
 }
 
 /// A stream is dropped by its source, and with its line.
@@ -51,7 +51,7 @@ pub fn does_succeed<P: Direct>(peer: &mut P, mid: Mid, call: &str) -> bool {
     let declared = peer.does_directly(AskDirect::Declare(mid, MediaKind::Video));
     let made = match call {
         "expect_stream_rx" => peer.does_on_streams(AskStreams::Expect(mid, 7, 0)),
-        "declare_stream_tx" => peer.does_on_streams(AskStreams::Declare(mid, 8, 0)),
+        "declare_stream_tx" => peer.does_on_streams(AskStreams::Declare(mid, 8, None, 0)),
         "make_stream_rx" => peer.does_on_streams(AskStreams::MakeReceived(mid, 9)),
         "make_stream_tx" => peer.does_on_streams(AskStreams::MakeSent(mid, 10)),
         _ => false,

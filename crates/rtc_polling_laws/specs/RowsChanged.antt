@@ -100,7 +100,8 @@ module _ {S : Type 0} (m : AssociationMeaning S) where
     pub changed : ChangeRows changes held a held' b
 
   -- a change confirms no channel, and adds none
-  abbrev pub ConfirmsNone : (held : Channels) (a : SctpStreams S) (held' : Channels) (b : SctpStreams S) → RowsChange held a held' b → Type 0
+  abbrev pub ConfirmsNone : (held : Channels) (a : SctpStreams S) (held' : Channels) (b : SctpStreams S)
+      → RowsChange held a held' b → Type 0
   ConfirmsNone held a held' b (Confirmed channels is h) = ⊥
   ConfirmsNone held a held' b (Made config is h) = ⊥
   ConfirmsNone held a held' b change = Unit {0}
