@@ -27,12 +27,11 @@ use std::alloc::AllocError;
 /// A handle by which a user drives a peer without session descriptions, where both sides agree by other means.
 ///
 /// Its calls act at once, also on a peer that is closing or closed.
-pub struct DirectApi<'a, I: IceAgent, D: DtlsInstance, S: Association, M: MediaSession, N: Ids> {
+pub struct DirectApi<'a, I, D, S, M, N> {
     pub(crate) rtc: &'a mut Rtc<I, D, S, M, N>,
 }
 
-impl<I: IceAgent, D: DtlsInstance, S: Association, M: MediaSession, N: Ids> Drop
-    for DirectApi<'_, I, D, S, M, N> {
+impl<I, D, S, M, N> Drop for DirectApi<'_, I, D, S, M, N> {
     fn drop(self)
         ensures { self.exit.0.now ≡ self.entry.rtc.now }
     {

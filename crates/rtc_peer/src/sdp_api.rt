@@ -26,7 +26,7 @@ use std::alloc::AllocError;
 /// Changes are staged on it, and offered together by `apply`. A handle that is dropped offers nothing; what it set or
 /// stopped stays so.
 #[derive(Drop)]
-pub struct SdpApi<'a, I: IceAgent, D: DtlsInstance, S: Association, M: MediaSession, N: Ids> {
+pub struct SdpApi<'a, I, D, S, M, N> {
     pub(crate) rtc: &'a mut Rtc<I, D, S, M, N>,
 }
 

@@ -10,7 +10,7 @@ use std::alloc::Global;
 use std::marker::Model;
 
 /// Two peers, an address of each, the session descriptions that they made, the tokens of their offers, and the datagrams that they sent.
-pub struct Pair<I: IceAgent, D: DtlsInstance, S: Association, M: MediaSession, N: Ids> {
+pub struct Pair<I, D, S, M, N> {
     alloc: Global,
     left: Rtc<I, D, S, M, N>,
     right: Rtc<I, D, S, M, N>,
@@ -22,13 +22,7 @@ pub struct Pair<I: IceAgent, D: DtlsInstance, S: Association, M: MediaSession, N
 }
 
 // Written out, so that the proof of what owns a pair sees one call and not the drop of each part of both peers.
-impl<
-    I: IceAgent + Drop,
-    D: DtlsInstance + Drop,
-    S: Association + Drop,
-    M: MediaSession + Drop,
-    N: Ids + Drop,
-> Drop for Pair<I, D, S, M, N> {
+impl<I: Drop, D: Drop, S: Drop, M: Drop, N: Drop> Drop for Pair<I, D, S, M, N> {
     fn drop(self) {
         let Pair {
             alloc: _alloc,
@@ -43,8 +37,7 @@ impl<
     }
 }
 
-impl<I: IceAgent, D: DtlsInstance, S: Association, M: MediaSession, N: Ids> Model
-    for Pair<I, D, S, M, N> {
+impl<I, D, S, M, N> Model for Pair<I, D, S, M, N> {
     ghost use Rattle.rtc_history.specs.PairState.{PairState};
 
     ghost Value = { PairState I D S M N };
