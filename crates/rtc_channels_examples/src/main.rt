@@ -1,9 +1,12 @@
-//! Runs data channels between two peers' streams in memory, and gives streams to the channels of one side, and prints what is seen of it.
+//! Runs data channels between two peers' streams in memory, starts associations by the chunks of session descriptions, gives
+//! streams to the channels of one side, and prints what is seen of it.
 #![tactic(auto)]
 
 mod channel_scenes;
 mod channels;
 mod notes;
+mod start_scenes;
+mod starts;
 mod stream_scenes;
 mod streams;
 mod two_peers;
@@ -15,6 +18,7 @@ use rtc_assoc_end::PlainAssociation;
 use rtc_channels::ChannelHandler;
 use rtc_sctp::RtcSctp;
 use rtc_wire::Moment;
+use start_scenes::{play_starts, tell_refused};
 use std::alloc::Global;
 use std::process::ExitCode;
 use stream_scenes::{StreamScene, play_streams, tell_longest};
@@ -72,6 +76,8 @@ fn show(alloc: Global, notes: &mut Notes) {
         play_streams(alloc, fresh(alloc), fresh(alloc), scene, notes);
     }
     tell_longest(over_short_datagrams(alloc), notes);
+    play_starts(alloc, fresh(alloc), fresh(alloc), notes);
+    tell_refused(fresh(alloc), notes);
     for scene in CHANNEL_SCENES {
         play_channels(alloc, side(alloc), scene, notes);
     }
