@@ -5,18 +5,6 @@ ghost use Rattle.rtc_sdp_values.specs.declared.direction.Direction.{Direction};
 
 use rtc_sdp_values::Direction;
 
-/// The word of a direction (RFC 8866, section 6.7).
-pub fn direction_word(dir: Direction) -> &'static str
-    ensures { result.now ≡ direction_text dir }
-{
-    match dir {
-        Direction::SendRecv => "sendrecv",
-        Direction::SendOnly => "sendonly",
-        Direction::RecvOnly => "recvonly",
-        Direction::Inactive => "inactive",
-    }
-}
-
 /// The direction whose word it is.
 pub fn read_direction(word: &[u8]) -> Option<Direction>
     ensures some { IfSome result (λ dir. word.now ≡ direction_text dir) }

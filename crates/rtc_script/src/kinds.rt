@@ -5,16 +5,6 @@ ghost use Rattle.rtc_sdp_values.specs.declared.media_kind.MediaKind.{MediaKind};
 
 use rtc_sdp_values::MediaKind;
 
-/// The word of a kind of media (RFC 8866, section 5.14).
-pub fn kind_word(kind: MediaKind) -> &'static str
-    ensures { result.now ≡ kind_text kind }
-{
-    match kind {
-        MediaKind::Audio => "audio",
-        MediaKind::Video => "video",
-    }
-}
-
 /// The kind of media whose word it is.
 pub fn read_kind(word: &[u8]) -> Option<MediaKind>
     ensures some { IfSome result (λ kind. word.now ≡ kind_text kind) }

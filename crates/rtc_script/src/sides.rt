@@ -5,16 +5,6 @@ ghost use Rattle.rtc_history.specs.declared.side.Side.{Side};
 
 use rtc_history::Side;
 
-/// The letter of a side.
-pub fn side_word(side: Side) -> &'static str
-    ensures { result.now ≡ side_text side }
-{
-    match side {
-        Side::Left => "L",
-        Side::Right => "R",
-    }
-}
-
 /// The side whose letter a word is.
 pub fn read_side(word: &[u8]) -> Option<Side>
     ensures some { IfSome result (λ side. word.now ≡ side_text side) }

@@ -1,9 +1,11 @@
 //! Lines of what polls gave.
-ghost use Rattle.std.specs.Prelude.{◌≡◌, ◌++◌, OnOk, string_bytes};
-ghost use Rattle.rtc_script.specs.Outputs.{end_line, error_line, moment_text, output_line, outputs_lines, polled_lines, reason_text};
+ghost use Rattle.std.specs.Prelude.{◌≡◌, ◌++◌, OnOk, codes, string_bytes};
+ghost use Rattle.rtc_peer_state.specs.RtcErrorText.{rtc_error_text};
+ghost use Rattle.rtc_script_reports.specs.Outputs.{end_line, error_line, moment_text, output_line, outputs_lines, polled_lines, reason_text};
 
 use crate::events::push_event;
 use crate::pushing::{push_long, push_named, push_word};
+use crate::refusals::push_error_text;
 use rtc_history::{Outcome, PollEnd, Shown};
 use rtc_parts_values::Reason;
 use rtc_peer_state::RtcError;
@@ -82,18 +84,25 @@ fn push_outputs(
     Ok(())
 }
 
+fn push_error_line(out: &mut String, word: &str, error: &RtcError) -> Result<(), AllocError>
+    ensures { OnOk result (string_bytes out.new ≡ string_bytes out.old ++ word.now ++ rtc_error_text error.now ++ codes "\n") }
+{
+    push_error_text(out, word, error)?;
+    out.push_str("\n")
+}
+
 fn push_error(out: &mut String, error: &RtcError) -> Result<(), AllocError>
     ensures { OnOk result (string_bytes out.new ≡ string_bytes out.old ++ error_line error.now) }
 {
     match error {
-        RtcError::RemoteSdp(_) => writeln!(out, "error 1 {error}"),
-        RtcError::Sdp(_) => writeln!(out, "error 2 {error}"),
-        RtcError::Net(_) => writeln!(out, "error 3 {error}"),
-        RtcError::Dtls(_) => writeln!(out, "error 4 {error}"),
-        RtcError::Sctp(_) => writeln!(out, "error 5 {error}"),
-        RtcError::Media(_) => writeln!(out, "error 6 {error}"),
-        RtcError::ChangesOutOfOrder => writeln!(out, "error 7 {error}"),
-        RtcError::BadChannel => writeln!(out, "error 8 {error}"),
+        RtcError::RemoteSdp(_) => push_error_line(out, "error 1 ", error),
+        RtcError::Sdp(_) => push_error_line(out, "error 2 ", error),
+        RtcError::Net(_) => push_error_line(out, "error 3 ", error),
+        RtcError::Dtls(_) => push_error_line(out, "error 4 ", error),
+        RtcError::Sctp(_) => push_error_line(out, "error 5 ", error),
+        RtcError::Media(_) => push_error_line(out, "error 6 ", error),
+        RtcError::ChangesOutOfOrder => push_error_line(out, "error 7 ", error),
+        RtcError::BadChannel => push_error_line(out, "error 8 ", error),
         RtcError::Alloc => out.push_str("nomemory\n"),
     }
 }

@@ -1,10 +1,9 @@
 //! Lines of rows.
 ghost use Rattle.std.specs.Prelude.{◌≡◌, ◌++◌, OnOk, string_bytes};
-ghost use Rattle.rtc_script.specs.Rows.{row_report_line, row_lines};
+ghost use Rattle.rtc_script_reports.specs.Rows.{row_report_line, row_lines};
 
-use crate::directions::direction_word;
-use crate::kinds::kind_word;
 use crate::pushing::{push_named, push_word};
+use crate::words::{direction_word, kind_word};
 use rtc_sdp_values::LineRow;
 use std::alloc::AllocError;
 

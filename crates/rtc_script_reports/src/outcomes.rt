@@ -1,6 +1,6 @@
 //! Outcomes.
 ghost use Rattle.std.specs.Prelude.{◌≡◌, ◌++◌, OnOk, string_bytes};
-ghost use Rattle.rtc_script.specs.Outcomes.{op_answer_text, more_answers, answers_text, made_text, outcome_text};
+ghost use Rattle.rtc_script_reports.specs.Outcomes.{op_answer_text, more_answers, answers_text, made_text, outcome_text};
 
 use crate::pushing::{push_named, push_number};
 use crate::refusals::push_refusal;

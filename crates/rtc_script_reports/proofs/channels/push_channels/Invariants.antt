@@ -1,6 +1,6 @@
 use Rattle.std.proofs.Common.{◌≡◌, ◌++◌, drop, string_bytes}
-use Rattle.rtc_script.specs.Rows.{channel_lines}
-use Rattle.rtc_script.proofs.channels.push_channels.Given as goal
+use Rattle.rtc_script_reports.specs.Rows.{channel_lines}
+use Rattle.rtc_script_reports.proofs.channels.push_channels.Given as goal
 
 -- the lines so far, and those of the channels to come, are all lines
 abbrev pub invariant-loop-row : goal.invariant-loop-row

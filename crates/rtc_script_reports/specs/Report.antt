@@ -2,9 +2,9 @@
 use Rattle.std.specs.Prelude.{◌+◌, ℕ, List, [], ◌∷◌, ◌++◌, Option, Some, None, codes}
 use Rattle.std.specs.Fmt.{decimal}
 use Rattle.rtc_plain_media.specs.declared.plain_media_event.PlainMediaEvent.{PlainMediaEvent}
-use Rattle.rtc_script.specs.Outcomes.{outcome_text}
-use Rattle.rtc_script.specs.Outputs.{polled_lines}
-use Rattle.rtc_script.specs.Rows.{row_lines, channel_lines}
+use Rattle.rtc_script_reports.specs.Outcomes.{outcome_text}
+use Rattle.rtc_script_reports.specs.Outputs.{polled_lines}
+use Rattle.rtc_script_reports.specs.Rows.{row_lines, channel_lines}
 use Rattle.rtc_history.specs.Sides.{side_of}
 use Rattle.rtc_history.specs.declared.outcome.Outcome.{Outcome}
 use Rattle.rtc_history.specs.declared.reply.Reply.{Reply}

@@ -1,6 +1,6 @@
 use Rattle.std.proofs.Common.{◌≡◌, ◌++◌, drop, string_bytes}
-use Rattle.rtc_script.specs.Report.{report_from, report}
-use Rattle.rtc_script.proofs.reports.write_report.Given as goal
+use Rattle.rtc_script_reports.specs.Report.{report_from, report}
+use Rattle.rtc_script_reports.proofs.reports.write_report.Given as goal
 
 -- the lines so far, and those of the steps to come, are the report
 abbrev pub invariant-loop-number : goal.invariant-loop-number

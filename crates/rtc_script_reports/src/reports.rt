@@ -1,13 +1,13 @@
 //! Whole reports.
 ghost use Rattle.std.specs.Prelude.{◌≡◌, ◌++◌, OnOk, IfOk, string_bytes};
-ghost use Rattle.rtc_script.specs.Report.{table_lines, step_line, step_lines, report};
+ghost use Rattle.rtc_script_reports.specs.Report.{table_lines, step_line, step_lines, report};
 
 use crate::channels::push_channels;
 use crate::outcomes::push_outcome;
 use crate::outputs::push_polled;
 use crate::pushing::{push_named, push_word};
 use crate::rows::push_rows;
-use crate::sides::side_word;
+use crate::words::side_word;
 use rtc_history::{Outcome, Reply, Step, Table};
 use rtc_plain_media::PlainMediaEvent;
 use std::alloc::{AllocError, Global};

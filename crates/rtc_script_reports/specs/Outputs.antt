@@ -15,8 +15,8 @@ use Rattle.rtc_history.specs.declared.poll_end.PollEnd.{PollEnd}
 use Rattle.rtc_history.specs.declared.poll_end.PollEnd.TheVariants.{Ended, Refused as EndRefused, NoRoom}
 use Rattle.rtc_history.specs.declared.shown.Shown.{Shown}
 use Rattle.rtc_history.specs.declared.shown.Shown.TheVariants.{Timeout, Packet, Event}
-use Rattle.rtc_script.specs.Events.{event_text}
-use Rattle.rtc_script.specs.Outcomes.{no_memory}
+use Rattle.rtc_script_reports.specs.Events.{event_text}
+use Rattle.rtc_script_reports.specs.Outcomes.{no_memory}
 
 -- a moment in nanoseconds; a word for that of what is not to happen
 abbrev pub moment_text : ℕ → List ℕ

@@ -1,6 +1,6 @@
 use Rattle.std.proofs.Common.{◌≡◌, ◌++◌, drop, string_bytes}
-use Rattle.rtc_script.specs.Outcomes.{more_answers}
-use Rattle.rtc_script.proofs.outcomes.push_more_answers.Given as goal
+use Rattle.rtc_script_reports.specs.Outcomes.{more_answers}
+use Rattle.rtc_script_reports.proofs.outcomes.push_more_answers.Given as goal
 
 -- the answers so far, and those to come, are all answers
 abbrev pub invariant-loop-answer : goal.invariant-loop-answer

@@ -1,12 +1,11 @@
 //! Words of events.
 ghost use Rattle.std.specs.Prelude.{◌≡◌, ◌++◌, OnOk, string_bytes};
-ghost use Rattle.rtc_script.specs.Events.{event_text, line_bytes_text, media_event_text, raw_packet_text, state_text};
+ghost use Rattle.rtc_script_reports.specs.Events.{event_text, line_bytes_text, media_event_text, raw_packet_text, state_text};
 ghost use Rattle.rtc_script.specs.Words.{hex_word, message_kind_text};
 ghost use Rattle.rtc_polling.specs.declared.event.Event.TheVariants.{ChannelData as DataOf, ChannelOpen as OpenOf, PeerStats as TotalsOf};
 
-use crate::directions::direction_word;
-use crate::kinds::kind_word;
 use crate::pushing::{push_named, push_word};
+use crate::words::{direction_word, kind_word};
 use rtc_ice::IceConnectionState;
 use rtc_media::{PeerStats, RawPacket};
 use rtc_plain_media::PlainMediaEvent;

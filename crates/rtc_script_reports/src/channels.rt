@@ -1,6 +1,6 @@
 //! Lines of channels.
 ghost use Rattle.std.specs.Prelude.{◌≡◌, ◌++◌, OnOk, string_bytes};
-ghost use Rattle.rtc_script.specs.Rows.{stream_text, channel_report_line, channel_lines};
+ghost use Rattle.rtc_script_reports.specs.Rows.{stream_text, channel_report_line, channel_lines};
 
 use crate::pushing::{push_named, push_number};
 use rtc_channels::ChannelRow;

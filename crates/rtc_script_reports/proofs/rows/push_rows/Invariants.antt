@@ -1,6 +1,6 @@
 use Rattle.std.proofs.Common.{◌≡◌, ◌++◌, drop, string_bytes}
-use Rattle.rtc_script.specs.Rows.{row_lines}
-use Rattle.rtc_script.proofs.rows.push_rows.Given as goal
+use Rattle.rtc_script_reports.specs.Rows.{row_lines}
+use Rattle.rtc_script_reports.proofs.rows.push_rows.Given as goal
 
 -- the lines so far, and those of the rows to come, are all lines
 abbrev pub invariant-loop-row : goal.invariant-loop-row

@@ -1,6 +1,6 @@
 use Rattle.std.proofs.Common.{◌≡◌, ◌++◌, drop, string_bytes}
-use Rattle.rtc_script.specs.Outputs.{outputs_lines}
-use Rattle.rtc_script.proofs.outputs.push_outputs.Given as goal
+use Rattle.rtc_script_reports.specs.Outputs.{outputs_lines}
+use Rattle.rtc_script_reports.proofs.outputs.push_outputs.Given as goal
 
 -- the lines so far, and those of the outputs to come, are all lines
 abbrev pub invariant-loop-shown : goal.invariant-loop-shown
