@@ -1,10 +1,11 @@
 -- The word of a label is that of one label.
-use Rattle.std.proofs.Common.{◌≡◌, ◌≢◌, ◌<◌, ◌∙◌, ℕ, zero, suc, Bool, true, false, ltb, List, [], ◌∷◌, ◌++◌, length, Ok, Err, inl, inr, ◌⊎◌, IsTrue, refl, ap, sym, subst, codes, arith}
+use Rattle.std.proofs.Common.{◌≡◌, ◌≢◌, ◌<◌, ◌∙◌, ℕ, zero, suc, Bool, true, false, ltb, List, [], ◌∷◌, ◌++◌, length, Option, Some, None, Result, Ok, Err, IfOk, IfSome, IfNone, inl, inr, ◌⊎◌, IsTrue, refl, ap, sym, subst, codes, arith}
 use Rattle.std.specs.Prelude.{◌↔◌}
 use Rattle.std.specs.List.{AllByRecursion}
 use Rattle.std.specs.Str.{IsUtf8}
 use Rattle.std.proofs.Math.Utf8.{scalar, scalars, scalar_cases, encode, encodes}
 use Rattle.std.proofs.lemmas.Bool.{and_parts, ltb-true}
+use Rattle.std.proofs.lemmas.List.{nil_from_length}
 use Rattle.hex.specs.Hex.{IsBytes, decode_of, encode_lower, lower_digits}
 use Rattle.hex.specs.declared.error.FromHexError.{FromHexError}
 use Rattle.hex.specs.declared.error.FromHexError.TheVariants.{OutOfMemory}
@@ -86,22 +87,36 @@ no_dash bytes same =
     absurd (omega (arith, length-encode_with lower_digits bytes, e))
 
 -- no digits write no bytes
-pub no_bytes : (word bytes : List ℕ) → bytes ≡ [] → word ≡ encode_lower bytes → (other : List ℕ) → word ≢ hex_word other
-no_bytes word bytes none is [] same =
-    absurd (omega (arith, length-encode_with lower_digits [], ap length (sym (is ∙ ap encode_lower none) ∙ same)))
-no_bytes word bytes none is (byte ∷ other) same =
-    absurd (omega (arith, length-encode_with lower_digits [], length-encode_with lower_digits (byte ∷ other), ap length (sym (is ∙ ap encode_lower none) ∙ same)))
+pub no_bytes : (word bytes : List ℕ) → word ≡ [] → word ≢ hex_word bytes
+no_bytes word [] none same = absurd (omega (arith, ap length (sym none ∙ same)))
+no_bytes word (byte ∷ bytes) none same = absurd (omega (arith, length-encode_with lower_digits (byte ∷ bytes), ap length (sym none ∙ same)))
 
 -- ---- words
 
 -- a word of some digits is that of no bytes where its digits are
-pub no_word : (word : List ℕ) → word ≢ codes "-" → ((bytes : List ℕ) → IsBytes bytes → word ≢ encode_lower bytes) → (bytes : List ℕ) → IsBytes bytes → word ≢ hex_word bytes
+no_word : (word : List ℕ) → word ≢ codes "-" → ((bytes : List ℕ) → IsBytes bytes → word ≢ encode_lower bytes) → (bytes : List ℕ) → IsBytes bytes → word ≢ hex_word bytes
 no_word word other none [] are same = other same
 no_word word other none (byte ∷ bytes) are same = none (byte ∷ bytes) are same
 
-pub some_word : (word bytes : List ℕ) → bytes ≢ [] → word ≡ encode_lower bytes → word ≡ hex_word bytes
-some_word word [] some is = absurd (some refl)
+some_word : (word bytes : List ℕ) → word ≢ [] → word ≡ encode_lower bytes → word ≡ hex_word bytes
+some_word word [] some is = absurd (some (nil_from_length word (ap length is ∙ length-encode_with lower_digits [])))
 some_word word (byte ∷ bytes) some is = is
+
+-- bytes that some digits write are those of their word
+pub word_read : {V E : Type 0} (items : V → List ℕ) (word : List ℕ) (read : Result (Option V) E) → word ≢ []
+    → IfOk read (λ found. IfSome found (λ bytes. (word ≡ encode_lower (items bytes)) × IsBytes (items bytes)))
+    → IfOk read (λ found. IfSome found (λ bytes. (word ≡ hex_word (items bytes)) × IsBytes (items bytes)))
+word_read items word (Ok (Some bytes)) some is = (some_word word (items bytes) some is.0, is.1)
+word_read items word (Ok None) some is = tt
+word_read items word (Err error) some is = tt
+
+-- and there are none where no bytes have these digits
+pub no_word_read : {V E : Type 0} (word : List ℕ) (read : Result (Option V) E) → word ≢ codes "-"
+    → IfOk read (λ found. IfNone found ((bytes : List ℕ) → IsBytes bytes → word ≢ encode_lower bytes))
+    → IfOk read (λ found. IfNone found ((bytes : List ℕ) → IsBytes bytes → word ≢ hex_word bytes))
+no_word_read word (Ok (Some bytes)) other none = tt
+no_word_read word (Ok None) other none = no_word word other none
+no_word_read word (Err error) other none = tt
 
 pub one_word : (a b : List ℕ) → IsBytes a → IsBytes b → hex_word a ≡ hex_word b → a ≡ b
 one_word [] [] are others same = refl

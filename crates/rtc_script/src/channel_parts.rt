@@ -15,7 +15,8 @@ ghost use Rattle.rtc_wire.specs.declared.reliability.Reliability.{Reliability};
 
 use crate::labels::read_label;
 use crate::numbers::read_u16;
-use rtc_wire::{ChannelConfig, Reliability};
+use crate::words::is_word;
+use rtc_wire::{ChannelConfig, Reliability, Text};
 use std::alloc::{AllocError, Global};
 
 // Whether messages arrive in order.
@@ -23,9 +24,9 @@ fn read_order(word: &[u8]) -> Option<bool>
     ensures some { IfSome result (λ ordered. word.now ≡ order_text ordered) }
     ensures none { IfNone result ((ordered : Bool) → word.now ≢ order_text ordered) }
 {
-    if word == b"ordered".as_slice() {
+    if is_word(word, "ordered") {
         Some(true)
-    } else if word == b"unordered".as_slice() {
+    } else if is_word(word, "unordered") {
         Some(false)
     } else {
         None
@@ -68,7 +69,7 @@ fn read_reliability(word: &[u8]) -> Option<Reliability>
     ensures some { IfSome result (λ reliability. (word.now ≡ reliability_text reliability) × IsReliability reliability) }
     ensures none { IfNone result ((reliability : Reliability) → IsReliability reliability → word.now ≢ reliability_text reliability) }
 {
-    if word == b"reliable".as_slice() {
+    if is_word(word, "reliable") {
         return Some(Reliability::Reliable);
     }
     if let Some(retransmits) = read_retransmits(word) {
@@ -84,7 +85,7 @@ fn read_settled(word: &[u8]) -> Option<Option<u16>>
     ensures some { IfSome result (λ stream. (word.now ≡ settled_text stream) × IsSettled stream) }
     ensures none { IfNone result ((stream : Option ℕ) → IsSettled stream → word.now ≢ settled_text stream) }
 {
-    if word == b"inband".as_slice() {
+    if is_word(word, "inband") {
         return Some(None);
     }
     let stream = read_u16(word)?;
@@ -99,9 +100,13 @@ pub fn read_label_word(alloc: Global, word: &[u8]) -> Result<Option<ChannelConfi
     let Some(label) = read_label(alloc, word)? else {
         return Ok(None);
     };
-    let mut config = ChannelConfig::new(alloc);
-    config.label = label;
-    Ok(Some(config))
+    Ok(Some(ChannelConfig {
+        label,
+        ordered: true,
+        reliability: Reliability::Reliable,
+        negotiated: None,
+        protocol: Text::new(String::new(alloc)),
+    }))
 }
 
 /// The config that five words write.

@@ -5,6 +5,7 @@ ghost use Rattle.hex.specs.Hex.{IsBytes, encode_lower};
 ghost use Rattle.hex.specs.declared.error.FromHexError.TheVariants.{OutOfMemory};
 ghost use Rattle.rtc_script.specs.Words.{hex_word};
 
+use crate::words::is_word;
 use hex::FromHexError;
 use rtc_wire::Text;
 use std::alloc::{AllocError, Global};
@@ -45,16 +46,13 @@ pub fn read_bytes(alloc: Global, word: &[u8]) -> Result<Option<Vec<u8>>, AllocEr
     ensures some { IfOk result (λ read. IfSome read (λ bytes. (word.now ≡ hex_word bytes.items) × IsBytes bytes.items)) }
     ensures none { IfOk result (λ read. IfNone read ((bytes : List ℕ) → IsBytes bytes → word.now ≢ hex_word bytes)) }
 {
-    if word == b"-".as_slice() {
+    if is_word(word, "-") {
         return Ok(Some(Vec::new(alloc)));
     }
-    let Some(bytes) = read_digits(alloc, word)? else {
-        return Ok(None);
-    };
-    if bytes.is_empty() {
+    if word.is_empty() {
         return Ok(None);
     }
-    Ok(Some(bytes))
+    read_digits(alloc, word)
 }
 
 /// The label that a word writes, which is UTF-8.

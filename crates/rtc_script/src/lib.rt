@@ -18,6 +18,7 @@ mod setting;
 mod settings;
 mod sides;
 mod steps;
+mod words;
 
 pub use reading::read_script;
 pub use script::Script;

@@ -9,6 +9,7 @@ use crate::cutting::cut_parts;
 use crate::directions::read_direction;
 use crate::kinds::read_kind;
 use crate::numbers::read_u32;
+use crate::words::is_word;
 use rtc_history::Op;
 use rtc_wire::Seq;
 use std::alloc::{AllocError, Global};
@@ -18,9 +19,9 @@ fn read_keep(word: &[u8]) -> Option<bool>
     ensures some { IfSome result (λ keep. word.now ≡ keep_text keep) }
     ensures none { IfNone result ((keep : Bool) → word.now ≢ keep_text keep) }
 {
-    if word == b"keep".as_slice() {
+    if is_word(word, "keep") {
         Some(true)
-    } else if word == b"new".as_slice() {
+    } else if is_word(word, "new") {
         Some(false)
     } else {
         None
@@ -33,11 +34,11 @@ fn read_two_parts(word: &[u8], value: &[u8]) -> Option<Op>
     ensures some { IfSome result (λ op. AreOpParts (word.now ∷ value.now ∷ []) op) }
     ensures none { IfNone result ((op : Op) → AreOpParts (word.now ∷ value.now ∷ []) op → ⊥) }
 {
-    if word == b"stop".as_slice() {
+    if is_word(word, "stop") {
         let place = read_u32(value)?;
         return Some(Op::StopMedia { place });
     }
-    if word == b"restart".as_slice() {
+    if is_word(word, "restart") {
         let keep = read_keep(value)?;
         return Some(Op::IceRestart { keep });
     }
@@ -51,7 +52,7 @@ fn read_three_parts(word: &[u8], place: &[u8], value: &[u8]) -> Option<Op>
     ensures some { IfSome result (λ op. AreOpParts (word.now ∷ place.now ∷ value.now ∷ []) op) }
     ensures none { IfNone result ((op : Op) → AreOpParts (word.now ∷ place.now ∷ value.now ∷ []) op → ⊥) }
 {
-    if word != b"dir".as_slice() {
+    if !is_word(word, "dir") {
         return None;
     }
     let place = read_u32(place)?;
@@ -76,7 +77,7 @@ fn read_pair(alloc: Global, word: &[u8], value: &[u8]) -> Result<Option<Op>, All
     ensures some { IfOk result (λ read. IfSome read (λ op. AreOpParts (word.now ∷ value.now ∷ []) op)) }
     ensures none { IfOk result (λ read. IfNone read ((op : Op) → AreOpParts (word.now ∷ value.now ∷ []) op → ⊥)) }
 {
-    if word == b"channel".as_slice() {
+    if is_word(word, "channel") {
         return read_labelled(alloc, value);
     }
     Ok(read_two_parts(word, value))
@@ -119,7 +120,7 @@ fn read_six_parts(
     ensures none { IfOk result (λ read. IfNone read ((op : Op) → AreOpParts
         (word.now ∷ label.now ∷ order.now ∷ reliability.now ∷ stream.now ∷ protocol.now ∷ []) op → ⊥)) }
 {
-    if word == b"channel".as_slice() {
+    if is_word(word, "channel") {
         return read_whole(alloc, label, order, reliability, stream, protocol);
     }
     Ok(None)

@@ -3,6 +3,7 @@ ghost use Rattle.std.specs.Prelude.{◌≡◌, ◌≢◌, IfSome, IfNone};
 ghost use Rattle.rtc_script.specs.Words.{side_text};
 ghost use Rattle.rtc_history.specs.declared.side.Side.{Side};
 
+use crate::words::is_word;
 use rtc_history::Side;
 
 /// The side whose letter a word is.
@@ -10,9 +11,9 @@ pub fn read_side(word: &[u8]) -> Option<Side>
     ensures some { IfSome result (λ side. word.now ≡ side_text side) }
     ensures none { IfNone result ((side : Side) → word.now ≢ side_text side) }
 {
-    if word == b"L".as_slice() {
+    if is_word(word, "L") {
         Some(Side::Left)
-    } else if word == b"R".as_slice() {
+    } else if is_word(word, "R") {
         Some(Side::Right)
     } else {
         None
