@@ -37,8 +37,7 @@ impl<'a, I: IceAgent, D: DtlsInstance, S: Association, M: MediaSession, N: Ids> 
         rid: Option<Rid>,
     ) -> Result<&mut M::Rx, NoStream>
         ensures* leaves { sem 𝓛 (LendsSoOk
-            (the_row (record { mir = named 1; lft = [] }) I.row D.row S.row M.row N.row M.E.row M.Rx.row M.Tx.row M.Writer.row
-            (record { ice = I.ice }) (record { stun = I.stun }) D.DtlsInstance S.Association M.MediaSession M.E.MediaEvent N.Ids)
+            (the_row (record { mir = named 1; lft = [] }) I.row D.row S.row M.row N.row)
             M.Rx.row self.entry result
             (λ n x. IfOk result (λ lent. (n.rtc.ghost_name ≡ self.old.rtc.ghost_name)
             × ExpectsRx M.media ssrc rtx mid rid self.old.rtc.now lent.now x n.rtc.now))
@@ -58,8 +57,7 @@ impl<'a, I: IceAgent, D: DtlsInstance, S: Association, M: MediaSession, N: Ids> 
         rid: Option<Rid>,
     ) -> Result<&mut M::Tx, NoStream>
         ensures* leaves { sem 𝓛 (LendsSoOk
-            (the_row (record { mir = named 1; lft = [] }) I.row D.row S.row M.row N.row M.E.row M.Rx.row M.Tx.row M.Writer.row
-            (record { ice = I.ice }) (record { stun = I.stun }) D.DtlsInstance S.Association M.MediaSession M.E.MediaEvent N.Ids)
+            (the_row (record { mir = named 1; lft = [] }) I.row D.row S.row M.row N.row)
             M.Tx.row self.entry result
             (λ n x. IfOk result (λ lent. (n.rtc.ghost_name ≡ self.old.rtc.ghost_name)
             × DeclaresTx M.media ssrc rtx mid rid self.old.rtc.now lent.now x n.rtc.now))
@@ -99,8 +97,7 @@ impl<'a, I: IceAgent, D: DtlsInstance, S: Association, M: MediaSession, N: Ids> 
     /// The stream of a source that is received.
     pub fn stream_rx(&mut self, ssrc: Ssrc) -> Option<&mut M::Rx>
         ensures* leaves { sem 𝓛 (LendsSo
-            (the_row (record { mir = named 1; lft = [] }) I.row D.row S.row M.row N.row M.E.row M.Rx.row M.Tx.row M.Writer.row
-            (record { ice = I.ice }) (record { stun = I.stun }) D.DtlsInstance S.Association M.MediaSession M.E.MediaEvent N.Ids)
+            (the_row (record { mir = named 1; lft = [] }) I.row D.row S.row M.row N.row)
             M.Rx.row self.entry result
             (λ n x. IfSome result (λ lent. (n.rtc.ghost_name ≡ self.old.rtc.ghost_name)
             × LendsRx M.media ssrc self.old.rtc.now lent.now x n.rtc.now))
@@ -114,8 +111,7 @@ impl<'a, I: IceAgent, D: DtlsInstance, S: Association, M: MediaSession, N: Ids> 
     /// The stream of a source that is sent.
     pub fn stream_tx(&mut self, ssrc: Ssrc) -> Option<&mut M::Tx>
         ensures* leaves { sem 𝓛 (LendsSo
-            (the_row (record { mir = named 1; lft = [] }) I.row D.row S.row M.row N.row M.E.row M.Rx.row M.Tx.row M.Writer.row
-            (record { ice = I.ice }) (record { stun = I.stun }) D.DtlsInstance S.Association M.MediaSession M.E.MediaEvent N.Ids)
+            (the_row (record { mir = named 1; lft = [] }) I.row D.row S.row M.row N.row)
             M.Tx.row self.entry result
             (λ n x. IfSome result (λ lent. (n.rtc.ghost_name ≡ self.old.rtc.ghost_name)
             × LendsTx M.media ssrc self.old.rtc.now lent.now x n.rtc.now))
@@ -129,8 +125,7 @@ impl<'a, I: IceAgent, D: DtlsInstance, S: Association, M: MediaSession, N: Ids> 
     /// The stream of a line and a layer that is received.
     pub fn stream_rx_by_mid(&mut self, mid: Mid, rid: Option<Rid>) -> Option<&mut M::Rx>
         ensures* leaves { sem 𝓛 (LendsSo
-            (the_row (record { mir = named 1; lft = [] }) I.row D.row S.row M.row N.row M.E.row M.Rx.row M.Tx.row M.Writer.row
-            (record { ice = I.ice }) (record { stun = I.stun }) D.DtlsInstance S.Association M.MediaSession M.E.MediaEvent N.Ids)
+            (the_row (record { mir = named 1; lft = [] }) I.row D.row S.row M.row N.row)
             M.Rx.row self.entry result
             (λ n x. IfSome result (λ lent. (n.rtc.ghost_name ≡ self.old.rtc.ghost_name)
             × LendsNamedRx M.media mid rid self.old.rtc.now lent.now x n.rtc.now))
@@ -144,8 +139,7 @@ impl<'a, I: IceAgent, D: DtlsInstance, S: Association, M: MediaSession, N: Ids> 
     /// The stream of a line and a layer that is sent.
     pub fn stream_tx_by_mid(&mut self, mid: Mid, rid: Option<Rid>) -> Option<&mut M::Tx>
         ensures* leaves { sem 𝓛 (LendsSo
-            (the_row (record { mir = named 1; lft = [] }) I.row D.row S.row M.row N.row M.E.row M.Rx.row M.Tx.row M.Writer.row
-            (record { ice = I.ice }) (record { stun = I.stun }) D.DtlsInstance S.Association M.MediaSession M.E.MediaEvent N.Ids)
+            (the_row (record { mir = named 1; lft = [] }) I.row D.row S.row M.row N.row)
             M.Tx.row self.entry result
             (λ n x. IfSome result (λ lent. (n.rtc.ghost_name ≡ self.old.rtc.ghost_name)
             × LendsNamedTx M.media mid rid self.old.rtc.now lent.now x n.rtc.now))
@@ -166,8 +160,7 @@ impl<'a, I: IceAgent, D: DtlsInstance, S: Association, M: MediaSession, N: Ids> 
         new_rtx: Option<Ssrc>,
     ) -> Option<&mut M::Tx>
         ensures* leaves { sem 𝓛 (LendsSo
-            (the_row (record { mir = named 1; lft = [] }) I.row D.row S.row M.row N.row M.E.row M.Rx.row M.Tx.row M.Writer.row
-            (record { ice = I.ice }) (record { stun = I.stun }) D.DtlsInstance S.Association M.MediaSession M.E.MediaEvent N.Ids)
+            (the_row (record { mir = named 1; lft = [] }) I.row D.row S.row M.row N.row)
             M.Tx.row self.entry result
             (λ n x. IfSome result (λ lent. (n.rtc.ghost_name ≡ self.old.rtc.ghost_name)
             × ResetsTx M.media mid rid new_ssrc new_rtx self.old.rtc.now lent.now x n.rtc.now))

@@ -20,8 +20,7 @@ impl<I: IceAgent, D: DtlsInstance, S: Association, M: MediaSession, N: Ids> Rtc<
     /// where that is not open.
     pub fn channel(&mut self, id: ChannelId) -> Option<Channel<'_, I, D, S, M, N>>
         ensures* none { sem 𝓛 (RestsIfNone
-            (the_row I.row D.row S.row M.row N.row M.E.row M.Rx.row M.Tx.row M.Writer.row
-            (record { ice = I.ice }) (record { stun = I.stun }) D.DtlsInstance S.Association M.MediaSession M.E.MediaEvent N.Ids)
+            (the_row I.row D.row S.row M.row N.row)
             self.entry (λ c. c.rtc.ghost_name) result (λ n. n ≡ self.old)) }
         ensures open { IsSome result ↔ IsSome (open_stream_under id self.old) }
         ensures same_reference { IfSome result (λ c. c.rtc.ghost_name ≡ self.entry.ghost_name) }
