@@ -11,10 +11,7 @@ pub fn read_u32(word: &[u8]) -> Option<u32>
     ensures some { IfSome result (λ n. word.now ≡ decimal n) }
     ensures none { IfNone result ((n : ℕ) → n < 2 ^ 32 → word.now ≢ decimal n) }
 {
-    let Ok(text) = str::from_utf8(word) else {
-        return None;
-    };
-    let n = read_decimal(text)?;
+    let n = read_u64(word)?;
     if n <= u32::MAX as u64 {
         Some(n as u32)
     } else {

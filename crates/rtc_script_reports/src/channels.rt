@@ -11,7 +11,7 @@ fn push_stream(out: &mut String, stream: Option<u16>) -> Result<(), AllocError>
 {
     match stream {
         None => out.push_str("-"),
-        Some(stream) => push_number(out, u32::from(stream)),
+        Some(stream) => push_number(out, u64::from(stream)),
     }
 }
 

@@ -50,7 +50,7 @@ fn push_made(out: &mut String, made: Made) -> Result<(), AllocError>
 {
     match made {
         Made::NotAsked | Made::Nothing => out.push_str("-"),
-        Made::Offer(number) => push_number(out, number),
+        Made::Offer(number) => push_number(out, u64::from(number)),
         Made::Alloc => out.push_str("nomemory"),
     }
 }

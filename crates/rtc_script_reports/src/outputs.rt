@@ -4,7 +4,7 @@ ghost use Rattle.rtc_peer_state.specs.RtcErrorText.{rtc_error_text};
 ghost use Rattle.rtc_script_reports.specs.Outputs.{end_line, error_line, moment_text, output_line, outputs_lines, polled_lines, reason_text};
 
 use crate::events::push_event;
-use crate::pushing::{push_long, push_named, push_word};
+use crate::pushing::{push_named, push_number, push_word};
 use crate::refusals::push_error_text;
 use rtc_history::{Outcome, PollEnd, Shown};
 use rtc_parts_values::Reason;
@@ -40,7 +40,7 @@ fn push_moment(out: &mut String, moment: Moment) -> Result<(), AllocError>
     if nanos == u64::MAX {
         out.push_str("never")
     } else {
-        push_long(out, nanos)
+        push_number(out, nanos)
     }
 }
 

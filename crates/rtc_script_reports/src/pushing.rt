@@ -5,14 +5,7 @@ ghost use Rattle.std.specs.Fmt.{decimal};
 use std::alloc::AllocError;
 
 /// Puts a number behind a text.
-pub fn push_number(out: &mut String, n: u32) -> Result<(), AllocError>
-    ensures { OnOk result (string_bytes out.new ≡ string_bytes out.old ++ decimal n) }
-{
-    write!(out, "{n}")
-}
-
-/// Puts a number of up to 64 bits behind a text.
-pub fn push_long(out: &mut String, n: u64) -> Result<(), AllocError>
+pub fn push_number(out: &mut String, n: u64) -> Result<(), AllocError>
     ensures { OnOk result (string_bytes out.new ≡ string_bytes out.old ++ decimal n) }
 {
     write!(out, "{n}")
@@ -23,7 +16,7 @@ pub fn push_named(out: &mut String, word: &str, n: u64) -> Result<(), AllocError
     ensures { OnOk result (string_bytes out.new ≡ string_bytes out.old ++ word.now ++ decimal n) }
 {
     out.push_str(word)?;
-    push_long(out, n)
+    push_number(out, n)
 }
 
 /// Puts a space and a word behind a text.
