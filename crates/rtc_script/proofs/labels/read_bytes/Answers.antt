@@ -12,9 +12,9 @@ returns-then-is_empty-clause-none c =
 pub returns-clause-some : goal.returns-clause-some
 returns-clause-some c =
     let some : c.args.word.now ≢ [] = λ none. let e : length c.args.word.now ≡ 0 = ap length none in grind (arith, nat_tests, c.is_empty.ensures, c.if-is_empty.false) in
-    word_read (λ bytes. bytes.items) c.args.word.now _ some c.read_digits.ensures.some
+    word_read (λ bytes. bytes.items) c.args.word.now c.read_digits.result some c.read_digits.ensures.some
 
 pub returns-clause-none : goal.returns-clause-none
 returns-clause-none c =
     let other : c.args.word.now ≢ codes "-" = search rules in
-    no_word_read c.args.word.now _ other c.read_digits.ensures.none
+    no_word_read c.args.word.now c.read_digits.result other c.read_digits.ensures.none
