@@ -6,7 +6,7 @@ use Rattle.rtc_channels.specs.Allocation.{is_given, sought_by, stream_given, row
 use Rattle.rtc_channels.specs.Openings.{config_handed, rows_opened}
 use Rattle.rtc_channels.proofs.GivenLemmas.{rising_given, below_given}
 use Rattle.rtc_channels.proofs.GivingLemmas.{sought_is_bare, sought_not_given}
-use Rattle.rtc_polling.specs.StreamStages.{channel_over}
+use Rattle.rtc_poll_stages.specs.StreamStages.{channel_over}
 use Rattle.rtc_polling_laws.proofs.ChannelsOver.{over_rows, under_rows}
 use Rattle.rtc_polling_laws.specs.ChannelStreams.{AreNumberedChannels}
 use Rattle.rtc_channel_laws.proofs.ApartChannels.{opened_streams, given_apart, opened_apart}

@@ -3,7 +3,7 @@ use Rattle.std.proofs.Common.{if◌then◌else◌, ◌≡◌, ◌∷◌, ◌+◌
 use Rattle.rtc_wire.specs.declared.channel_config.ChannelConfig.{ChannelConfig}
 use Rattle.rtc_channels.specs.Channels.{Channel, Channels, is_of_stream, unconfirmed, with_channel, has_id, rows_confirmed, confirmed, all_confirmed}
 use Rattle.rtc_channels.proofs.KeptLemmas.{below_more, rising_more, below_one_more, rising_confirmed, below_confirmed}
-use Rattle.rtc_polling.specs.StreamStages.{channel_over}
+use Rattle.rtc_poll_stages.specs.StreamStages.{channel_over}
 use Rattle.rtc_polling_laws.proofs.ChannelsOver.{over_rows, over_front}
 use Rattle.rtc_polling_laws.specs.ChannelStreams.{AreNumberedChannels}
 use Rattle.rtc_channel_laws.proofs.ApartChannels.{confirmed_apart, made_apart}

@@ -51,8 +51,8 @@ use Rattle.rtc_peer_state.specs.SdpMoves.{followed_restart, answer_ids, halves_f
 use Rattle.rtc_peer_state.specs.PartMoves.{needs_start, StartsWhere, StartsSctp, remote_limit, StopsMoving, AtAgent, AtRole, AtStart}
 use Rattle.rtc_peer_state.specs.StoppedAcceptances.{StopsPreparing, BeforeSources, AmongDraws, AtUpdates, StopsAccepting, AtVerdict, AtPreparing, AtParts}
 use Rattle.rtc_peer_state.specs.Acceptances.{AcceptsOffer, AcceptsAnswer, phase_after}
-use Rattle.rtc_polling.specs.declared.polled_peer.PolledPeer.{PolledPeer}
-use Rattle.rtc_polling.specs.StreamStages.{channel_over}
+use Rattle.rtc_connection.specs.declared.polled_peer.PolledPeer.{PolledPeer}
+use Rattle.rtc_poll_stages.specs.StreamStages.{channel_over}
 use Rattle.rtc_polling_laws.specs.Acts.{NegotiationActs, with_core}
 use Rattle.rtc_polling_laws.proofs.ActedAcceptances.{offer_did, answer_did}
 use Rattle.rtc_channel_laws.specs.KeptChannels.{CallKeepsStreams}

@@ -30,9 +30,9 @@ use Rattle.rtc_stream_contents.proofs.LiveCalls.{writes_live, timeout_live, open
 use Rattle.rtc_channels.specs.Channels.{Channel, Channels}
 use Rattle.rtc_channels.specs.Allocation.{Allocates}
 use Rattle.rtc_channels.specs.Openings.{OpensChannel, OpensAll, MeetsMoment, Following, ClosesChannel}
-use Rattle.rtc_polling.specs.ChannelCalls.{SetsThresholdIf}
+use Rattle.rtc_connection.specs.ChannelCalls.{SetsThresholdIf}
 use Rattle.rtc_polling.proofs.StreamStarts.{timed_start}
-use Rattle.rtc_polling.specs.StreamStages.{channel_over}
+use Rattle.rtc_poll_stages.specs.StreamStages.{channel_over}
 use Rattle.rtc_polling_laws.specs.ChannelStreams.{AreNumberedChannels, IsGone}
 use Rattle.rtc_polling_laws.proofs.StreamsJoin.{given_on, same_given}
 use Rattle.rtc_channel_laws.proofs.GoneChannels.{allocated_given, allocated_gone, handed_gone}

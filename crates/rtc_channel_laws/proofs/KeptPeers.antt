@@ -19,11 +19,11 @@ use Rattle.rtc_peer_state.specs.declared.phase.Phase.{Phase}
 use Rattle.rtc_peer_state.specs.declared.phase.Phase.TheVariants.{Alive, Closing, Closed}
 use Rattle.rtc_peer_state.specs.declared.rtc_error.RtcError.{RtcError}
 use Rattle.rtc_peer_state.specs.Meanings.{Meanings}
-use Rattle.rtc_polling.specs.declared.polled_peer.PolledPeer.{PolledPeer}
-use Rattle.rtc_polling.specs.ChannelCalls.{ClosesDataChannel, SetsChannelThreshold, SetsThresholdIf, WritesChannel, WritesIf, stream_under, write_taken}
-use Rattle.rtc_polling.specs.Closing.{ClosesPeer, ClosesPeerFrom}
-use Rattle.rtc_polling.specs.Stages.{Call, InTurn, Failed, Passed}
-use Rattle.rtc_polling.specs.StreamStages.{channel_over}
+use Rattle.rtc_connection.specs.declared.polled_peer.PolledPeer.{PolledPeer}
+use Rattle.rtc_connection.specs.ChannelCalls.{ClosesDataChannel, SetsChannelThreshold, SetsThresholdIf, WritesChannel, WritesIf, stream_under, write_taken}
+use Rattle.rtc_connection.specs.Closing.{ClosesPeer, ClosesPeerFrom}
+use Rattle.rtc_connection.specs.Stages.{Call, InTurn, Failed, Passed}
+use Rattle.rtc_poll_stages.specs.StreamStages.{channel_over}
 use Rattle.rtc_polling_laws.specs.Acts.{message_of_write}
 use Rattle.rtc_polling_laws.specs.RowsChanged.{OnlyActs, RowsChange, RowsChanged, ThresholdSet, StreamClosed, begun_as}
 use Rattle.rtc_polling_laws.proofs.ChangedRows.{changed_on, one_changed, only_called, rows_same, rows_stay}

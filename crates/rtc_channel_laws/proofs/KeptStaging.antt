@@ -14,8 +14,8 @@ use Rattle.rtc_peer_state.specs.Meanings.{Meanings}
 use Rattle.rtc_peer_state.specs.SdpHalves.{draws_half, offered_snap}
 use Rattle.rtc_peer_state.specs.Stance.{stance_of}
 use Rattle.rtc_sctp_values.specs.SnapHalves.{KeptHalves}
-use Rattle.rtc_polling.specs.declared.polled_peer.PolledPeer.{PolledPeer}
-use Rattle.rtc_polling.specs.StreamStages.{channel_over}
+use Rattle.rtc_connection.specs.declared.polled_peer.PolledPeer.{PolledPeer}
+use Rattle.rtc_poll_stages.specs.StreamStages.{channel_over}
 use Rattle.rtc_polling_laws.specs.Acts.{with_core}
 use Rattle.rtc_polling_laws.specs.RowsChanged.{Confirmed, Made, RowsChange}
 use Rattle.rtc_polling_laws.proofs.ChangedRows.{no_acts, one_changed}

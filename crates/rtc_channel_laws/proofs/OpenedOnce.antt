@@ -11,7 +11,7 @@ use Rattle.rtc_stream_uses.specs.GenerationLaws.{GenerationLaws}
 use Rattle.rtc_stream_uses.specs.StreamUses.{is_of_generation, messages_of, any_dcep, entries_of, spoken_generation, IsOpened, WereOpened, IsIdleStream, IsUsedIn, AreUsedIn, IsUsed, OneAtMost, IsLiveIn, IsLive, IsShutDown}
 use Rattle.rtc_stream_uses.proofs.GenerationMessages.{messages-append}
 use Rattle.rtc_peer_state.specs.Meanings.{Meanings}
-use Rattle.rtc_polling.specs.declared.polled_peer.PolledPeer.{PolledPeer}
+use Rattle.rtc_connection.specs.declared.polled_peer.PolledPeer.{PolledPeer}
 use Rattle.rtc_polling_laws.specs.ChannelStreams.{AreNumberedChannels, IsLiveChannel, IsUsedStream, OpensStreamOf}
 use Rattle.rtc_polling_laws.proofs.ChannelsOver.{same_stream}
 use Rattle.rtc_channel_laws.specs.KeptChannels.{IsSettledStream}

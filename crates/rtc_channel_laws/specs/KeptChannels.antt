@@ -8,7 +8,7 @@ use Rattle.rtc_stream_uses.specs.StreamUses.{HasOpenInBand}
 use Rattle.rtc_stream_contents.specs.RunningStreams.{AreRunning}
 use Rattle.rtc_peer_state.specs.declared.phase.Phase.TheVariants.{Closed}
 use Rattle.rtc_peer_state.specs.Meanings.{Meanings}
-use Rattle.rtc_polling.specs.declared.polled_peer.PolledPeer.{PolledPeer}
+use Rattle.rtc_connection.specs.declared.polled_peer.PolledPeer.{PolledPeer}
 use Rattle.rtc_polling_laws.specs.RowsChanged.{RowsChanged}
 use Rattle.rtc_polling_laws.specs.ChannelStreams.{AreNumberedChannels, IsGone, IsLiveChannel, IsUsedStream}
 

@@ -2,9 +2,9 @@
 ghost use Rattle.std.specs.Prelude.{◌≡◌, ◌++◌, ◌⊎◌, ℕ, List, [], Some, None, true};
 ghost use Rattle.rtc_channels.specs.Channels.{Channels};
 ghost use Rattle.rtc_peer_state.specs.Meanings.{meanings};
-ghost use Rattle.rtc_polling.specs.ChannelCalls.{stream_under};
-ghost use Rattle.rtc_polling.specs.StreamStages.{channel_over};
-ghost use Rattle.rtc_polling.specs.declared.polled_peer.PolledPeer.{PolledPeer as Polled};
+ghost use Rattle.rtc_connection.specs.ChannelCalls.{stream_under};
+ghost use Rattle.rtc_poll_stages.specs.StreamStages.{channel_over};
+ghost use Rattle.rtc_connection.specs.declared.polled_peer.PolledPeer.{PolledPeer as Polled};
 ghost use Rattle.rtc_sctp_laws.specs.StreamMessages.{StreamMessage};
 ghost use Rattle.rtc_stream_uses.specs.GenerationLaws.{GenerationLaws};
 ghost use Rattle.rtc_stream_uses.specs.StreamUses.{IsLive, IsShutDown, IsUsed, any_dcep, entries_of, messages_of};

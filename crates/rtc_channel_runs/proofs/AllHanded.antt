@@ -22,7 +22,7 @@ use Rattle.rtc_stream_contents.specs.Contents.{contents_by, contents_of}
 use Rattle.rtc_stream_contents.specs.PastGenerations.{IsPast}
 use Rattle.rtc_stream_contents.proofs.PastLemmas.{acts_past}
 use Rattle.rtc_plain_streams.proofs.PlainGenerations.{plain_generations}
-use Rattle.rtc_polling.specs.ChannelCalls.{open_stream_under}
+use Rattle.rtc_connection.specs.ChannelCalls.{open_stream_under}
 use Rattle.rtc_polling_laws.specs.PeerActs.{PeerActs}
 use Rattle.rtc_polling_laws.proofs.ChannelsOver.{none_under}
 use Rattle.rtc_joined_runs.specs.PlainPairs.{PlainPolled, plain_over}

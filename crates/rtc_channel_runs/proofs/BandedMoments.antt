@@ -21,7 +21,7 @@ use Rattle.rtc_sctp.specs.Streams.{SctpStreams}
 use Rattle.rtc_channels.specs.Allocation.{Allocates}
 use Rattle.rtc_channels.specs.Channels.{Channel, Channels}
 use Rattle.rtc_channels.specs.Openings.{Following, MeetsMoment, OpensAll, OpensChannel}
-use Rattle.rtc_polling.specs.StreamStages.{channel_over}
+use Rattle.rtc_poll_stages.specs.StreamStages.{channel_over}
 use Rattle.rtc_polling_laws.specs.RowsChanged.{ClosesRow, ConfirmsNone, PollRows, RowsAnswered, RowsChange, RowsPolled, RowsTold}
 use Rattle.rtc_polling_laws.specs.RowsChanged.{Stayed, Polled, Timed, Progressed, ThresholdSet, StreamClosed, Confirmed, Made}
 use Rattle.rtc_channel_runs.proofs.BandedRows.{AreBandedRows, IsBandedConfig, allocated_banded, ensured_banded, opened_banded, without_banded}

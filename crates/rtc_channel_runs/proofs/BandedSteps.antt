@@ -9,11 +9,11 @@ use Rattle.rtc_peer_state.specs.declared.rtc_error.RtcError.{RtcError}
 use Rattle.rtc_peer_state.specs.declared.rtc_error.RtcError.TheVariants.{Alloc as PeerAlloc}
 use Rattle.rtc_peer_state.specs.Calls.{fitting_channels}
 use Rattle.rtc_peer_state.specs.Meanings.{Meanings, PartsLaws}
-use Rattle.rtc_polling.specs.declared.input.Input.TheVariants as given
-use Rattle.rtc_polling.specs.declared.output.Output.{Output}
-use Rattle.rtc_polling.specs.declared.polled_peer.PolledPeer.{PolledPeer}
-use Rattle.rtc_polling.specs.ChannelCalls.{open_stream_under}
-use Rattle.rtc_polling.specs.Closing.{ClosesPeer}
+use Rattle.rtc_connection.specs.declared.input.Input.TheVariants as given
+use Rattle.rtc_connection.specs.declared.output.Output.{Output}
+use Rattle.rtc_connection.specs.declared.polled_peer.PolledPeer.{PolledPeer}
+use Rattle.rtc_connection.specs.ChannelCalls.{open_stream_under}
+use Rattle.rtc_connection.specs.Closing.{ClosesPeer}
 use Rattle.rtc_polling.specs.Inputs.{HandlesInput}
 use Rattle.rtc_polling.specs.Walk.{PollsPeer}
 use Rattle.rtc_polling.proofs.Lacking.{poll_lacks}

@@ -12,7 +12,7 @@ use Rattle.rtc_sctp_laws.specs.StreamMessages.{met_of}
 use Rattle.rtc_channels.specs.Allocation.{channel_ensured}
 use Rattle.rtc_channels.specs.Channels.{Channel, Channels}
 use Rattle.rtc_channels.specs.Holds.{removed_channel}
-use Rattle.rtc_polling.specs.StreamStages.{channel_over}
+use Rattle.rtc_poll_stages.specs.StreamStages.{channel_over}
 use Rattle.rtc_polling_laws.specs.ChannelStreams.{AreNumberedChannels, IsGone}
 use Rattle.rtc_polling_laws.specs.RowsChanged.{ClosesRow, RowsAnswered, RowsTold, SameRows}
 use Rattle.rtc_polling_laws.proofs.ChannelsOver.{ensured_gone, ensured_over, none_left, removed_gone, without_over}

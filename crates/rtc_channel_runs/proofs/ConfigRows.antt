@@ -6,7 +6,7 @@ use Rattle.rtc_channels.specs.Allocation.{AreUnshared, IsUnshared, all_allocated
 use Rattle.rtc_channels.specs.Channels.{Channel, Channels, all_confirmed, has_id, is_of_stream, numbered_stream, rows_confirmed, unconfirmed, with_channel}
 use Rattle.rtc_channels.specs.Holds.{channels_without}
 use Rattle.rtc_channels.specs.Openings.{config_handed, rows_opened}
-use Rattle.rtc_polling.specs.StreamStages.{channel_over}
+use Rattle.rtc_poll_stages.specs.StreamStages.{channel_over}
 use Rattle.rtc_polling_laws.proofs.ChannelsOver.{over_rows}
 use Rattle.rtc_channel_runs.specs.ConfirmedChannels.{HasConfig}
 

@@ -16,7 +16,7 @@ use Rattle.rtc_sctp.specs.Streams.{SctpStreams}
 use Rattle.rtc_channels.specs.Channels.{AreRising, Channel, Channels, no_channels}
 use Rattle.rtc_channels.specs.Openings.{can_be_opened, can_open, channels_wake, is_progress_due}
 use Rattle.rtc_peer_state.specs.declared.peer.Peer.{Peer}
-use Rattle.rtc_polling.specs.ChannelCalls.{stream_under}
+use Rattle.rtc_connection.specs.ChannelCalls.{stream_under}
 use Rattle.rtc_polling_laws.specs.ChannelStreams.{AreNumberedChannels}
 use Rattle.rtc_polling_laws.specs.Drained.{AreHeard, IsHeard}
 use Rattle.rtc_polling_laws.proofs.ChannelsOver.{none_under, under_over, under_rows}

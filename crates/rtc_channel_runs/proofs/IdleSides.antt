@@ -11,8 +11,8 @@ use Rattle.rtc_sctp.specs.Streams.{is_attached}
 use Rattle.rtc_sctp_entries.specs.Entries.{is_retrying}
 use Rattle.rtc_channels.specs.Openings.{channels_wake}
 use Rattle.rtc_peer_state.specs.declared.phase.Phase.TheVariants.{Alive, Closed}
-use Rattle.rtc_polling.specs.Deadlines.{least_deadline, sooner, transport_deadline, wake_moment, wanted_for}
-use Rattle.rtc_polling.specs.Statistics.{stats_wake}
+use Rattle.rtc_connection.specs.Deadlines.{least_deadline, sooner, transport_deadline, wake_moment, wanted_for}
+use Rattle.rtc_connection.specs.Statistics.{stats_wake}
 use Rattle.rtc_polling_laws.proofs.DrainedPolls.{Ends, AtRest, Waiting, poll_ends}
 use Rattle.rtc_joined_runs.specs.PlainPairs.{PlainPolled, plain_over}
 use Rattle.rtc_channel_runs.proofs.RestingSides.{PolledLast}

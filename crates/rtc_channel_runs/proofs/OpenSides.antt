@@ -18,7 +18,7 @@ use Rattle.rtc_stream_uses.specs.StreamUses.{EntryUsed, HasOpenInBand, NoneUsed,
 use Rattle.rtc_plain_streams.proofs.PlainGenerations.{plain_generations}
 use Rattle.rtc_peer_state.specs.declared.phase.Phase.{Phase}
 use Rattle.rtc_peer_state.specs.declared.phase.Phase.TheVariants.{Alive, Closed}
-use Rattle.rtc_polling.specs.ChannelCalls.{if_open, is_phase_open, open_stream_under, stream_under}
+use Rattle.rtc_connection.specs.ChannelCalls.{if_open, is_phase_open, open_stream_under, stream_under}
 use Rattle.rtc_polling.proofs.StreamStarts.{IsEmptyBefore}
 use Rattle.rtc_polling_laws.specs.ChannelStreams.{AreNumberedChannels, AreNumbersGiven}
 use Rattle.rtc_polling_laws.specs.Drained.{AllHeard, AreHeard, IsHeard}
@@ -42,7 +42,7 @@ use Rattle.rtc_channel_runs.proofs.UsesTold.{HasGone, InBandTold, IsOver, Lives,
 use Rattle.rtc_channel_runs.proofs.HeardOpenings.{entry_among}
 use Rattle.rtc_sctp_entries.specs.declared.stream_entry_state.StreamEntryState.{StreamEntryState}
 use Rattle.rtc_sctp_entries.specs.declared.stream_entry_state.StreamEntryState.TheVariants.{AwaitOpen, AwaitConfig, AwaitDcepAck, Open, Closed as EntryClosed}
-use Rattle.rtc_polling.specs.StreamStages.{channel_over}
+use Rattle.rtc_poll_stages.specs.StreamStages.{channel_over}
 use Rattle.rtc_channel_runs.proofs.RowLemmas.{one_over}
 use Rattle.rtc_channel_runs.proofs.OpenStreams.{open_placed}
 

@@ -4,8 +4,8 @@ use Rattle.std.specs.Prelude.{option_and_then}
 use Rattle.rtc_sctp.specs.Calls.{is_open_stream}
 use Rattle.rtc_sctp.specs.Streams.{SctpStreams}
 use Rattle.rtc_peer_state.specs.declared.phase.Phase.TheVariants.{Closed}
-use Rattle.rtc_polling.specs.ChannelCalls.{if_open, is_phase_open, open_stream_under, stream_under}
-use Rattle.rtc_polling.specs.declared.polled_peer.PolledPeer.{PolledPeer}
+use Rattle.rtc_connection.specs.ChannelCalls.{if_open, is_phase_open, open_stream_under, stream_under}
+use Rattle.rtc_connection.specs.declared.polled_peer.PolledPeer.{PolledPeer}
 
 none_some : (s : ℕ) → None ≡ Some s → ⊥
 none_some s h = cc

@@ -5,10 +5,10 @@ use Rattle.rtc_sctp_laws.specs.StreamMessages.{StreamMessage, is_dcep_message}
 use Rattle.rtc_stream_uses.specs.GenerationLaws.{GenerationLaws}
 use Rattle.rtc_stream_uses.specs.StreamUses.{any_dcep, messages_of}
 use Rattle.rtc_peer_state.specs.Meanings.{Meanings}
-use Rattle.rtc_polling.specs.ChannelCalls.{stream_under}
-use Rattle.rtc_polling.specs.declared.event.Event.TheVariants.{ChannelOpen}
-use Rattle.rtc_polling.specs.declared.output.Output.TheVariants as outputs
-use Rattle.rtc_polling.specs.declared.polled_peer.PolledPeer.{PolledPeer}
+use Rattle.rtc_connection.specs.ChannelCalls.{stream_under}
+use Rattle.rtc_connection.specs.declared.event.Event.TheVariants.{ChannelOpen}
+use Rattle.rtc_connection.specs.declared.output.Output.TheVariants as outputs
+use Rattle.rtc_connection.specs.declared.polled_peer.PolledPeer.{PolledPeer}
 use Rattle.rtc_polling.specs.Walk.{PollsPeer}
 use Rattle.rtc_polling_laws.specs.Acts.{PollActs}
 use Rattle.rtc_polling_laws.specs.ChannelStreams.{AreNumberedChannels}

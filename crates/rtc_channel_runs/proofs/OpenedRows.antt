@@ -13,7 +13,7 @@ use Rattle.rtc_sctp_laws.specs.StreamMessages.{met_of}
 use Rattle.rtc_channels.specs.Allocation.{Allocates, all_allocated}
 use Rattle.rtc_channels.specs.Channels.{Channel, Channels, all_confirmed, with_channel}
 use Rattle.rtc_channels.specs.Openings.{Following, MeetsMoment, OpensAll, OpensChannel, config_handed}
-use Rattle.rtc_polling.specs.StreamStages.{channel_over}
+use Rattle.rtc_poll_stages.specs.StreamStages.{channel_over}
 use Rattle.rtc_polling_laws.specs.ChannelStreams.{AreNumberedChannels}
 use Rattle.rtc_polling_laws.specs.RowsChanged.{ChangeRows, RowsChange, RowsChanged}
 use Rattle.rtc_polling_laws.specs.RowsChanged.{Stayed, Polled, Timed, Progressed, ThresholdSet, StreamClosed, Confirmed, Made}

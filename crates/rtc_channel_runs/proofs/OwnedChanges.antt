@@ -17,7 +17,7 @@ use Rattle.rtc_channels.specs.Allocation.{Allocates, all_allocated}
 use Rattle.rtc_channels.specs.Channels.{Channel, Channels}
 use Rattle.rtc_channels.specs.Holds.{channels_without}
 use Rattle.rtc_channels.specs.Openings.{Following, MeetsMoment, OpensAll, OpensChannel, config_handed}
-use Rattle.rtc_polling.specs.StreamStages.{channel_over}
+use Rattle.rtc_poll_stages.specs.StreamStages.{channel_over}
 use Rattle.rtc_polling_laws.specs.ChannelStreams.{AreNumberedChannels}
 use Rattle.rtc_polling_laws.specs.RowsChanged.{ClosesRow, RowsAnswered, RowsTold, SameRows}
 use Rattle.rtc_polling_laws.proofs.ChannelsOver.{under_over, under_rows}

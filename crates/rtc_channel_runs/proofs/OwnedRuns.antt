@@ -14,7 +14,7 @@ use Rattle.rtc_channels.specs.Channels.{Channels, all_confirmed, no_channels, un
 use Rattle.rtc_peer_state.specs.declared.peer.Peer.{Peer}
 use Rattle.rtc_peer_state.specs.declared.phase.Phase.TheVariants.{Closed}
 use Rattle.rtc_peer_state.specs.Meanings.{Meanings, PartsLaws}
-use Rattle.rtc_polling.specs.declared.polled_peer.PolledPeer.{PolledPeer}
+use Rattle.rtc_connection.specs.declared.polled_peer.PolledPeer.{PolledPeer}
 use Rattle.rtc_polling.proofs.StreamStarts.{started_same, timed_start}
 use Rattle.rtc_polling_laws.specs.RowsChanged.{ChangeRows, OnlyActs, RowsChange, RowsChanged}
 use Rattle.rtc_polling_laws.specs.RowsChanged.{Stayed, Polled, Timed, Progressed, ThresholdSet, StreamClosed, Confirmed, Made}

@@ -11,9 +11,9 @@ use Rattle.rtc_stream_contents.proofs.ContentLemmas.{dcep_contents}
 use Rattle.rtc_plain_streams.proofs.PlainGenerations.{plain_generations}
 use Rattle.rtc_plain_streams.proofs.PlainReadings.{plain_named}
 use Rattle.rtc_peer_state.specs.declared.rtc_error.RtcError.{RtcError}
-use Rattle.rtc_polling.specs.declared.event.Event.TheVariants.{ChannelData, ChannelOpen}
-use Rattle.rtc_polling.specs.declared.output.Output.{Output}
-use Rattle.rtc_polling.specs.declared.output.Output.TheVariants as polled
+use Rattle.rtc_connection.specs.declared.event.Event.TheVariants.{ChannelData, ChannelOpen}
+use Rattle.rtc_connection.specs.declared.output.Output.{Output}
+use Rattle.rtc_connection.specs.declared.output.Output.TheVariants as polled
 use Rattle.rtc_polling.specs.Walk.{PollsPeer}
 use Rattle.rtc_polling_laws.specs.Acts.{PollActs, contents_shown}
 use Rattle.rtc_polling_laws.specs.PeerActs.{PeerActs, nothing_came}

@@ -6,7 +6,7 @@ use Rattle.rtc_sctp_entries.specs.declared.stream_entry_state.StreamEntryState.T
 use Rattle.rtc_sctp_entries.specs.Entries.{has_open}
 use Rattle.rtc_sctp.specs.Streams.{is_established}
 use Rattle.rtc_channels.specs.Openings.{channels_wake}
-use Rattle.rtc_polling.specs.ChannelCalls.{stream_under}
+use Rattle.rtc_connection.specs.ChannelCalls.{stream_under}
 use Rattle.rtc_polling_laws.specs.ChannelStreams.{AreNumberedChannels}
 use Rattle.rtc_polling_laws.specs.Drained.{AreHeard, AreTriedAgain}
 use Rattle.rtc_plain_media.specs.declared.plain_media_event.PlainMediaEvent.{PlainMediaEvent}

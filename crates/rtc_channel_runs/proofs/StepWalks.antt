@@ -8,10 +8,10 @@ use Rattle.rtc_wire.specs.declared.transmit.Transmit.{Transmit}
 use Rattle.rtc_peer_state.specs.declared.rtc_error.RtcError.{RtcError}
 use Rattle.rtc_peer_state.specs.declared.rtc_error.RtcError.TheVariants.{Alloc as PeerAlloc}
 use Rattle.rtc_peer_state.specs.Meanings.{Meanings}
-use Rattle.rtc_polling.specs.declared.input.Input.TheVariants as given
-use Rattle.rtc_polling.specs.declared.output.Output.{Output}
-use Rattle.rtc_polling.specs.declared.output.Output.TheVariants as polled
-use Rattle.rtc_polling.specs.declared.polled_peer.PolledPeer.{PolledPeer}
+use Rattle.rtc_connection.specs.declared.input.Input.TheVariants as given
+use Rattle.rtc_connection.specs.declared.output.Output.{Output}
+use Rattle.rtc_connection.specs.declared.output.Output.TheVariants as polled
+use Rattle.rtc_connection.specs.declared.polled_peer.PolledPeer.{PolledPeer}
 use Rattle.rtc_polling.specs.Inputs.{HandlesInput}
 use Rattle.rtc_polling.specs.Walk.{PollsPeer}
 use Rattle.rtc_history.specs.declared.outcome.Outcome.{Outcome}
@@ -25,8 +25,8 @@ use Rattle.rtc_history.specs.declared.side.Side.{Side}
 use Rattle.rtc_history.specs.declared.table.Table.{Table}
 use Rattle.rtc_history.specs.CallReplies.{ClosesOpenChannel, FindsNone, StepCalls, StepClosesChannel, StepWrites, StepWritesOpen}
 use Rattle.rtc_history.specs.Performs.{DrainsOn, DrainsPeer, HandlesRead, PollsOnce, PollsShown, StepPollsPeer, StepTakesDatagram}
-use Rattle.rtc_polling.specs.declared.input.Input.{Input}
-use Rattle.rtc_polling.specs.ChannelCalls.{ClosesDataChannel, WritesChannel}
+use Rattle.rtc_connection.specs.declared.input.Input.{Input}
+use Rattle.rtc_connection.specs.ChannelCalls.{ClosesDataChannel, WritesChannel}
 
 -- what each call keeps
 pub record CallsKeep {I D S M E X T W N : Type 0} (m : Meanings I D S M E X T W N)

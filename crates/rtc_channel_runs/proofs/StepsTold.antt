@@ -18,10 +18,10 @@ use Rattle.rtc_stream_contents.proofs.ContentLemmas.{write_named}
 use Rattle.rtc_plain_streams.proofs.PlainGenerations.{plain_generations}
 use Rattle.rtc_peer_state.specs.declared.rtc_error.RtcError.{RtcError}
 use Rattle.rtc_peer_state.specs.declared.rtc_error.RtcError.TheVariants.{Alloc as PeerAlloc}
-use Rattle.rtc_polling.specs.declared.input.Input.{Input}
-use Rattle.rtc_polling.specs.declared.input.Input.TheVariants as given
-use Rattle.rtc_polling.specs.ChannelCalls.{WritesChannel, open_stream_under}
-use Rattle.rtc_polling.specs.Closing.{ClosesPeer}
+use Rattle.rtc_connection.specs.declared.input.Input.{Input}
+use Rattle.rtc_connection.specs.declared.input.Input.TheVariants as given
+use Rattle.rtc_connection.specs.ChannelCalls.{WritesChannel, open_stream_under}
+use Rattle.rtc_connection.specs.Closing.{ClosesPeer}
 use Rattle.rtc_polling.specs.Inputs.{HandlesInput}
 use Rattle.rtc_polling_laws.specs.Acts.{CallActs, message_of_write}
 use Rattle.rtc_polling_laws.specs.PeerActs.{PeerActs, came_by, moment_given, nothing_came}

@@ -19,7 +19,7 @@ use Rattle.rtc_stream_contents.specs.RunningStreams.{AreRunning}
 use Rattle.rtc_stream_uses.specs.StreamUses.{IsLive, IsLiveIn, OneAtMost, entries_of, messages_of}
 use Rattle.rtc_peer_state.specs.declared.phase.Phase.{Phase}
 use Rattle.rtc_peer_state.specs.declared.phase.Phase.TheVariants.{Alive, Closing, Closed}
-use Rattle.rtc_polling.specs.declared.output.Output.TheVariants.{Timeout}
+use Rattle.rtc_connection.specs.declared.output.Output.TheVariants.{Timeout}
 use Rattle.rtc_polling.specs.Walk.{PollsPeer}
 use Rattle.rtc_polling_laws.specs.ChannelStreams.{IsGone}
 use Rattle.rtc_polling_laws.specs.Drained.{AllHeard, AreHeard, IsHeard}

@@ -15,8 +15,8 @@ use Rattle.rtc_stream_contents.proofs.ContentLemmas.{contents-append, written_ar
 use Rattle.rtc_stream_contents.proofs.PastLemmas.{acts_past}
 use Rattle.rtc_peer_state.specs.declared.phase.Phase.TheVariants.{Closed}
 use Rattle.rtc_peer_state.specs.Meanings.{Meanings}
-use Rattle.rtc_polling.specs.ChannelCalls.{WritesChannel, stream_under}
-use Rattle.rtc_polling.specs.declared.polled_peer.PolledPeer.{PolledPeer}
+use Rattle.rtc_connection.specs.ChannelCalls.{WritesChannel, stream_under}
+use Rattle.rtc_connection.specs.declared.polled_peer.PolledPeer.{PolledPeer}
 use Rattle.rtc_polling_laws.specs.Acts.{PeerDid}
 use Rattle.rtc_polling_laws.specs.ChannelStreams.{AreNumberedChannels, IsGone, IsLiveChannel, IsUsedStream}
 use Rattle.rtc_polling_laws.specs.PeerActs.{Came}

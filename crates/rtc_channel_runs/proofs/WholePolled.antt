@@ -11,12 +11,12 @@ use Rattle.rtc_stream_contents.proofs.ContentLemmas.{contents-append}
 use Rattle.rtc_channels.specs.Channels.{is_of_stream}
 use Rattle.rtc_peer_state.specs.declared.rtc_error.RtcError.{RtcError}
 use Rattle.rtc_peer_state.specs.Meanings.{Meanings}
-use Rattle.rtc_polling.specs.ChannelCalls.{stream_under}
-use Rattle.rtc_polling.specs.declared.channel_data.ChannelData.{ChannelData as ChannelMessage}
-use Rattle.rtc_polling.specs.declared.event.Event.TheVariants.{ChannelOpen, ChannelData}
-use Rattle.rtc_polling.specs.declared.output.Output.{Output}
-use Rattle.rtc_polling.specs.declared.output.Output.TheVariants as outputs
-use Rattle.rtc_polling.specs.declared.polled_peer.PolledPeer.{PolledPeer}
+use Rattle.rtc_connection.specs.ChannelCalls.{stream_under}
+use Rattle.rtc_connection.specs.declared.channel_data.ChannelData.{ChannelData as ChannelMessage}
+use Rattle.rtc_connection.specs.declared.event.Event.TheVariants.{ChannelOpen, ChannelData}
+use Rattle.rtc_connection.specs.declared.output.Output.{Output}
+use Rattle.rtc_connection.specs.declared.output.Output.TheVariants as outputs
+use Rattle.rtc_connection.specs.declared.polled_peer.PolledPeer.{PolledPeer}
 use Rattle.rtc_polling.specs.Walk.{PollsPeer}
 use Rattle.rtc_polling_laws.specs.Acts.{PollActs}
 use Rattle.rtc_polling_laws.specs.ChannelStreams.{AreNumberedChannels, IsLiveChannel}

@@ -1,10 +1,10 @@
 -- The channels that polls announced, and what was sent and got over each.
 use Rattle.std.specs.Prelude.{ℕ, ◌==◌, ◌++◌, if◌then◌else◌, not, Bool, List, [], ◌∷◌, Option, Some, None, is_some}
 use Rattle.rtc_sctp_entries.specs.Entries.{config_or_fresh}
-use Rattle.rtc_polling.specs.ChannelCalls.{config_under, stream_under}
-use Rattle.rtc_polling.specs.declared.event.Event.{Event}
-use Rattle.rtc_polling.specs.declared.event.Event.TheVariants.{ChannelOpen, ChannelData}
-use Rattle.rtc_polling.specs.declared.polled_peer.PolledPeer.{PolledPeer}
+use Rattle.rtc_connection.specs.ChannelCalls.{config_under, stream_under}
+use Rattle.rtc_connection.specs.declared.event.Event.{Event}
+use Rattle.rtc_connection.specs.declared.event.Event.TheVariants.{ChannelOpen, ChannelData}
+use Rattle.rtc_connection.specs.declared.polled_peer.PolledPeer.{PolledPeer}
 use Rattle.rtc_peer_state.specs.Meanings.{Meanings}
 use Rattle.rtc_history.specs.declared.shown.Shown.{Shown}
 use Rattle.rtc_history.specs.declared.shown.Shown.TheVariants as shows

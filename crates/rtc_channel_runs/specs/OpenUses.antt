@@ -2,8 +2,8 @@
 use Rattle.std.specs.Prelude.{ℕ, ◌≡◌, true, false, Some}
 use Rattle.rtc_stream_uses.specs.StreamUses.{is_spent_stream}
 use Rattle.rtc_peer_state.specs.Meanings.{Meanings}
-use Rattle.rtc_polling.specs.ChannelCalls.{open_stream_under}
-use Rattle.rtc_polling.specs.declared.polled_peer.PolledPeer.{PolledPeer}
+use Rattle.rtc_connection.specs.ChannelCalls.{open_stream_under}
+use Rattle.rtc_connection.specs.declared.polled_peer.PolledPeer.{PolledPeer}
 use Rattle.rtc_channel_runs.specs.ChannelUses.{ChannelUse}
 
 -- The channel has its stream, which is open, in the same generation, and not closed by this end. The association is neither closing nor

@@ -13,7 +13,7 @@ use Rattle.rtc_sctp_entries.specs.Entries.{has_open, is_out_of_band}
 use Rattle.rtc_sctp.specs.Streams.{is_established}
 use Rattle.rtc_channels.specs.Openings.{channels_wake}
 use Rattle.rtc_peer_state.specs.declared.phase.Phase.TheVariants.{Alive}
-use Rattle.rtc_polling.specs.ChannelCalls.{open_stream_under, stream_under}
+use Rattle.rtc_connection.specs.ChannelCalls.{open_stream_under, stream_under}
 use Rattle.rtc_polling_laws.specs.Drained.{IsTriedAgain}
 use Rattle.rtc_history.specs.declared.reply.Reply.{Reply}
 use Rattle.rtc_history.specs.declared.side.Side.{Side}

@@ -2,11 +2,11 @@
 use Rattle.std.specs.Prelude.{ℕ, ◌==◌, ◌&&◌, ◌++◌, if◌then◌else◌, Bool, List, [], ◌∷◌}
 use Rattle.rtc_channels.specs.Channels.{is_of_stream}
 use Rattle.rtc_peer_state.specs.Meanings.{Meanings}
-use Rattle.rtc_polling.specs.ChannelCalls.{stream_under}
-use Rattle.rtc_polling.specs.declared.channel_data.ChannelData.{ChannelData as ChannelMessage}
-use Rattle.rtc_polling.specs.declared.event.Event.{Event}
-use Rattle.rtc_polling.specs.declared.event.Event.TheVariants.{ChannelData}
-use Rattle.rtc_polling.specs.declared.polled_peer.PolledPeer.{PolledPeer}
+use Rattle.rtc_connection.specs.ChannelCalls.{stream_under}
+use Rattle.rtc_connection.specs.declared.channel_data.ChannelData.{ChannelData as ChannelMessage}
+use Rattle.rtc_connection.specs.declared.event.Event.{Event}
+use Rattle.rtc_connection.specs.declared.event.Event.TheVariants.{ChannelData}
+use Rattle.rtc_connection.specs.declared.polled_peer.PolledPeer.{PolledPeer}
 use Rattle.rtc_history.specs.declared.shown.Shown.{Shown}
 use Rattle.rtc_history.specs.declared.shown.Shown.TheVariants as shows
 use Rattle.rtc_history.specs.declared.side.Side.{Side}

@@ -4,8 +4,8 @@ use Rattle.std.specs.Option.{IfSome}
 use Rattle.std.specs.Result.{IsOk, IfOk, OnErr}
 use Rattle.rtc_media.specs.declared.no_stream.NoStream.{NoStream}
 use Rattle.rtc_media.specs.NoStream.{StreamAnswers}
-use Rattle.rtc_polling.specs.declared.polled_peer.PolledPeer.{PolledPeer}
-use Rattle.rtc_polling.specs.Connection.{with_media}
+use Rattle.rtc_connection.specs.declared.polled_peer.PolledPeer.{PolledPeer}
+use Rattle.rtc_connection.specs.Connection.{with_media}
 
 module _ {I D S M N : Type 0} (p : PolledPeer I D S M N) where
   -- the media part ends by what it lent, and the peer has it

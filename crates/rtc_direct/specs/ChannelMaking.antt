@@ -19,8 +19,8 @@ use Rattle.rtc_peer_state.specs.declared.rtc_error.RtcError.TheVariants.{
 }
 use Rattle.rtc_peer_state.specs.PartMoves.{StartsWhere, remote_limit}
 use Rattle.rtc_peer_state.specs.RtcErrors.{error_of_sctp}
-use Rattle.rtc_polling.specs.declared.polled_peer.PolledPeer.{PolledPeer}
-use Rattle.rtc_polling.specs.Connection.{with_sctp, with_channels}
+use Rattle.rtc_connection.specs.declared.polled_peer.PolledPeer.{PolledPeer}
+use Rattle.rtc_connection.specs.Connection.{with_sctp, with_channels}
 
 -- what a start of the association answers
 abbrev pub start_answer : Result (Unit {0}) SctpError → Result (Unit {0}) RtcError

@@ -6,7 +6,7 @@ use Rattle.rtc_sdp_values.specs.declared.media_kind.MediaKind.{MediaKind}
 use Rattle.rtc_tables.specs.DeclaredMedia.{Declares, media_place, rows_without}
 use Rattle.rtc_tables.specs.Table.{row_of}
 use Rattle.rtc_media.specs.MediaMeaning.{MediaMeaning}
-use Rattle.rtc_polling.specs.declared.polled_peer.PolledPeer.{PolledPeer}
+use Rattle.rtc_connection.specs.declared.polled_peer.PolledPeer.{PolledPeer}
 
 -- whether a row of media has a mid
 abbrev pub has_media_row : List ℕ → List LineRow → Bool

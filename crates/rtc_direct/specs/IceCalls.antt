@@ -3,8 +3,8 @@ use Rattle.std.specs.Prelude.{◌≡◌, Bool}
 use Rattle.rtc_sdp_values.specs.declared.candidate.Candidate.{Candidate}
 use Rattle.rtc_sdp_values.specs.declared.ice_creds.IceCreds.{IceCreds}
 use Rattle.rtc_ice.specs.IceMeaning.{IceMeaning}
-use Rattle.rtc_polling.specs.declared.polled_peer.PolledPeer.{PolledPeer}
-use Rattle.rtc_polling.specs.Connection.{with_ice}
+use Rattle.rtc_connection.specs.declared.polled_peer.PolledPeer.{PolledPeer}
+use Rattle.rtc_connection.specs.Connection.{with_ice}
 
 module _ {I D S M N : Type 0} (ice : IceMeaning I) where
   -- whether this side is controlling is set (RFC 8445, section 6.1.1)

@@ -5,8 +5,8 @@ use Rattle.rtc_sdp_values.specs.declared.ssrc.Ssrc.{Ssrc}
 use Rattle.rtc_ids.specs.Draws.{Draws}
 use Rattle.rtc_media.specs.MediaMeaning.{MediaMeaning}
 use Rattle.rtc_peer_state.specs.Sources.{has_source, next_source}
-use Rattle.rtc_polling.specs.declared.polled_peer.PolledPeer.{PolledPeer}
-use Rattle.rtc_polling.specs.Connection.{with_media}
+use Rattle.rtc_connection.specs.declared.polled_peer.PolledPeer.{PolledPeer}
+use Rattle.rtc_connection.specs.Connection.{with_media}
 
 -- the peer with another source of numbers
 abbrev pub with_ids : {I D S M N : Type 0} → N → PolledPeer I D S M N → PolledPeer I D S M N

@@ -3,9 +3,9 @@
 use Rattle.std.specs.Prelude.{◌≡◌, ◌||◌, ◌&&◌, ℕ, Bool, not, List, Option}
 use Rattle.rtc_sdp_values.specs.declared.ssrc.Ssrc.{Ssrc}
 use Rattle.rtc_media.specs.MediaMeaning.{MediaMeaning}
-use Rattle.rtc_polling.specs.declared.polled_peer.PolledPeer.{PolledPeer}
-use Rattle.rtc_polling.specs.ChannelCalls.{is_phase_open}
-use Rattle.rtc_polling.specs.Connection.{with_media}
+use Rattle.rtc_connection.specs.declared.polled_peer.PolledPeer.{PolledPeer}
+use Rattle.rtc_connection.specs.ChannelCalls.{is_phase_open}
+use Rattle.rtc_connection.specs.Connection.{with_media}
 use Rattle.rtc_direct.specs.DeclaredRows.{has_media_row}
 
 module _ {I D S M E X T W N : Type 0} (media : MediaMeaning M E X T W) where

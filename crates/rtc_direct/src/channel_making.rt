@@ -5,8 +5,8 @@ ghost use Rattle.rtc_direct.specs.ChannelMaking.{start_answer, StartsStreams, Cr
 
 use rtc_association::Association;
 use rtc_channels::ChannelError;
+use rtc_connection::PolledPeer;
 use rtc_peer_state::RtcError;
-use rtc_polling::PolledPeer;
 use rtc_sctp::{RtcSctp, SctpError, SctpInitData};
 use rtc_wire::{ChannelConfig, ChannelId, Moment};
 

@@ -1,10 +1,10 @@
 //! Sources that are drawn, and what is sent to the media of the other side.
 ghost use Rattle.rtc_direct.specs.SourcesAndFeedback.{DrawsSource, SetsRed, EnablesTwcc, SendsAppFeedback, SendsPli};
 
+use rtc_connection::PolledPeer;
 use rtc_drawing::{EarlierNumbers, draw_source};
 use rtc_ids::Ids;
 use rtc_media::MediaSession;
-use rtc_polling::PolledPeer;
 use rtc_sdp_values::{Mid, Ssrc};
 use std::alloc::AllocError;
 

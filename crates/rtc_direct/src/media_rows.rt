@@ -3,9 +3,9 @@ ghost use Rattle.std.specs.Prelude.{◌≡◌};
 ghost use Rattle.rtc_direct.specs.DeclaredRows.{has_media_row, DeclaresMedia, RemovesMedia};
 
 use rtc_change::Lines;
+use rtc_connection::PolledPeer;
 use rtc_media::MediaSession;
 use rtc_peer_state::count_lines;
-use rtc_polling::PolledPeer;
 use rtc_sdp_values::{LineRow, MediaKind, Mid};
 use std::alloc::AllocError;
 

@@ -2,15 +2,15 @@
 ghost use Rattle.std.specs.Prelude.{◌≡◌, IfOk, IfSome, is_some};
 ghost use Rattle.std.specs.Borrow.{LendsSo, LendsSoOk, sem};
 ghost use Rattle.rtc_media.specs.NoStream.{StreamAnswers};
-ghost use Rattle.rtc_polling.specs.contracts.polled_peer.PolledPeer.{the_row};
-ghost use Rattle.rtc_polling.specs.ChannelCalls.{is_phase_open};
+ghost use Rattle.rtc_connection.specs.contracts.polled_peer.PolledPeer.{the_row};
+ghost use Rattle.rtc_connection.specs.ChannelCalls.{is_phase_open};
 ghost use Rattle.rtc_direct.specs.Streams.{RemovesRx, RemovesTx, gives_no_rx, gives_no_tx, gives_writer};
 ghost use Rattle.rtc_direct.specs.Streams.{ExpectsRx, DeclaresTx, LendsRx, LendsTx, LendsNamedRx, LendsNamedTx, ResetsTx, LendsWriter};
 
 use crate::media_rows::has_media;
+use rtc_connection::PolledPeer;
 use rtc_media::{MediaSession, NoStream};
 use rtc_peer_state::Phase;
-use rtc_polling::PolledPeer;
 use rtc_sdp_values::{Mid, Rid, Ssrc};
 
 fn is_open_phase(phase: Phase) -> bool

@@ -11,7 +11,7 @@ use Rattle.rtc_sdp_values.specs.declared.sdp.Sdp.{Sdp}
 use Rattle.rtc_tables.specs.declared.parsed_line.ParsedLine.{ParsedLine}
 use Rattle.rtc_tables.specs.ParsedLines.{parsed_lines}
 use Rattle.rtc_channels.specs.Channels.{is_overlong}
-use Rattle.rtc_polling.specs.declared.event.Event.TheVariants.{ChannelOpen}
+use Rattle.rtc_connection.specs.declared.event.Event.TheVariants.{ChannelOpen}
 use Rattle.rtc_peer_state.specs.MadeSdp.{sdp_of_rows}
 use Rattle.rtc_history.specs.declared.side.Side.{Side}
 use Rattle.rtc_history.specs.declared.side.Side.TheVariants.{Left, Right}

@@ -1,6 +1,6 @@
 //! Outputs that replies show.
+use rtc_connection::Event;
 use rtc_parts_values::Reason;
-use rtc_polling::Event;
 use rtc_wire::Moment;
 
 /// An output of a poll, as a reply shows it. `E` are the events of the media part.

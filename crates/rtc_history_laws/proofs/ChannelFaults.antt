@@ -7,9 +7,9 @@ use Rattle.rtc_sctp.specs.Calls.{WritesStream}
 use Rattle.rtc_peer_state.specs.declared.rtc_error.RtcError.{RtcError}
 use Rattle.rtc_peer_state.specs.declared.rtc_error.RtcError.TheVariants.{Sctp, Alloc as PeerAlloc}
 use Rattle.rtc_peer_state.specs.Meanings.{Meanings, PartsLaws}
-use Rattle.rtc_polling.specs.declared.polled_peer.PolledPeer.{PolledPeer}
-use Rattle.rtc_polling.specs.ChannelCalls.{WritesChannel, WritesIf, bytes_available, stream_under, write_taken}
-use Rattle.rtc_polling.specs.Connection.{with_sctp}
+use Rattle.rtc_connection.specs.declared.polled_peer.PolledPeer.{PolledPeer}
+use Rattle.rtc_connection.specs.ChannelCalls.{WritesChannel, WritesIf, bytes_available, stream_under, write_taken}
+use Rattle.rtc_connection.specs.Connection.{with_sctp}
 use Rattle.rtc_history.specs.declared.outcome.Outcome.{Outcome}
 use Rattle.rtc_history.specs.declared.outcome.Outcome.TheVariants.{Wrote, Refused, NoSuch, Alloc}
 use Rattle.rtc_history.specs.declared.table.Table.{Table}

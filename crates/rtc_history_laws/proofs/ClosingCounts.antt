@@ -11,9 +11,9 @@ use Rattle.rtc_peer_state.specs.declared.phase.Phase.TheVariants.{Alive, Closing
 use Rattle.rtc_peer_state.specs.declared.rtc_error.RtcError.{RtcError}
 use Rattle.rtc_peer_state.specs.declared.rtc_error.RtcError.TheVariants.{Dtls, Sctp, Alloc}
 use Rattle.rtc_peer_state.specs.Meanings.{Meanings, PartsLaws}
-use Rattle.rtc_polling.specs.declared.polled_peer.PolledPeer.{PolledPeer}
-use Rattle.rtc_polling.specs.Closing.{ShutsMedia, ShutsStreams, ShutsDtls, BecomesClosing, BeginsClosing, ClosesPeer, ClosesPeerFrom}
-use Rattle.rtc_polling.specs.Stages.{Call, InTurn, Failed, Passed}
+use Rattle.rtc_connection.specs.declared.polled_peer.PolledPeer.{PolledPeer}
+use Rattle.rtc_connection.specs.Closing.{ShutsMedia, ShutsStreams, ShutsDtls, BecomesClosing, BeginsClosing, ClosesPeer, ClosesPeerFrom}
+use Rattle.rtc_connection.specs.Stages.{Call, InTurn, Failed, Passed}
 use Rattle.rtc_history_laws.proofs.GrowingCounts.{grows_quiet, answer_tells, shut_grows, media_faults, association_faults, Counts, SameParts, later_of, counts_on, counts_as, still_counts, dtls_counts, media_counts, association_counts}
 use Rattle.rtc_history_laws.proofs.StreamFaults.{shuts_later, shuts_fault}
 

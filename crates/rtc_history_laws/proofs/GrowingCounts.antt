@@ -13,7 +13,7 @@ use Rattle.rtc_dtls.specs.DtlsState.{DtlsState, HandsOn, SendsData, PollsOutput,
 use Rattle.rtc_dtls.specs.DtlsWords.{takes}
 use Rattle.rtc_peer_state.specs.declared.rtc_error.RtcError.{RtcError}
 use Rattle.rtc_peer_state.specs.Meanings.{Meanings}
-use Rattle.rtc_polling.specs.declared.polled_peer.PolledPeer.{PolledPeer}
+use Rattle.rtc_connection.specs.declared.polled_peer.PolledPeer.{PolledPeer}
 use Rattle.rtc_history.specs.Memory.{CountedPart, DtlsPart, AssociationPart, MediaPart, is_fault_of}
 use Rattle.rtc_history_laws.proofs.CountedFaults.{equal_below, rose_along}
 

@@ -14,12 +14,12 @@ use Rattle.rtc_peer_state.specs.declared.phase.Phase.TheVariants.{Alive, Closing
 use Rattle.rtc_peer_state.specs.declared.rtc_error.RtcError.{RtcError}
 use Rattle.rtc_peer_state.specs.declared.rtc_error.RtcError.TheVariants.{Dtls, Media as MediaFailed, Alloc}
 use Rattle.rtc_peer_state.specs.Meanings.{Meanings, PartsLaws}
-use Rattle.rtc_polling.specs.declared.input.Input.{Input}
-use Rattle.rtc_polling.specs.declared.input.Input.TheVariants.{Timeout as TimeCame, Receive as Datagram}
-use Rattle.rtc_polling.specs.declared.polled_peer.PolledPeer.{PolledPeer}
+use Rattle.rtc_connection.specs.declared.input.Input.{Input}
+use Rattle.rtc_connection.specs.declared.input.Input.TheVariants.{Timeout as TimeCame, Receive as Datagram}
+use Rattle.rtc_connection.specs.declared.polled_peer.PolledPeer.{PolledPeer}
 use Rattle.rtc_polling.specs.Inputs.{TimesIce, TimesStreams, TimesChannels, TimesMedia, GivesTime, TakesTimeIf, with_moment, HearsStun, HearsDtls, HearsMedia, HearsKind, Hears, Heard, PartFailed, HandlesInputBy, HandlesInputIn, HandlesInput}
-use Rattle.rtc_polling.specs.Statistics.{TimesStatistics}
-use Rattle.rtc_polling.proofs.StatisticsTurns.{StatisticsTimed, VisitedOnce, statistics_timed}
+use Rattle.rtc_connection.specs.Statistics.{TimesStatistics}
+use Rattle.rtc_connection.proofs.StatisticsTurns.{StatisticsTimed, VisitedOnce, statistics_timed}
 use Rattle.rtc_history.specs.Memory.{CountedPart}
 use Rattle.rtc_history_laws.proofs.GrowingCounts.{same_dtls, same_association, quiet_counts, grows_quiet, answer_tells, given_grows, hands_grow, association_faults, Counts, same_later, later_of, counts_on, counts_as, still_counts, dtls_counts, media_counts, association_counts}
 use Rattle.rtc_history_laws.proofs.ClosingCounts.{CallCounts, turn_counts, none_counts}

@@ -6,10 +6,10 @@ use Rattle.rtc_wire.specs.declared.net_error.NetError.{NetError}
 use Rattle.rtc_wire.specs.declared.transmit.Transmit.{Transmit}
 use Rattle.rtc_peer_state.specs.declared.rtc_error.RtcError.{RtcError}
 use Rattle.rtc_peer_state.specs.Meanings.{Meanings, PartsLaws}
-use Rattle.rtc_polling.specs.declared.input.Input.TheVariants as given
-use Rattle.rtc_polling.specs.declared.output.Output.TheVariants as polled
-use Rattle.rtc_polling.specs.declared.polled_peer.PolledPeer.{PolledPeer}
-use Rattle.rtc_polling.specs.Closing.{ClosesPeer}
+use Rattle.rtc_connection.specs.declared.input.Input.TheVariants as given
+use Rattle.rtc_connection.specs.declared.output.Output.TheVariants as polled
+use Rattle.rtc_connection.specs.declared.polled_peer.PolledPeer.{PolledPeer}
+use Rattle.rtc_connection.specs.Closing.{ClosesPeer}
 use Rattle.rtc_polling.specs.Inputs.{HandlesInput}
 use Rattle.rtc_polling.specs.Walk.{PollsPeer}
 use Rattle.rtc_history.specs.declared.outcome.Outcome.{Outcome}

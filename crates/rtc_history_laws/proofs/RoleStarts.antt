@@ -28,7 +28,7 @@ use Rattle.rtc_peer_state.specs.SdpMoves.{StartsBySdp}
 use Rattle.rtc_peer_state.specs.Stance.{Stance}
 use Rattle.rtc_peer_state.proofs.PartMovesLemmas.{role_taken}
 use Rattle.rtc_peer_state.proofs.StoppedPeers.{stopped_dtls, stopped_sctp}
-use Rattle.rtc_polling.specs.declared.polled_peer.PolledPeer.{PolledPeer}
+use Rattle.rtc_connection.specs.declared.polled_peer.PolledPeer.{PolledPeer}
 use Rattle.rtc_polling.proofs.StreamStarts.{started_same}
 use Rattle.rtc_history.specs.declared.side.Side.{Side}
 use Rattle.rtc_history.specs.Past.{Entry}

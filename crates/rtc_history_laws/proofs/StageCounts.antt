@@ -3,12 +3,12 @@ use Rattle.std.proofs.Common.{◌≡◌, if◌then◌else◌, ◌∙◌, Bool, t
 use Rattle.rtc_ice.specs.declared.ice_event.IceEvent.{IceEvent}
 use Rattle.rtc_ice.specs.declared.ice_event.IceEvent.TheVariants as events
 use Rattle.rtc_peer_state.specs.Meanings.{Meanings}
-use Rattle.rtc_polling.specs.declared.met.Met.{Met}
-use Rattle.rtc_polling.specs.declared.met.Met.TheVariants.{Nothing, Again, Transmit, Event as MetEvent, Error}
-use Rattle.rtc_polling.specs.declared.polled_peer.PolledPeer.{PolledPeer}
-use Rattle.rtc_polling.specs.IceStages.{met_of_ice_event}
-use Rattle.rtc_polling.specs.Stages.{Stage, FollowedBy, Stopped, WentOn, RepeatsStage}
-use Rattle.rtc_polling.proofs.StageLemmas.{over_carries}
+use Rattle.rtc_connection.specs.declared.met.Met.{Met}
+use Rattle.rtc_connection.specs.declared.met.Met.TheVariants.{Nothing, Again, Transmit, Event as MetEvent, Error}
+use Rattle.rtc_connection.specs.declared.polled_peer.PolledPeer.{PolledPeer}
+use Rattle.rtc_poll_stages.specs.IceStages.{met_of_ice_event}
+use Rattle.rtc_connection.specs.Stages.{Stage, FollowedBy, Stopped, WentOn, RepeatsStage}
+use Rattle.rtc_connection.proofs.StageLemmas.{over_carries}
 use Rattle.rtc_history.specs.Memory.{CountedPart, is_fault_of}
 use Rattle.rtc_history_laws.proofs.GrowingCounts.{Later, Counts, SameParts, later_self, later_on, later_of, counts_on, still_counts}
 

@@ -10,9 +10,9 @@ use Rattle.rtc_peer_state.specs.declared.rtc_error.RtcError.{RtcError}
 use Rattle.rtc_peer_state.specs.declared.rtc_error.RtcError.TheVariants.{Alloc as PeerAlloc}
 use Rattle.rtc_peer_state.specs.Meanings.{Meanings, PartsLaws}
 use Rattle.rtc_peer_state.specs.Stance.{Stance, stance_of}
-use Rattle.rtc_polling.specs.declared.polled_peer.PolledPeer.{PolledPeer}
-use Rattle.rtc_polling.specs.ChannelCalls.{WritesChannel, WritesIf, bytes_available, write_taken, stream_under}
-use Rattle.rtc_polling.specs.Connection.{with_sctp}
+use Rattle.rtc_connection.specs.declared.polled_peer.PolledPeer.{PolledPeer}
+use Rattle.rtc_connection.specs.ChannelCalls.{WritesChannel, WritesIf, bytes_available, write_taken, stream_under}
+use Rattle.rtc_connection.specs.Connection.{with_sctp}
 use Rattle.rtc_polling.proofs.KeptCalls.{keeps_by}
 use Rattle.rtc_polling.proofs.StandingCalls.{stands_by}
 use Rattle.rtc_polling.proofs.StandingInputs.{stance_by}

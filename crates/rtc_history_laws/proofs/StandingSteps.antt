@@ -16,10 +16,10 @@ use Rattle.rtc_peer_state.proofs.StanceLemmas.{
   applies_stands,
 }
 use Rattle.rtc_peer_state.proofs.StanceAcceptances.{accepts_offer_stands, accepts_answer_stands}
-use Rattle.rtc_polling.specs.declared.input.Input.TheVariants as given
-use Rattle.rtc_polling.specs.declared.polled_peer.PolledPeer.{PolledPeer}
-use Rattle.rtc_polling.specs.ChannelCalls.{open_stream_under}
-use Rattle.rtc_polling.specs.Closing.{ClosesPeer}
+use Rattle.rtc_connection.specs.declared.input.Input.TheVariants as given
+use Rattle.rtc_connection.specs.declared.polled_peer.PolledPeer.{PolledPeer}
+use Rattle.rtc_connection.specs.ChannelCalls.{open_stream_under}
+use Rattle.rtc_connection.specs.Closing.{ClosesPeer}
 use Rattle.rtc_polling.specs.Inputs.{HandlesInput}
 use Rattle.rtc_peer_state.proofs.ChannelRowLemmas.{IsShutBefore}
 use Rattle.rtc_polling.proofs.StreamStarts.{empty_shut}

@@ -8,12 +8,12 @@ use Rattle.rtc_sctp_entries.specs.declared.sctp_event.SctpEvent.TheVariants as e
 use Rattle.rtc_channels.specs.Holds.{holds_lost}
 use Rattle.rtc_peer_state.specs.declared.rtc_error.RtcError.TheVariants.{Dtls, Alloc}
 use Rattle.rtc_peer_state.specs.Meanings.{Meanings, PartsLaws}
-use Rattle.rtc_polling.specs.declared.event.Event.TheVariants as told
-use Rattle.rtc_polling.specs.declared.met.Met.TheVariants.{Nothing, Again, Event as MetEvent, Error}
-use Rattle.rtc_polling.specs.declared.polled_peer.PolledPeer.{PolledPeer}
-use Rattle.rtc_polling.specs.Connection.{with_sctp, with_channels, with_pushed}
-use Rattle.rtc_polling.specs.StreamStages.{OpensChannelOver, ClosesChannelOver, HearsChannelOver, FallsChannelOver, LosesAssociation, TakesStreamEvent, TakesStreamAnswer}
-use Rattle.rtc_polling.specs.StreamStages.{PollsStreamEvent, PollsStreamEvents, SendsPacket, SendsFirst, SendsKeptPackets, TellsStreams, channel_over}
+use Rattle.rtc_connection.specs.declared.event.Event.TheVariants as told
+use Rattle.rtc_connection.specs.declared.met.Met.TheVariants.{Nothing, Again, Event as MetEvent, Error}
+use Rattle.rtc_connection.specs.declared.polled_peer.PolledPeer.{PolledPeer}
+use Rattle.rtc_connection.specs.Connection.{with_sctp, with_channels, with_pushed}
+use Rattle.rtc_poll_stages.specs.StreamStages.{OpensChannelOver, ClosesChannelOver, HearsChannelOver, FallsChannelOver, LosesAssociation, TakesStreamEvent, TakesStreamAnswer}
+use Rattle.rtc_poll_stages.specs.StreamStages.{PollsStreamEvent, PollsStreamEvents, SendsPacket, SendsFirst, SendsKeptPackets, TellsStreams, channel_over}
 use Rattle.rtc_history_laws.proofs.GrowingCounts.{grows_quiet, answer_tells, sends_grow, dtls_faults, same_dtls, same_media, same_later, counts_on, counts_as, dtls_counts}
 use Rattle.rtc_history_laws.proofs.StageCounts.{CountsStage, met_tells, else_counts, repeats_count, still}
 use Rattle.rtc_history_laws.proofs.ClosingCounts.{close_counts}

@@ -16,7 +16,7 @@ use Rattle.rtc_plain_media.specs.PlainMediaMeaning.{plain_media_meaning}
 use Rattle.rtc_ids.specs.Draws.{Draws}
 use Rattle.rtc_sctp_laws.specs.StreamMessages.{StreamMessage}
 use Rattle.rtc_peer_state.specs.Meanings.{meanings}
-use Rattle.rtc_polling.specs.declared.polled_peer.PolledPeer.{PolledPeer}
+use Rattle.rtc_connection.specs.declared.polled_peer.PolledPeer.{PolledPeer}
 use Rattle.rtc_polling_laws.specs.Acts.{PeerDid}
 use Rattle.rtc_polling_laws.specs.PeerActs.{Came, PeerActs, acts_with}
 use Rattle.rtc_joined_peers.specs.Exchanging.{PeersExchange, parts_past}

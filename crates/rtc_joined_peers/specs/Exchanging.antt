@@ -4,7 +4,7 @@ use Rattle.rtc_plain_ice.specs.Contents.{IceContents}
 use Rattle.rtc_plain_dtls.specs.Contents.{DtlsContents}
 use Rattle.rtc_assoc_state.specs.Contents.{Contents}
 use Rattle.rtc_plain_media.specs.MediaContents.{MediaContents}
-use Rattle.rtc_polling.specs.declared.polled_peer.PolledPeer.{PolledPeer}
+use Rattle.rtc_connection.specs.declared.polled_peer.PolledPeer.{PolledPeer}
 use Rattle.rtc_polling_laws.specs.PeerActs.{PeerActs}
 use Rattle.rtc_joined_peers.specs.JoinedPeers.{PartsPast, PeersJoined, packet_parts}
 use Rattle.rtc_joined_peers.specs.ShownData.{HasShown}

@@ -12,7 +12,7 @@ use Rattle.rtc_assoc_state.specs.Contents.{Contents, fresh_contents}
 use Rattle.rtc_assoc_state.specs.PlainMeaning.{plain_meaning}
 use Rattle.rtc_assoc.specs.Joined.{Move, Ends, Run}
 use Rattle.rtc_sctp_laws.specs.StreamMessages.{pushed_packets}
-use Rattle.rtc_polling.specs.declared.polled_peer.PolledPeer.{PolledPeer}
+use Rattle.rtc_connection.specs.declared.polled_peer.PolledPeer.{PolledPeer}
 use Rattle.rtc_polling_laws.specs.PeerActs.{PeerActs}
 
 -- the parts of a peer that packets of its association go through: its DTLS part, its association, and the packets that stand to be sent

@@ -7,7 +7,7 @@ use Rattle.rtc_plain_ice.specs.Contents.{IceContents, fresh_ice}
 use Rattle.rtc_plain_ice.specs.PlainMeaning.{plain_ice}
 use Rattle.rtc_plain_media.specs.MediaContents.{MediaContents, fresh_media}
 use Rattle.rtc_plain_media.specs.PlainMediaMeaning.{plain_media_meaning}
-use Rattle.rtc_polling.specs.declared.polled_peer.PolledPeer.{PolledPeer}
+use Rattle.rtc_connection.specs.declared.polled_peer.PolledPeer.{PolledPeer}
 use Rattle.rtc_polling_laws.specs.PeerActs.{PeerActs, contents_taken}
 
 -- Since its parts were fresh a peer has shown these contents of datagrams: they, and the packets that stand to be shown, are among what was

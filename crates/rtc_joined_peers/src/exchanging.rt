@@ -12,7 +12,7 @@ ghost use Rattle.rtc_plain_media.specs.MediaContents.{MediaContents};
 ghost use Rattle.rtc_plain_media.specs.PlainMediaMeaning.{plain_media_meaning};
 ghost use Rattle.rtc_sctp_laws.specs.StreamMessages.{StreamMessage};
 ghost use Rattle.rtc_peer_state.specs.Meanings.{meanings};
-ghost use Rattle.rtc_polling.specs.declared.polled_peer.PolledPeer.{PolledPeer as Polled};
+ghost use Rattle.rtc_connection.specs.declared.polled_peer.PolledPeer.{PolledPeer as Polled};
 ghost use Rattle.rtc_polling_laws.specs.Acts.{PeerDid};
 ghost use Rattle.rtc_polling_laws.specs.PeerActs.{Came, PeerActs, acts_with};
 ghost use Rattle.rtc_joined_peers.specs.Exchanging.{PeersExchange};

@@ -10,7 +10,7 @@ ghost use Rattle.rtc_assoc_state.specs.PlainMeaning.{plain_meaning};
 ghost use Rattle.rtc_assoc.specs.Unread.{IsPrefix, unread};
 ghost use Rattle.rtc_sctp_laws.specs.StreamMessages.{StreamMessage, read_act, write_act};
 ghost use Rattle.rtc_peer_state.specs.Meanings.{meanings};
-ghost use Rattle.rtc_polling.specs.declared.polled_peer.PolledPeer.{PolledPeer as Polled};
+ghost use Rattle.rtc_connection.specs.declared.polled_peer.PolledPeer.{PolledPeer as Polled};
 ghost use Rattle.rtc_polling_laws.specs.Acts.{PeerDid, begun_here};
 ghost use Rattle.rtc_polling_laws.specs.PeerActs.{Came, nothing_came};
 ghost use Rattle.rtc_joined_peers.specs.JoinedPeers.{AreUnused, CarriesData, PartsPast, PeersJoined, PacketParts, past_with, packet_parts};

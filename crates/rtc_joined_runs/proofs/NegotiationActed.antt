@@ -18,7 +18,7 @@ use Rattle.rtc_peer_state.specs.Meanings.{Meanings}
 use Rattle.rtc_peer_state.specs.PartMoves.{TakesControl}
 use Rattle.rtc_peer_state.specs.SdpHalves.{draws_half}
 use Rattle.rtc_peer_state.specs.Stance.{stance_of}
-use Rattle.rtc_polling.specs.declared.polled_peer.PolledPeer.{PolledPeer}
+use Rattle.rtc_connection.specs.declared.polled_peer.PolledPeer.{PolledPeer}
 use Rattle.rtc_polling_laws.specs.Acts.{NegotiationActs, begun_here, with_core}
 use Rattle.rtc_polling_laws.specs.PeerActs.{queue_and_role}
 use Rattle.rtc_polling_laws.proofs.ActJoins.{agent_acts_did}

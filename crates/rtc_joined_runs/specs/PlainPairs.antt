@@ -14,7 +14,7 @@ use Rattle.rtc_plain_media.specs.declared.plain_media_event.PlainMediaEvent.{Pla
 use Rattle.rtc_plain_media.specs.declared.plain_mark.PlainMark.{PlainMark}
 use Rattle.rtc_ids.specs.Draws.{Draws}
 use Rattle.rtc_peer_state.specs.Meanings.{Meanings, meanings}
-use Rattle.rtc_polling.specs.declared.polled_peer.PolledPeer.{PolledPeer}
+use Rattle.rtc_connection.specs.declared.polled_peer.PolledPeer.{PolledPeer}
 use Rattle.rtc_polling_laws.specs.PeerActs.{PeerActs, dtls_roles, roles_after}
 use Rattle.rtc_joined_peers.specs.Exchanging.{PeersExchange}
 use Rattle.rtc_history.specs.declared.side.Side.{Side}

@@ -5,7 +5,7 @@ ghost use Rattle.rtc_peer_state.specs.Formats.{AreFormedFormats};
 ghost use Rattle.rtc_peer_state.specs.Formed.{IsFormed};
 ghost use Rattle.rtc_peer_state.specs.Meanings.{meanings};
 ghost use Rattle.rtc_peer_state.specs.Stance.{stance_of};
-ghost use Rattle.rtc_polling.specs.Connection.{no_transport};
+ghost use Rattle.rtc_connection.specs.Connection.{no_transport};
 ghost use Rattle.rtc_peer.specs.BuiltFrom.{standard_config};
 
 use crate::Rtc;

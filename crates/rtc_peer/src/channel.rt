@@ -2,7 +2,7 @@
 ghost use Rattle.std.specs.Prelude.{◌≡◌, None, Some, MatchOption};
 ghost use Rattle.rtc_sctp_entries.specs.Entries.{stream_config};
 ghost use Rattle.rtc_peer_state.specs.Meanings.{meanings};
-ghost use Rattle.rtc_polling.specs.ChannelCalls.{SetsChannelThreshold, WritesChannel, bytes_buffered};
+ghost use Rattle.rtc_connection.specs.ChannelCalls.{SetsChannelThreshold, WritesChannel, bytes_buffered};
 
 use crate::Rtc;
 use rtc_association::Association;

@@ -2,7 +2,7 @@
 ghost use Rattle.std.specs.Prelude.{◌≡◌, IfOk, MatchOption, None, Some, map};
 ghost use Rattle.rtc_channels.specs.Channels.{channel_of_stream, numbered_stream};
 ghost use Rattle.rtc_peer_state.specs.Meanings.{meanings};
-ghost use Rattle.rtc_polling.specs.ChannelCalls.{ClosesDataChannel, stream_under};
+ghost use Rattle.rtc_connection.specs.ChannelCalls.{ClosesDataChannel, stream_under};
 ghost use Rattle.rtc_direct.specs.IceCalls.{SetsControlling, SetsLite, SetsLocalCreds, SetsRemoteCreds, InvalidatesCandidate};
 ghost use Rattle.rtc_direct.specs.DtlsCalls.{with_fingerprint, TakesDtlsRole};
 ghost use Rattle.rtc_direct.specs.ChannelMaking.{StartsStreams, CreatesChannel};

@@ -20,6 +20,7 @@ pub use rtc::Rtc;
 pub use rtc_association::Association;
 pub use rtc_change::{AddMedia, Change, Changes, Lines, NewLine, SdpPendingOffer, Why};
 pub use rtc_channels::{ChannelError, ChannelRow};
+pub use rtc_connection::{ChannelData, Event, Input, Output};
 pub use rtc_dtls::{DtlsError, DtlsInstance, DtlsVersion};
 pub use rtc_ice::{IceAgent, IceConnectionState};
 pub use rtc_ids::Ids;
@@ -31,6 +32,5 @@ pub use rtc_lines::{
 pub use rtc_media::{MediaError, MediaSession, NoStream};
 pub use rtc_parts_values::Reason;
 pub use rtc_peer_state::{RtcConfig, RtcError};
-pub use rtc_polling::{ChannelData, Event, Input, Output};
 pub use rtc_sctp::{ProtoError, SctpError, SctpInitData};
 pub use sdp_api::SdpApi;

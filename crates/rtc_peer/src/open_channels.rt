@@ -3,8 +3,8 @@ ghost use Rattle.std.specs.Prelude.{◌≡◌, None, Some, IfSome, IsSome, Match
 ghost use Rattle.std.specs.Borrow.{RestsIfNone, sem};
 ghost use Rattle.rtc_peer.specs.contracts.rtc.Rtc.{the_row};
 ghost use Rattle.rtc_peer_state.specs.Meanings.{meanings};
-ghost use Rattle.rtc_polling.specs.ChannelCalls.{ClosesDataChannel, open_stream_under};
-ghost use Rattle.rtc_polling.specs.ChannelCalls.{config_under, stream_under};
+ghost use Rattle.rtc_connection.specs.ChannelCalls.{ClosesDataChannel, open_stream_under};
+ghost use Rattle.rtc_connection.specs.ChannelCalls.{config_under, stream_under};
 
 use crate::{Channel, Rtc};
 use rtc_association::Association;

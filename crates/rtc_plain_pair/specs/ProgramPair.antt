@@ -21,7 +21,7 @@ use Rattle.rtc_peer_state.specs.Formats.{default_formats}
 use Rattle.rtc_peer_state.specs.Built.{Builds}
 use Rattle.rtc_peer_state.specs.Config.{Config}
 use Rattle.rtc_peer_state.specs.Meanings.{Meanings, meanings}
-use Rattle.rtc_polling.specs.Connection.{no_transport}
+use Rattle.rtc_connection.specs.Connection.{no_transport}
 use Rattle.rtc_history.specs.PairState.{PairState}
 use Rattle.rtc_plain_pair.specs.declared.peer_settings.PeerSettings.{PeerSettings}
 

@@ -11,7 +11,7 @@ ghost use Rattle.rtc_peer_state.specs.Formed.{IsFormed, IsHostCandidate};
 ghost use Rattle.rtc_peer_state.specs.Stance.{stance_of};
 ghost use Rattle.rtc_history.specs.Fresh.{ArePeersFormed};
 ghost use Rattle.rtc_history.specs.Fresh.{IsFresh, IsJustBuilt};
-ghost use Rattle.rtc_polling.specs.Connection.{no_transport};
+ghost use Rattle.rtc_connection.specs.Connection.{no_transport};
 ghost use Rattle.rtc_plain_pair.specs.ProgramPair.{plain_parts, host_at, program_config, IsProgramPeer, IsProgramPair};
 
 use crate::PeerSettings;

@@ -5,22 +5,22 @@ use Rattle.rtc_ice.specs.declared.ice_event.IceEvent.{IceEvent}
 use Rattle.rtc_ice.specs.declared.ice_event.IceEvent.TheVariants as events
 use Rattle.rtc_dtls.specs.DtlsLaws.{IsLater}
 use Rattle.rtc_peer_state.specs.Meanings.{Meanings}
-use Rattle.rtc_polling.specs.declared.handshake.Handshake.{Handshake}
-use Rattle.rtc_polling.specs.declared.handshake.Handshake.TheVariants.{Pending, Finished, Told}
-use Rattle.rtc_polling.specs.declared.met.Met.{Met}
-use Rattle.rtc_polling.specs.declared.met.Met.TheVariants.{Nothing, Again}
-use Rattle.rtc_polling.specs.declared.polled_peer.PolledPeer.{PolledPeer}
-use Rattle.rtc_polling.specs.declared.send_addr.SendAddr.{SendAddr}
-use Rattle.rtc_polling.specs.declared.transport.Transport.{Transport}
-use Rattle.rtc_polling.specs.Connection.{with_ice}
-use Rattle.rtc_polling.specs.DtlsStages.{TellsConnectedFrom, has_come, is_dtls_due}
-use Rattle.rtc_polling.specs.IceStages.{PollsIceEvent, PollsIceEvents, TakesIceEvent, after_ice_event}
-use Rattle.rtc_polling.specs.MediaStages.{TellsMedia, TellsFallibleMedia}
-use Rattle.rtc_polling.specs.SendStages.{SendsChecks, SendsDtlsPacket, SendsMediaDatagram, SendsBy, SendsByPair}
+use Rattle.rtc_connection.specs.declared.handshake.Handshake.{Handshake}
+use Rattle.rtc_connection.specs.declared.handshake.Handshake.TheVariants.{Pending, Finished, Told}
+use Rattle.rtc_connection.specs.declared.met.Met.{Met}
+use Rattle.rtc_connection.specs.declared.met.Met.TheVariants.{Nothing, Again}
+use Rattle.rtc_connection.specs.declared.polled_peer.PolledPeer.{PolledPeer}
+use Rattle.rtc_connection.specs.declared.send_addr.SendAddr.{SendAddr}
+use Rattle.rtc_connection.specs.declared.transport.Transport.{Transport}
+use Rattle.rtc_connection.specs.Connection.{with_ice}
+use Rattle.rtc_poll_stages.specs.DtlsStages.{TellsConnectedFrom, has_come, is_dtls_due}
+use Rattle.rtc_poll_stages.specs.IceStages.{PollsIceEvent, PollsIceEvents, TakesIceEvent, after_ice_event}
+use Rattle.rtc_poll_stages.specs.MediaStages.{TellsMedia, TellsFallibleMedia}
+use Rattle.rtc_poll_stages.specs.SendStages.{SendsChecks, SendsDtlsPacket, SendsMediaDatagram, SendsBy, SendsByPair}
 use Rattle.rtc_polling.specs.Walk.{TellsArrivals, SendsDatagrams}
-use Rattle.rtc_polling.specs.Statistics.{TellsStatistics}
-use Rattle.rtc_polling.proofs.StageLemmas.{over_carries, went_through}
-use Rattle.rtc_polling.proofs.StatisticsTurns.{statistics_told}
+use Rattle.rtc_connection.specs.Statistics.{TellsStatistics}
+use Rattle.rtc_connection.proofs.StageLemmas.{over_carries, went_through}
+use Rattle.rtc_connection.proofs.StatisticsTurns.{statistics_told}
 
 and_false : (b : Bool) → (b && false) ≡ false
 and_false true = refl

@@ -7,30 +7,30 @@ use Rattle.rtc_dtls.specs.declared.dtls_output.DtlsOutput.TheVariants as outputs
 use Rattle.rtc_peer_state.specs.declared.phase.Phase.{Phase}
 use Rattle.rtc_peer_state.specs.declared.phase.Phase.TheVariants.{Alive, Closing, Closed}
 use Rattle.rtc_peer_state.specs.Meanings.{Meanings}
-use Rattle.rtc_polling.specs.declared.event.Event.TheVariants as told
-use Rattle.rtc_polling.specs.declared.handshake.Handshake.{Handshake}
-use Rattle.rtc_polling.specs.declared.handshake.Handshake.TheVariants.{Pending, Finished, Told}
-use Rattle.rtc_polling.specs.declared.met.Met.{Met}
-use Rattle.rtc_polling.specs.declared.met.Met.TheVariants.{Nothing, Again, Transmit, Event as MetEvent, Error}
-use Rattle.rtc_polling.specs.declared.output.Output.{Output}
-use Rattle.rtc_polling.specs.declared.polled_peer.PolledPeer.{PolledPeer}
-use Rattle.rtc_polling.specs.declared.send_addr.SendAddr.{SendAddr}
+use Rattle.rtc_connection.specs.declared.event.Event.TheVariants as told
+use Rattle.rtc_connection.specs.declared.handshake.Handshake.{Handshake}
+use Rattle.rtc_connection.specs.declared.handshake.Handshake.TheVariants.{Pending, Finished, Told}
+use Rattle.rtc_connection.specs.declared.met.Met.{Met}
+use Rattle.rtc_connection.specs.declared.met.Met.TheVariants.{Nothing, Again, Transmit, Event as MetEvent, Error}
+use Rattle.rtc_connection.specs.declared.output.Output.{Output}
+use Rattle.rtc_connection.specs.declared.polled_peer.PolledPeer.{PolledPeer}
+use Rattle.rtc_connection.specs.declared.send_addr.SendAddr.{SendAddr}
 use Rattle.rtc_peer_state.specs.declared.rtc_error.RtcError.{RtcError}
 use Rattle.rtc_peer_state.specs.declared.rtc_error.RtcError.TheVariants.{RemoteSdp, Dtls, Media, Alloc}
-use Rattle.rtc_polling.specs.Closing.{is_closing_complete}
-use Rattle.rtc_polling.specs.Connection.{with_dtls, with_ice}
-use Rattle.rtc_polling.specs.DtlsStages.{GivesDtlsTime, TimesDtls, TimesDtlsIf, TakesDtlsOutput, TakesDtlsAnswer, PollsDtlsOutput}
-use Rattle.rtc_polling.specs.DtlsStages.{PollsDtlsOutputs, TakesKeys, TakesCloseNotify, HandsPacket, ChecksCert, TellsConnectedFrom, is_dtls_due}
-use Rattle.rtc_polling.specs.IceStages.{PollsIceEvent, PollsIceEvents, TakesIceEvent}
+use Rattle.rtc_connection.specs.Closing.{is_closing_complete}
+use Rattle.rtc_connection.specs.Connection.{with_dtls, with_ice}
+use Rattle.rtc_poll_stages.specs.DtlsStages.{GivesDtlsTime, TimesDtls, TimesDtlsIf, TakesDtlsOutput, TakesDtlsAnswer, PollsDtlsOutput}
+use Rattle.rtc_poll_stages.specs.DtlsStages.{PollsDtlsOutputs, TakesKeys, TakesCloseNotify, HandsPacket, ChecksCert, TellsConnectedFrom, is_dtls_due}
+use Rattle.rtc_poll_stages.specs.IceStages.{PollsIceEvent, PollsIceEvents, TakesIceEvent}
 use Rattle.rtc_polling.specs.Kept.{KeepsNegotiation}
-use Rattle.rtc_polling.specs.MediaStages.{TellsMedia, TellsFallibleMedia}
-use Rattle.rtc_polling.specs.SendStages.{SendsChecks, SendsDtlsPacket, SendsMediaDatagram, SendsBy, SendsByPair}
-use Rattle.rtc_polling.specs.Statistics.{TellsStatistics}
-use Rattle.rtc_polling.specs.StreamStages.{TellsStreams}
+use Rattle.rtc_poll_stages.specs.MediaStages.{TellsMedia, TellsFallibleMedia}
+use Rattle.rtc_poll_stages.specs.SendStages.{SendsChecks, SendsDtlsPacket, SendsMediaDatagram, SendsBy, SendsByPair}
+use Rattle.rtc_connection.specs.Statistics.{TellsStatistics}
+use Rattle.rtc_poll_stages.specs.StreamStages.{TellsStreams}
 use Rattle.rtc_polling.specs.Walk.{StartsOverWhenDue, TellsConnection, TellsArrivals, SendsDatagrams, VisitsParts, WaitsIf, AnswersMet, Walks, PollsPeerFrom, PollsPeer}
 use Rattle.rtc_polling.proofs.KeptCalls.{Keeps, keeps_on, keeps_by, else_keeps, repeats_keeps, close_keeps}
 use Rattle.rtc_polling.proofs.KeptStreams.{streams_keep}
-use Rattle.rtc_polling.proofs.StatisticsTurns.{statistics_told}
+use Rattle.rtc_connection.proofs.StatisticsTurns.{statistics_told}
 
 module _ {I D S M E X T W N : Type 0} (m : Meanings I D S M E X T W N) where
   taken_event_keeps : (event : Option IceEvent) (ice : I) (p : PolledPeer I D S M N) (r : Met E) (q : PolledPeer I D S M N)

@@ -7,16 +7,16 @@ use Rattle.rtc_wire.specs.declared.receive.Receive.{Receive}
 use Rattle.rtc_peer_state.specs.declared.phase.Phase.{Phase}
 use Rattle.rtc_peer_state.specs.declared.phase.Phase.TheVariants.{Alive, Closing, Closed}
 use Rattle.rtc_peer_state.specs.Meanings.{Meanings}
-use Rattle.rtc_polling.specs.declared.input.Input.{Input}
-use Rattle.rtc_polling.specs.declared.input.Input.TheVariants.{Timeout as TimeCame, Receive as Datagram}
-use Rattle.rtc_polling.specs.declared.polled_peer.PolledPeer.{PolledPeer}
+use Rattle.rtc_connection.specs.declared.input.Input.{Input}
+use Rattle.rtc_connection.specs.declared.input.Input.TheVariants.{Timeout as TimeCame, Receive as Datagram}
+use Rattle.rtc_connection.specs.declared.polled_peer.PolledPeer.{PolledPeer}
 use Rattle.rtc_peer_state.specs.declared.rtc_error.RtcError.{RtcError}
 use Rattle.rtc_peer_state.specs.declared.rtc_error.RtcError.TheVariants.{Dtls, Media, Alloc}
 use Rattle.rtc_polling.specs.Inputs.{TimesIce, TimesStreams, TimesChannels, TimesMedia, GivesTime, TakesTimeIf, with_moment, HearsStun, HearsDtls, HearsMedia, HearsKind, Hears, Heard, PartFailed, HandlesInputBy, HandlesInputIn, HandlesInput}
 use Rattle.rtc_polling.specs.Kept.{KeepsNegotiation}
-use Rattle.rtc_polling.specs.Statistics.{TimesStatistics}
+use Rattle.rtc_connection.specs.Statistics.{TimesStatistics}
 use Rattle.rtc_polling.proofs.KeptCalls.{CallKeeps, keeps_on, keeps_by, turn_keeps}
-use Rattle.rtc_polling.proofs.StatisticsTurns.{statistics_timed}
+use Rattle.rtc_connection.proofs.StatisticsTurns.{statistics_timed}
 
 module _ {I D S M E X T W N : Type 0} (m : Meanings I D S M E X T W N) where
   ice_timed_keeps : (now : ℕ) → CallKeeps (TimesIce m now)

@@ -1,15 +1,6 @@
-pub mod StageLemmas
-pub mod IceTurns
-pub mod DtlsTurns
-pub mod StatisticsTurns
 pub mod DueMoments
 pub mod SettledMoments
 pub mod DrainedInput
-pub mod OpenStreams
-pub mod ShortPackets
-pub mod SentPackets
-pub mod StreamWork
-pub mod StreamTurns
 pub mod Visits
 pub mod KeptCalls
 pub mod KeptStreams
@@ -27,4 +18,3 @@ pub mod NumberedChannels
 pub mod NumberedCalls
 pub mod NumberedStages
 pub mod Numbering
-pub mod StandardFacts

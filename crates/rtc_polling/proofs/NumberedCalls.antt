@@ -11,20 +11,20 @@ use Rattle.rtc_peer_state.specs.declared.phase.Phase.TheVariants.{Alive, Closing
 use Rattle.rtc_peer_state.specs.declared.rtc_error.RtcError.{RtcError}
 use Rattle.rtc_peer_state.specs.declared.rtc_error.RtcError.TheVariants.{Dtls, Sctp, Media, Alloc}
 use Rattle.rtc_peer_state.specs.Meanings.{Meanings}
-use Rattle.rtc_polling.specs.declared.event.Event.TheVariants as told
-use Rattle.rtc_polling.specs.declared.input.Input.{Input}
-use Rattle.rtc_polling.specs.declared.input.Input.TheVariants.{Timeout as TimeCame, Receive as Datagram}
-use Rattle.rtc_polling.specs.declared.met.Met.{Met}
-use Rattle.rtc_polling.specs.declared.met.Met.TheVariants.{Nothing, Again, Event as MetEvent}
-use Rattle.rtc_polling.specs.declared.polled_peer.PolledPeer.{PolledPeer}
-use Rattle.rtc_polling.specs.Closing.{ShutsMedia, ShutsStreams, ShutsDtls, BecomesClosing, BeginsClosing, ClosesPeer, ClosesPeerFrom}
+use Rattle.rtc_connection.specs.declared.event.Event.TheVariants as told
+use Rattle.rtc_connection.specs.declared.input.Input.{Input}
+use Rattle.rtc_connection.specs.declared.input.Input.TheVariants.{Timeout as TimeCame, Receive as Datagram}
+use Rattle.rtc_connection.specs.declared.met.Met.{Met}
+use Rattle.rtc_connection.specs.declared.met.Met.TheVariants.{Nothing, Again, Event as MetEvent}
+use Rattle.rtc_connection.specs.declared.polled_peer.PolledPeer.{PolledPeer}
+use Rattle.rtc_connection.specs.Closing.{ShutsMedia, ShutsStreams, ShutsDtls, BecomesClosing, BeginsClosing, ClosesPeer, ClosesPeerFrom}
 use Rattle.rtc_polling.specs.Inputs.{TimesIce, TimesStreams, TimesChannels, TimesMedia, GivesTime, TakesTimeIf, with_moment}
 use Rattle.rtc_polling.specs.Inputs.{HearsStun, HearsDtls, HearsMedia, HearsKind, Hears, Heard, PartFailed, HandlesInputBy, HandlesInputIn, HandlesInput}
 use Rattle.rtc_polling.specs.Numbers.{ChannelNumbers}
-use Rattle.rtc_polling.specs.Stages.{Call, InTurn, Failed, Passed, Stage, FollowedBy, Stopped, WentOn, RepeatsStage}
-use Rattle.rtc_polling.specs.Statistics.{TimesStatistics}
-use Rattle.rtc_polling.proofs.StageLemmas.{over_carries}
-use Rattle.rtc_polling.proofs.StatisticsTurns.{statistics_timed}
+use Rattle.rtc_connection.specs.Stages.{Call, InTurn, Failed, Passed, Stage, FollowedBy, Stopped, WentOn, RepeatsStage}
+use Rattle.rtc_connection.specs.Statistics.{TimesStatistics}
+use Rattle.rtc_connection.proofs.StageLemmas.{over_carries}
+use Rattle.rtc_connection.proofs.StatisticsTurns.{statistics_timed}
 use Rattle.rtc_polling.proofs.NumberedChannels.{Stays, stays_self, stays_same, stays_on, NumbersWhen, numbers_on, numbers_of, moment_stays}
 
 -- the number of the channel that is met as open, if any

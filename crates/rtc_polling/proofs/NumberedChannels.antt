@@ -16,7 +16,7 @@ use Rattle.rtc_channels.proofs.KeptLemmas.{below_more, below_one_more, rising_mo
 use Rattle.rtc_channels.proofs.GivenLemmas.{below_given, below_without, rising_given, rising_without}
 use Rattle.rtc_channels.proofs.OpeningLemmas.{below_opened}
 use Rattle.rtc_polling.specs.Numbers.{ChannelNumbers}
-use Rattle.rtc_polling.specs.StreamStages.{channel_over}
+use Rattle.rtc_poll_stages.specs.StreamStages.{channel_over}
 
 -- no number was given, no row is new, and rows that rise still do
 pub record Stays (held held' : Channels) : Type 0 where

@@ -5,14 +5,14 @@ use Rattle.rtc_peer_state.specs.declared.phase.Phase.{Phase}
 use Rattle.rtc_peer_state.specs.declared.phase.Phase.TheVariants.{Alive, Closing, Closed}
 use Rattle.rtc_peer_state.specs.declared.rtc_error.RtcError.{RtcError}
 use Rattle.rtc_peer_state.specs.Meanings.{Meanings}
-use Rattle.rtc_polling.specs.declared.event.Event.{Event}
-use Rattle.rtc_polling.specs.declared.event.Event.TheVariants as told
-use Rattle.rtc_polling.specs.declared.met.Met.{Met}
-use Rattle.rtc_polling.specs.declared.met.Met.TheVariants.{Nothing, Again, Transmit, Event as MetEvent, Error}
-use Rattle.rtc_polling.specs.declared.output.Output.{Output}
-use Rattle.rtc_polling.specs.declared.output.Output.TheVariants as answers
-use Rattle.rtc_polling.specs.declared.polled_peer.PolledPeer.{PolledPeer}
-use Rattle.rtc_polling.specs.Closing.{is_closing_complete}
+use Rattle.rtc_connection.specs.declared.event.Event.{Event}
+use Rattle.rtc_connection.specs.declared.event.Event.TheVariants as told
+use Rattle.rtc_connection.specs.declared.met.Met.{Met}
+use Rattle.rtc_connection.specs.declared.met.Met.TheVariants.{Nothing, Again, Transmit, Event as MetEvent, Error}
+use Rattle.rtc_connection.specs.declared.output.Output.{Output}
+use Rattle.rtc_connection.specs.declared.output.Output.TheVariants as answers
+use Rattle.rtc_connection.specs.declared.polled_peer.PolledPeer.{PolledPeer}
+use Rattle.rtc_connection.specs.Closing.{is_closing_complete}
 use Rattle.rtc_polling.specs.Numbers.{ChannelNumbers, number_told}
 use Rattle.rtc_polling.specs.Walk.{VisitsParts, WaitsIf, AnswersMet, Walks, PollsPeerFrom, PollsPeer}
 use Rattle.rtc_polling.proofs.NumberedChannels.{NumbersWhen, numbers_of}

@@ -11,18 +11,18 @@ use Rattle.rtc_dtls.specs.DtlsMeaning.{DtlsMeaning}
 use Rattle.rtc_dtls.specs.DtlsState.{DtlsState, PollsOutput, HandsOn, drawn_by}
 use Rattle.rtc_dtls.specs.DtlsWords.{takes}
 use Rattle.rtc_peer_state.specs.Meanings.{Meanings}
-use Rattle.rtc_polling.specs.declared.handshake.Handshake.{Handshake}
-use Rattle.rtc_polling.specs.declared.handshake.Handshake.TheVariants.{Pending, Finished, Told}
-use Rattle.rtc_polling.specs.declared.met.Met.TheVariants.{Nothing, Again}
-use Rattle.rtc_polling.specs.declared.polled_peer.PolledPeer.{PolledPeer}
-use Rattle.rtc_polling.specs.Connection.{with_dtls}
-use Rattle.rtc_polling.specs.DtlsStages.{GivesDtlsTime, TimesDtls, TimesDtlsIf, TakesDtlsOutput, TakesDtlsAnswer, PollsDtlsOutput}
-use Rattle.rtc_polling.specs.DtlsStages.{PollsDtlsOutputs, TakesKeys, TakesCloseNotify, HandsPacket, ChecksCert, TellsConnected, TellsConnectedFrom, has_come, is_dtls_due}
-use Rattle.rtc_polling.specs.IceStages.{PollsIceEvent, PollsIceEvents}
-use Rattle.rtc_polling.specs.Stages.{FollowedBy}
+use Rattle.rtc_connection.specs.declared.handshake.Handshake.{Handshake}
+use Rattle.rtc_connection.specs.declared.handshake.Handshake.TheVariants.{Pending, Finished, Told}
+use Rattle.rtc_connection.specs.declared.met.Met.TheVariants.{Nothing, Again}
+use Rattle.rtc_connection.specs.declared.polled_peer.PolledPeer.{PolledPeer}
+use Rattle.rtc_connection.specs.Connection.{with_dtls}
+use Rattle.rtc_poll_stages.specs.DtlsStages.{GivesDtlsTime, TimesDtls, TimesDtlsIf, TakesDtlsOutput, TakesDtlsAnswer, PollsDtlsOutput}
+use Rattle.rtc_poll_stages.specs.DtlsStages.{PollsDtlsOutputs, TakesKeys, TakesCloseNotify, HandsPacket, ChecksCert, TellsConnected, TellsConnectedFrom, has_come, is_dtls_due}
+use Rattle.rtc_poll_stages.specs.IceStages.{PollsIceEvent, PollsIceEvents}
+use Rattle.rtc_connection.specs.Stages.{FollowedBy}
 use Rattle.rtc_polling.specs.Walk.{TellsConnection}
-use Rattle.rtc_polling.proofs.DtlsTurns.{taken_output}
-use Rattle.rtc_polling.proofs.StageLemmas.{NeverAgain, repeats_never, over_carries, went_through, else_never}
+use Rattle.rtc_poll_stages.proofs.DtlsTurns.{taken_output}
+use Rattle.rtc_connection.proofs.StageLemmas.{NeverAgain, repeats_never, over_carries, went_through, else_never}
 use Rattle.rtc_polling.proofs.DueMoments.{later_is_to_come, due_kept, ice_keeps, connected_keeps}
 
 -- what was drawn is an act

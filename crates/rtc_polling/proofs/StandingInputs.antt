@@ -17,9 +17,9 @@ use Rattle.rtc_peer_state.specs.declared.phase.Phase.TheVariants.{Alive, Closing
 use Rattle.rtc_peer_state.specs.Meanings.{Meanings}
 use Rattle.rtc_peer_state.specs.ChannelRows.{channel_rows}
 use Rattle.rtc_peer_state.specs.Stance.{Stance, stance_of}
-use Rattle.rtc_polling.specs.declared.input.Input.{Input}
-use Rattle.rtc_polling.specs.declared.input.Input.TheVariants.{Timeout as TimeCame, Receive as Datagram}
-use Rattle.rtc_polling.specs.declared.polled_peer.PolledPeer.{PolledPeer}
+use Rattle.rtc_connection.specs.declared.input.Input.{Input}
+use Rattle.rtc_connection.specs.declared.input.Input.TheVariants.{Timeout as TimeCame, Receive as Datagram}
+use Rattle.rtc_connection.specs.declared.polled_peer.PolledPeer.{PolledPeer}
 use Rattle.rtc_peer_state.specs.declared.rtc_error.RtcError.{RtcError}
 use Rattle.rtc_peer_state.specs.declared.rtc_error.RtcError.TheVariants.{Dtls, Media, Alloc}
 use Rattle.rtc_polling.specs.Inputs.{TimesIce, TimesStreams, TimesChannels, TimesMedia, with_moment, GivesTime, TakesTimeIf, HearsStun, HearsDtls, HearsMedia, HearsKind, Hears, Heard, PartFailed, HandlesInputBy, HandlesInputIn, HandlesInput}
@@ -27,8 +27,8 @@ use Rattle.rtc_polling.specs.Kept.{KeepsNegotiation, KeepsParts}
 use Rattle.rtc_ready.specs.Signals.{both}
 use Rattle.rtc_polling.proofs.DtlsRoles.{hands_on_role}
 use Rattle.rtc_polling.proofs.StreamSizes.{timed_size, moment_size}
-use Rattle.rtc_polling.specs.Statistics.{TimesStatistics}
-use Rattle.rtc_polling.proofs.StatisticsTurns.{VisitedOnce, statistics_timed}
+use Rattle.rtc_connection.specs.Statistics.{TimesStatistics}
+use Rattle.rtc_connection.proofs.StatisticsTurns.{VisitedOnce, statistics_timed}
 use Rattle.rtc_polling.proofs.StreamStarts.{start_self, started_same, timed_start, moment_start}
 use Rattle.rtc_sctp_values.specs.SnapHalves.{KeptHalves}
 use Rattle.rtc_association.specs.AssociationLaws.{AssociationLaws}

@@ -9,14 +9,14 @@ use Rattle.rtc_peer_state.specs.declared.phase.Phase.TheVariants.{Closed}
 use Rattle.rtc_peer_state.specs.Meanings.{Meanings}
 use Rattle.rtc_sctp_entries.specs.declared.sctp_event.SctpEvent.{SctpEvent}
 use Rattle.rtc_sctp_entries.specs.declared.sctp_event.SctpEvent.TheVariants as event
-use Rattle.rtc_polling.specs.declared.event.Event.TheVariants as told
-use Rattle.rtc_polling.specs.declared.met.Met.TheVariants.{Nothing, Again, Transmit, Event as MetEvent, Error}
-use Rattle.rtc_polling.specs.declared.polled_peer.PolledPeer.{PolledPeer}
+use Rattle.rtc_connection.specs.declared.event.Event.TheVariants as told
+use Rattle.rtc_connection.specs.declared.met.Met.TheVariants.{Nothing, Again, Transmit, Event as MetEvent, Error}
+use Rattle.rtc_connection.specs.declared.polled_peer.PolledPeer.{PolledPeer}
 use Rattle.rtc_peer_state.specs.declared.rtc_error.RtcError.TheVariants.{Dtls, Alloc}
-use Rattle.rtc_polling.specs.Closing.{is_phase_closing}
-use Rattle.rtc_polling.specs.Connection.{with_dtls, with_sctp, with_channels, with_pushed}
+use Rattle.rtc_connection.specs.Closing.{is_phase_closing}
+use Rattle.rtc_connection.specs.Connection.{with_dtls, with_sctp, with_channels, with_pushed}
 use Rattle.rtc_polling.specs.Kept.{KeepsParts, KeepsStart}
-use Rattle.rtc_polling.specs.StreamStages.{OpensChannelOver, ClosesChannelOver, HearsChannelOver, FallsChannelOver, LosesAssociation, TakesStreamEvent, TakesStreamAnswer, PollsStreamEvent, PollsStreamEvents, SendsPacket, SendsFirst, SendsKeptPackets, TellsStreams, channel_over, left_over}
+use Rattle.rtc_poll_stages.specs.StreamStages.{OpensChannelOver, ClosesChannelOver, HearsChannelOver, FallsChannelOver, LosesAssociation, TakesStreamEvent, TakesStreamAnswer, PollsStreamEvent, PollsStreamEvents, SendsPacket, SendsFirst, SendsKeptPackets, TellsStreams, channel_over, left_over}
 use Rattle.rtc_polling.proofs.DtlsRoles.{KeepsRole, sends_role}
 use Rattle.rtc_channels.specs.Holds.{holds_lost}
 use Rattle.rtc_polling.proofs.StreamSizes.{polled_size}

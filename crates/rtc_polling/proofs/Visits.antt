@@ -5,28 +5,28 @@ use Rattle.std.proofs.Common.{◌∷◌, Option, Some, None, Result, refl, sym, 
 use Rattle.rtc_dtls.specs.DtlsLaws.{DtlsLaws}
 use Rattle.rtc_dtls.specs.DtlsState.{DtlsState, GivesPacket}
 use Rattle.rtc_dtls.specs.declared.dtls_error.DtlsError.{DtlsError}
-use Rattle.rtc_polling.specs.declared.transport.Transport.{Transport}
+use Rattle.rtc_connection.specs.declared.transport.Transport.{Transport}
 use Rattle.rtc_peer_state.specs.Meanings.{Meanings}
-use Rattle.rtc_polling.specs.declared.met.Met.{Met}
-use Rattle.rtc_polling.specs.declared.met.Met.TheVariants.{Nothing, Again}
-use Rattle.rtc_polling.specs.declared.polled_peer.PolledPeer.{PolledPeer}
-use Rattle.rtc_polling.specs.declared.send_addr.SendAddr.{SendAddr}
-use Rattle.rtc_polling.specs.DtlsStages.{is_dtls_due}
-use Rattle.rtc_polling.specs.MediaStages.{TellsMedia, TellsFallibleMedia}
-use Rattle.rtc_polling.specs.SendStages.{SendsChecks, SendsDtlsPacket, SendsMediaDatagram, SendsBy, SendsByPair}
-use Rattle.rtc_polling.specs.Stages.{FollowedBy, Stopped, WentOn}
-use Rattle.rtc_polling.specs.Statistics.{TellsStatistics}
-use Rattle.rtc_polling.proofs.StatisticsTurns.{statistics_told, statistics_never}
+use Rattle.rtc_connection.specs.declared.met.Met.{Met}
+use Rattle.rtc_connection.specs.declared.met.Met.TheVariants.{Nothing, Again}
+use Rattle.rtc_connection.specs.declared.polled_peer.PolledPeer.{PolledPeer}
+use Rattle.rtc_connection.specs.declared.send_addr.SendAddr.{SendAddr}
+use Rattle.rtc_poll_stages.specs.DtlsStages.{is_dtls_due}
+use Rattle.rtc_poll_stages.specs.MediaStages.{TellsMedia, TellsFallibleMedia}
+use Rattle.rtc_poll_stages.specs.SendStages.{SendsChecks, SendsDtlsPacket, SendsMediaDatagram, SendsBy, SendsByPair}
+use Rattle.rtc_connection.specs.Stages.{FollowedBy, Stopped, WentOn}
+use Rattle.rtc_connection.specs.Statistics.{TellsStatistics}
+use Rattle.rtc_connection.proofs.StatisticsTurns.{statistics_told, statistics_never}
 use Rattle.rtc_polling.specs.Walk.{StartsOverWhenDue, TellsConnection, TellsArrivals, SendsDatagrams, VisitsParts}
-use Rattle.rtc_polling.proofs.StageLemmas.{NeverAgain, repeats_never, went_through, else_again, else_never}
+use Rattle.rtc_connection.proofs.StageLemmas.{NeverAgain, repeats_never, went_through, else_again, else_never}
 use Rattle.rtc_polling.proofs.DueMoments.{KeepsMoments, due_kept, keeps_as, keeps_join, arrivals_keep, datagrams_keep}
 use Rattle.rtc_association.specs.AssociationLaws.{AssociationLaws}
 use Rattle.rtc_sctp.specs.Streams.{SctpStreams}
-use Rattle.rtc_polling.specs.StreamStages.{PollsStreamEvent, PollsStreamEvents, SendsKeptPackets, TellsStreams}
+use Rattle.rtc_poll_stages.specs.StreamStages.{PollsStreamEvent, PollsStreamEvents, SendsKeptPackets, TellsStreams}
 use Rattle.rtc_polling.proofs.SettledMoments.{connection_settles, connection_never}
 use Rattle.rtc_polling.proofs.DrainedInput.{input_of, input_left, SameParts, parts_by, parts_on, input_same, connection_drains, connection_quiet}
-use Rattle.rtc_polling.proofs.StreamWork.{sctp_work}
-use Rattle.rtc_polling.proofs.StreamTurns.{peer_work, SentData, streams_polled, kept_stay, kept_relayed}
+use Rattle.rtc_poll_stages.proofs.StreamWork.{sctp_work}
+use Rattle.rtc_poll_stages.proofs.StreamTurns.{peer_work, SentData, streams_polled, kept_stay, kept_relayed}
 
 abbrev pub left_if : Bool → ℕ
 left_if true = 0

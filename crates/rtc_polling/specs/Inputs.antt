@@ -16,15 +16,15 @@ use Rattle.rtc_media.specs.declared.media_error.MediaError.TheVariants.{Alloc as
 use Rattle.rtc_peer_state.specs.declared.phase.Phase.{Phase}
 use Rattle.rtc_peer_state.specs.declared.phase.Phase.TheVariants.{Alive, Closing, Closed}
 use Rattle.rtc_peer_state.specs.Meanings.{Meanings}
-use Rattle.rtc_polling.specs.declared.input.Input.{Input}
-use Rattle.rtc_polling.specs.declared.input.Input.TheVariants.{Timeout, Receive as Datagram}
+use Rattle.rtc_connection.specs.declared.input.Input.{Input}
+use Rattle.rtc_connection.specs.declared.input.Input.TheVariants.{Timeout, Receive as Datagram}
 use Rattle.rtc_peer_state.specs.declared.rtc_error.RtcError.{RtcError}
 use Rattle.rtc_peer_state.specs.declared.rtc_error.RtcError.TheVariants.{Dtls, Media, Alloc}
-use Rattle.rtc_polling.specs.declared.polled_peer.PolledPeer.{PolledPeer}
-use Rattle.rtc_polling.specs.Connection.{with_ice, with_dtls, with_media, with_sctp, with_channels, closed_peer}
-use Rattle.rtc_polling.specs.SendStages.{bytes_counted}
-use Rattle.rtc_polling.specs.Statistics.{TimesStatistics}
-use Rattle.rtc_polling.specs.Stages.{Call, InTurn}
+use Rattle.rtc_connection.specs.declared.polled_peer.PolledPeer.{PolledPeer}
+use Rattle.rtc_connection.specs.Connection.{with_ice, with_dtls, with_media, with_sctp, with_channels, closed_peer}
+use Rattle.rtc_poll_stages.specs.SendStages.{bytes_counted}
+use Rattle.rtc_connection.specs.Statistics.{TimesStatistics}
+use Rattle.rtc_connection.specs.Stages.{Call, InTurn}
 
 -- the peer that took a moment
 abbrev pub with_moment : {I D S M N : Type 0} → ℕ → PolledPeer I D S M N → PolledPeer I D S M N

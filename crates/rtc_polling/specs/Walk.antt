@@ -5,22 +5,22 @@ use Rattle.rtc_parts_values.specs.declared.reason.Reason.TheVariants.{NotHappeni
 use Rattle.rtc_peer_state.specs.declared.phase.Phase.{Phase}
 use Rattle.rtc_peer_state.specs.declared.phase.Phase.TheVariants.{Alive, Closing, Closed}
 use Rattle.rtc_peer_state.specs.Meanings.{Meanings}
-use Rattle.rtc_polling.specs.declared.met.Met.{Met}
-use Rattle.rtc_polling.specs.declared.met.Met.TheVariants.{Nothing, Again, Transmit as MetTransmit, Event as MetEvent, Error}
-use Rattle.rtc_polling.specs.declared.output.Output.{Output}
-use Rattle.rtc_polling.specs.declared.output.Output.TheVariants.{Timeout, Transmit, Event}
+use Rattle.rtc_connection.specs.declared.met.Met.{Met}
+use Rattle.rtc_connection.specs.declared.met.Met.TheVariants.{Nothing, Again, Transmit as MetTransmit, Event as MetEvent, Error}
+use Rattle.rtc_connection.specs.declared.output.Output.{Output}
+use Rattle.rtc_connection.specs.declared.output.Output.TheVariants.{Timeout, Transmit, Event}
 use Rattle.rtc_peer_state.specs.declared.rtc_error.RtcError.{RtcError}
-use Rattle.rtc_polling.specs.declared.polled_peer.PolledPeer.{PolledPeer}
-use Rattle.rtc_polling.specs.Closing.{is_closing_complete}
-use Rattle.rtc_polling.specs.Connection.{closed_peer}
-use Rattle.rtc_polling.specs.Deadlines.{least_deadline, wake_moment}
-use Rattle.rtc_polling.specs.DtlsStages.{TimesDtls, PollsDtlsOutputs, TellsConnected, is_dtls_due}
-use Rattle.rtc_polling.specs.IceStages.{PollsIceEvents}
-use Rattle.rtc_polling.specs.MediaStages.{TellsMedia, TellsFallibleMedia}
-use Rattle.rtc_polling.specs.SendStages.{SendsChecks, SendsByPair}
-use Rattle.rtc_polling.specs.Statistics.{TellsStatistics}
-use Rattle.rtc_polling.specs.StreamStages.{TellsStreams}
-use Rattle.rtc_polling.specs.Stages.{Stage, FollowedBy, RepeatsStage}
+use Rattle.rtc_connection.specs.declared.polled_peer.PolledPeer.{PolledPeer}
+use Rattle.rtc_connection.specs.Closing.{is_closing_complete}
+use Rattle.rtc_connection.specs.Connection.{closed_peer}
+use Rattle.rtc_connection.specs.Deadlines.{least_deadline, wake_moment}
+use Rattle.rtc_poll_stages.specs.DtlsStages.{TimesDtls, PollsDtlsOutputs, TellsConnected, is_dtls_due}
+use Rattle.rtc_poll_stages.specs.IceStages.{PollsIceEvents}
+use Rattle.rtc_poll_stages.specs.MediaStages.{TellsMedia, TellsFallibleMedia}
+use Rattle.rtc_poll_stages.specs.SendStages.{SendsChecks, SendsByPair}
+use Rattle.rtc_connection.specs.Statistics.{TellsStatistics}
+use Rattle.rtc_poll_stages.specs.StreamStages.{TellsStreams}
+use Rattle.rtc_connection.specs.Stages.{Stage, FollowedBy, RepeatsStage}
 
 -- the peer that answered a timeout for a reason
 abbrev pub with_reason : {I D S M N : Type 0} → Reason → PolledPeer I D S M N → PolledPeer I D S M N

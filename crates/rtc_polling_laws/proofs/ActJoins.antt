@@ -21,7 +21,7 @@ use Rattle.rtc_sctp_laws.specs.StreamMessages.{StreamMessage, write_act, read_ac
 use Rattle.rtc_sctp_laws.proofs.ActLemmas.{named-append}
 use Rattle.rtc_sctp_laws.proofs.ClosingPolls.{started_moved}
 use Rattle.rtc_peer_state.specs.Meanings.{Meanings}
-use Rattle.rtc_polling.specs.declared.polled_peer.PolledPeer.{PolledPeer}
+use Rattle.rtc_connection.specs.declared.polled_peer.PolledPeer.{PolledPeer}
 use Rattle.rtc_polling_laws.specs.PeerActs.{acts_with, Came, peer_acts, media_given, media_taken, ice_moments, dtls_moments, media_moments, contents_taken}
 use Rattle.rtc_polling_laws.specs.PeerActs.{dtls_roles, queue_and_role, roles_after}
 use Rattle.rtc_polling_laws.specs.Acts.{PeerDid}

@@ -32,7 +32,7 @@ use Rattle.rtc_peer_state.specs.SdpMoves.{followed_restart, answer_ids, halves_f
 use Rattle.rtc_peer_state.specs.PartMoves.{needs_start, StartsSctp, remote_limit, StopsMoving, AtAgent, AtRole, AtStart}
 use Rattle.rtc_peer_state.specs.StoppedAcceptances.{StopsPreparing, BeforeSources, AmongDraws, AtUpdates, StopsAccepting, AtVerdict, AtPreparing, AtParts}
 use Rattle.rtc_peer_state.specs.Acceptances.{AcceptsOffer, AcceptsAnswer}
-use Rattle.rtc_polling.specs.declared.polled_peer.PolledPeer.{PolledPeer}
+use Rattle.rtc_connection.specs.declared.polled_peer.PolledPeer.{PolledPeer}
 use Rattle.rtc_polling_laws.specs.PeerActs.{peer_acts, contents_taken}
 use Rattle.rtc_polling_laws.specs.Acts.{NegotiationActs, with_core}
 use Rattle.rtc_polling_laws.proofs.StreamCallActs.{call_none}

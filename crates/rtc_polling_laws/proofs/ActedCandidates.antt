@@ -6,7 +6,7 @@ use Rattle.rtc_sdp_values.specs.declared.candidate.Candidate.{Candidate}
 use Rattle.rtc_ice.specs.IceActs.{Stirred as IceStirred, LocalAdded, RemoteAdded, ice_moved-one}
 use Rattle.rtc_sctp_laws.specs.StreamMessages.{pushed_packets}
 use Rattle.rtc_peer_state.specs.Meanings.{Meanings}
-use Rattle.rtc_polling.specs.declared.polled_peer.PolledPeer.{PolledPeer}
+use Rattle.rtc_connection.specs.declared.polled_peer.PolledPeer.{PolledPeer}
 use Rattle.rtc_polling_laws.specs.PeerActs.{peer_acts, contents_taken}
 use Rattle.rtc_polling_laws.specs.Acts.{CallActs, with_agent}
 use Rattle.rtc_polling_laws.proofs.FollowedParts.{AgentTold}

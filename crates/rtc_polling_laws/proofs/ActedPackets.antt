@@ -11,12 +11,12 @@ use Rattle.rtc_sctp.specs.Streams.{SctpStreams}
 use Rattle.rtc_sctp_laws.specs.StreamMessages.{pushed_packets}
 use Rattle.rtc_peer_state.specs.declared.rtc_error.RtcError.TheVariants.{Dtls, Alloc}
 use Rattle.rtc_peer_state.specs.Meanings.{Meanings, PartsLaws}
-use Rattle.rtc_polling.specs.declared.met.Met.{Met}
-use Rattle.rtc_polling.specs.declared.met.Met.TheVariants.{Nothing, Again, Error}
-use Rattle.rtc_polling.specs.declared.polled_peer.PolledPeer.{PolledPeer}
-use Rattle.rtc_polling.specs.Closing.{is_phase_closing}
-use Rattle.rtc_polling.specs.Connection.{with_pushed}
-use Rattle.rtc_polling.specs.StreamStages.{SendsPacket, SendsFirst, left_over}
+use Rattle.rtc_connection.specs.declared.met.Met.{Met}
+use Rattle.rtc_connection.specs.declared.met.Met.TheVariants.{Nothing, Again, Error}
+use Rattle.rtc_connection.specs.declared.polled_peer.PolledPeer.{PolledPeer}
+use Rattle.rtc_connection.specs.Closing.{is_phase_closing}
+use Rattle.rtc_connection.specs.Connection.{with_pushed}
+use Rattle.rtc_poll_stages.specs.StreamStages.{SendsPacket, SendsFirst, left_over}
 use Rattle.rtc_polling_laws.specs.PeerActs.{peer_acts, nothing_came, dtls_moments, dtls_roles, roles_after}
 use Rattle.rtc_polling_laws.specs.Acts.{PeerDid}
 use Rattle.rtc_polling_laws.proofs.StreamsJoin.{answer_met, TellsNoOpening, states_by}

@@ -18,14 +18,14 @@ use Rattle.rtc_channels.specs.Allocation.{channel_ensured}
 use Rattle.rtc_channels.specs.Holds.{channels_without, holds_lost, removed_channel}
 use Rattle.rtc_peer_state.specs.declared.rtc_error.RtcError.TheVariants.{Alloc}
 use Rattle.rtc_peer_state.specs.Meanings.{Meanings, PartsLaws}
-use Rattle.rtc_polling.specs.declared.event.Event.TheVariants as told
-use Rattle.rtc_polling.specs.declared.met.Met.{Met}
-use Rattle.rtc_polling.specs.declared.met.Met.TheVariants.{Nothing, Again, Event as MetEvent, Error}
-use Rattle.rtc_polling.specs.declared.polled_peer.PolledPeer.{PolledPeer}
-use Rattle.rtc_polling.specs.Connection.{with_sctp, with_channels, with_pushed}
-use Rattle.rtc_polling.specs.StreamStages.{OpensChannelOver, ClosesChannelOver, HearsChannelOver, FallsChannelOver, LosesAssociation, TakesStreamEvent, TakesStreamAnswer}
-use Rattle.rtc_polling.specs.StreamStages.{PollsStreamEvent, PollsStreamEvents, SendsKeptPackets, TellsStreams, channel_over}
-use Rattle.rtc_polling.proofs.StreamWork.{poll_none}
+use Rattle.rtc_connection.specs.declared.event.Event.TheVariants as told
+use Rattle.rtc_connection.specs.declared.met.Met.{Met}
+use Rattle.rtc_connection.specs.declared.met.Met.TheVariants.{Nothing, Again, Event as MetEvent, Error}
+use Rattle.rtc_connection.specs.declared.polled_peer.PolledPeer.{PolledPeer}
+use Rattle.rtc_connection.specs.Connection.{with_sctp, with_channels, with_pushed}
+use Rattle.rtc_poll_stages.specs.StreamStages.{OpensChannelOver, ClosesChannelOver, HearsChannelOver, FallsChannelOver, LosesAssociation, TakesStreamEvent, TakesStreamAnswer}
+use Rattle.rtc_poll_stages.specs.StreamStages.{PollsStreamEvent, PollsStreamEvents, SendsKeptPackets, TellsStreams, channel_over}
+use Rattle.rtc_poll_stages.proofs.StreamWork.{poll_none}
 use Rattle.rtc_polling_laws.specs.ChannelStreams.{HasNoRow, TellsMessage, Announced, NoNumber}
 use Rattle.rtc_polling_laws.proofs.ChangedRows.{closed_row}
 use Rattle.rtc_polling_laws.proofs.ChannelsOver.{ensured_over, without_over, same_stream, ensured_gone, removed_gone, none_left}

@@ -17,15 +17,15 @@ use Rattle.rtc_media.specs.MediaActs.{MediaStirred, Keyed, media_moved-one}
 use Rattle.rtc_peer_state.specs.declared.rtc_error.RtcError.{RtcError}
 use Rattle.rtc_peer_state.specs.declared.rtc_error.RtcError.TheVariants.{RemoteSdp, Dtls, Alloc}
 use Rattle.rtc_peer_state.specs.Meanings.{Meanings, PartsLaws}
-use Rattle.rtc_polling.specs.declared.event.Event.TheVariants as told
-use Rattle.rtc_polling.specs.declared.met.Met.{Met}
-use Rattle.rtc_polling.specs.declared.met.Met.TheVariants.{Nothing, Again, Event as MetEvent, Error}
-use Rattle.rtc_polling.specs.declared.polled_peer.PolledPeer.{PolledPeer}
-use Rattle.rtc_polling.specs.Closing.{ClosesPeer}
-use Rattle.rtc_polling.specs.Connection.{with_ice}
-use Rattle.rtc_polling.specs.DtlsStages.{GivesDtlsTime, TimesDtlsIf}
-use Rattle.rtc_polling.specs.DtlsStages.{TakesKeys, TakesCloseNotify, ChecksCert}
-use Rattle.rtc_polling.specs.IceStages.{TakesIceEvent}
+use Rattle.rtc_connection.specs.declared.event.Event.TheVariants as told
+use Rattle.rtc_connection.specs.declared.met.Met.{Met}
+use Rattle.rtc_connection.specs.declared.met.Met.TheVariants.{Nothing, Again, Event as MetEvent, Error}
+use Rattle.rtc_connection.specs.declared.polled_peer.PolledPeer.{PolledPeer}
+use Rattle.rtc_connection.specs.Closing.{ClosesPeer}
+use Rattle.rtc_connection.specs.Connection.{with_ice}
+use Rattle.rtc_poll_stages.specs.DtlsStages.{GivesDtlsTime, TimesDtlsIf}
+use Rattle.rtc_poll_stages.specs.DtlsStages.{TakesKeys, TakesCloseNotify, ChecksCert}
+use Rattle.rtc_poll_stages.specs.IceStages.{TakesIceEvent}
 use Rattle.rtc_polling_laws.specs.PeerActs.{nothing_came, queue_and_role}
 use Rattle.rtc_polling_laws.specs.Acts.{PeerDid}
 use Rattle.rtc_polling_laws.proofs.ActJoins.{ice_did, dtls_did, media_did, still_did}

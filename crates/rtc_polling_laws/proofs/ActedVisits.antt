@@ -10,19 +10,19 @@ use Rattle.rtc_media.specs.MediaActs.{MediaTaken, MediaStirred, EventTold, Falli
 use Rattle.rtc_sctp_laws.specs.StreamMessages.{pushed_packets}
 use Rattle.rtc_peer_state.specs.declared.rtc_error.RtcError.TheVariants.{Media, Alloc}
 use Rattle.rtc_peer_state.specs.Meanings.{Meanings, PartsLaws}
-use Rattle.rtc_polling.specs.declared.event.Event.TheVariants as told
-use Rattle.rtc_polling.specs.declared.met.Met.{Met}
-use Rattle.rtc_polling.specs.declared.met.Met.TheVariants.{Nothing, Again, Transmit, Event as MetEvent, Error}
-use Rattle.rtc_polling.specs.declared.polled_peer.PolledPeer.{PolledPeer}
-use Rattle.rtc_polling.specs.declared.send_addr.SendAddr.{SendAddr}
-use Rattle.rtc_polling.specs.DtlsStages.{is_dtls_due}
-use Rattle.rtc_polling.specs.MediaStages.{TellsMedia, TellsFallibleMedia}
-use Rattle.rtc_polling.specs.SendStages.{SendsChecks, SendsDtlsPacket, SendsMediaDatagram, SendsBy, SendsByPair}
+use Rattle.rtc_connection.specs.declared.event.Event.TheVariants as told
+use Rattle.rtc_connection.specs.declared.met.Met.{Met}
+use Rattle.rtc_connection.specs.declared.met.Met.TheVariants.{Nothing, Again, Transmit, Event as MetEvent, Error}
+use Rattle.rtc_connection.specs.declared.polled_peer.PolledPeer.{PolledPeer}
+use Rattle.rtc_connection.specs.declared.send_addr.SendAddr.{SendAddr}
+use Rattle.rtc_poll_stages.specs.DtlsStages.{is_dtls_due}
+use Rattle.rtc_poll_stages.specs.MediaStages.{TellsMedia, TellsFallibleMedia}
+use Rattle.rtc_poll_stages.specs.SendStages.{SendsChecks, SendsDtlsPacket, SendsMediaDatagram, SendsBy, SendsByPair}
 use Rattle.rtc_media.specs.declared.stats_event.StatsEvent.{StatsEvent}
 use Rattle.rtc_media.specs.declared.stats_event.StatsEvent.TheVariants as reports
 use Rattle.rtc_statistics.specs.Stats.{Reporting}
-use Rattle.rtc_polling.specs.Statistics.{TellsReport, TellsReportOf, TellsStatistics}
-use Rattle.rtc_polling.specs.StreamStages.{TellsStreams}
+use Rattle.rtc_connection.specs.Statistics.{TellsReport, TellsReportOf, TellsStatistics}
+use Rattle.rtc_poll_stages.specs.StreamStages.{TellsStreams}
 use Rattle.rtc_polling.specs.Walk.{StartsOverWhenDue, TellsConnection, TellsArrivals, SendsDatagrams, VisitsParts}
 use Rattle.rtc_polling_laws.specs.PeerActs.{peer_acts, nothing_came, queue_and_role}
 use Rattle.rtc_polling_laws.specs.Acts.{PeerDid}

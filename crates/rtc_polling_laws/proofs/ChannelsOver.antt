@@ -4,7 +4,7 @@ use Rattle.std.proofs.lemmas.Bool.{eqb-true, ne_eqb}
 use Rattle.rtc_channels.specs.Channels.{Channel, Channels, AreRising, has_id, is_of_stream, numbered_stream, channel_of_stream, stream_of_channel}
 use Rattle.rtc_channels.specs.Allocation.{channel_ensured, is_ensured, opened_by_other}
 use Rattle.rtc_channels.specs.Holds.{channels_without, removed_channel}
-use Rattle.rtc_polling.specs.StreamStages.{channel_over}
+use Rattle.rtc_poll_stages.specs.StreamStages.{channel_over}
 use Rattle.rtc_polling_laws.specs.ChannelStreams.{HasNoRow, IsGone}
 
 abbrev pub over_rows : ℕ → List Channel → Option ℕ

@@ -8,13 +8,13 @@ use Rattle.rtc_peer_state.specs.declared.phase.Phase.TheVariants.{Alive, Closing
 use Rattle.rtc_peer_state.specs.declared.rtc_error.RtcError.{RtcError}
 use Rattle.rtc_peer_state.specs.declared.rtc_error.RtcError.TheVariants.{Alloc}
 use Rattle.rtc_peer_state.specs.Meanings.{Meanings, PartsLaws}
-use Rattle.rtc_polling.specs.declared.met.Met.{Met}
-use Rattle.rtc_polling.specs.declared.met.Met.TheVariants.{Nothing, Again, Transmit, Event as MetEvent, Error}
-use Rattle.rtc_polling.specs.declared.output.Output.{Output}
-use Rattle.rtc_polling.specs.declared.output.Output.TheVariants.{Timeout}
-use Rattle.rtc_polling.specs.declared.polled_peer.PolledPeer.{PolledPeer}
-use Rattle.rtc_polling.specs.Closing.{is_closing_complete}
-use Rattle.rtc_polling.specs.Deadlines.{least_deadline, wake_moment}
+use Rattle.rtc_connection.specs.declared.met.Met.{Met}
+use Rattle.rtc_connection.specs.declared.met.Met.TheVariants.{Nothing, Again, Transmit, Event as MetEvent, Error}
+use Rattle.rtc_connection.specs.declared.output.Output.{Output}
+use Rattle.rtc_connection.specs.declared.output.Output.TheVariants.{Timeout}
+use Rattle.rtc_connection.specs.declared.polled_peer.PolledPeer.{PolledPeer}
+use Rattle.rtc_connection.specs.Closing.{is_closing_complete}
+use Rattle.rtc_connection.specs.Deadlines.{least_deadline, wake_moment}
 use Rattle.rtc_polling.specs.Walk.{VisitsParts, Waits, WaitsIf, AnswersMet, Walks, PollsPeerFrom, PollsPeer, with_reason}
 use Rattle.rtc_polling_laws.specs.Drained.{AnswersAgain}
 use Rattle.rtc_polling_laws.proofs.RestingConnection.{Rests, repeats_rest}

@@ -11,26 +11,26 @@ use Rattle.rtc_media.specs.MediaMeaning.{held_media}
 use Rattle.rtc_sctp.specs.Streams.{SctpStreams}
 use Rattle.rtc_peer_state.specs.declared.phase.Phase.{Phase}
 use Rattle.rtc_peer_state.specs.Meanings.{Meanings, PartsLaws}
-use Rattle.rtc_polling.specs.declared.handshake.Handshake.{Handshake}
-use Rattle.rtc_polling.specs.declared.handshake.Handshake.TheVariants.{Pending, Finished, Told}
-use Rattle.rtc_polling.specs.declared.met.Met.{Met}
-use Rattle.rtc_polling.specs.declared.met.Met.TheVariants.{Nothing, Again}
-use Rattle.rtc_polling.specs.declared.polled_peer.PolledPeer.{PolledPeer}
-use Rattle.rtc_polling.specs.declared.send_addr.SendAddr.{SendAddr}
-use Rattle.rtc_polling.specs.declared.transport.Transport.{Transport}
-use Rattle.rtc_polling.specs.Connection.{with_ice, with_dtls}
-use Rattle.rtc_polling.specs.DtlsStages.{TimesDtls, TakesDtlsOutput, TakesDtlsAnswer, PollsDtlsOutputs, TakesKeys, TakesCloseNotify, HandsPacket, ChecksCert}
-use Rattle.rtc_polling.specs.DtlsStages.{TellsConnected, TellsConnectedFrom, is_dtls_due}
-use Rattle.rtc_polling.specs.IceStages.{PollsIceEvents, TakesIceEvent, met_of_ice_event}
-use Rattle.rtc_polling.specs.MediaStages.{TellsMedia, TellsFallibleMedia}
-use Rattle.rtc_polling.specs.SendStages.{SendsChecks, SendsDtlsPacket, SendsMediaDatagram, SendsBy, SendsByPair}
-use Rattle.rtc_polling.specs.Stages.{FollowedBy}
+use Rattle.rtc_connection.specs.declared.handshake.Handshake.{Handshake}
+use Rattle.rtc_connection.specs.declared.handshake.Handshake.TheVariants.{Pending, Finished, Told}
+use Rattle.rtc_connection.specs.declared.met.Met.{Met}
+use Rattle.rtc_connection.specs.declared.met.Met.TheVariants.{Nothing, Again}
+use Rattle.rtc_connection.specs.declared.polled_peer.PolledPeer.{PolledPeer}
+use Rattle.rtc_connection.specs.declared.send_addr.SendAddr.{SendAddr}
+use Rattle.rtc_connection.specs.declared.transport.Transport.{Transport}
+use Rattle.rtc_connection.specs.Connection.{with_ice, with_dtls}
+use Rattle.rtc_poll_stages.specs.DtlsStages.{TimesDtls, TakesDtlsOutput, TakesDtlsAnswer, PollsDtlsOutputs, TakesKeys, TakesCloseNotify, HandsPacket, ChecksCert}
+use Rattle.rtc_poll_stages.specs.DtlsStages.{TellsConnected, TellsConnectedFrom, is_dtls_due}
+use Rattle.rtc_poll_stages.specs.IceStages.{PollsIceEvents, TakesIceEvent, met_of_ice_event}
+use Rattle.rtc_poll_stages.specs.MediaStages.{TellsMedia, TellsFallibleMedia}
+use Rattle.rtc_poll_stages.specs.SendStages.{SendsChecks, SendsDtlsPacket, SendsMediaDatagram, SendsBy, SendsByPair}
+use Rattle.rtc_connection.specs.Stages.{FollowedBy}
 use Rattle.rtc_statistics.specs.Stats.{Reporting}
-use Rattle.rtc_polling.specs.Statistics.{TellsStatistics}
-use Rattle.rtc_polling.proofs.StatisticsTurns.{HasNoReport, no_report_left, no_statistics_told}
-use Rattle.rtc_polling.specs.StreamStages.{TellsStreams}
+use Rattle.rtc_connection.specs.Statistics.{TellsStatistics}
+use Rattle.rtc_connection.proofs.StatisticsTurns.{HasNoReport, no_report_left, no_statistics_told}
+use Rattle.rtc_poll_stages.specs.StreamStages.{TellsStreams}
 use Rattle.rtc_polling.specs.Walk.{StartsOverWhenDue, TellsConnection, TellsArrivals, SendsDatagrams, VisitsParts}
-use Rattle.rtc_polling.proofs.StageLemmas.{went_through}
+use Rattle.rtc_connection.proofs.StageLemmas.{went_through}
 use Rattle.rtc_polling_laws.proofs.RestingConnection.{DtlsRests}
 use Rattle.rtc_polling_laws.proofs.RestingStages.{AreSent, WaitsOver, Drained}
 use Rattle.rtc_polling_laws.proofs.KeptTurns.{outputs_kept, streams_kept, arrivals_kept}

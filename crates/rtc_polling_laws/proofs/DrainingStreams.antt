@@ -8,13 +8,13 @@ use Rattle.rtc_sctp_entries.specs.declared.sctp_event.SctpEvent.TheVariants as e
 use Rattle.rtc_sctp.specs.Streams.{SctpStreams}
 use Rattle.rtc_sctp.specs.Polls.{PollsStreams}
 use Rattle.rtc_peer_state.specs.Meanings.{Meanings, PartsLaws}
-use Rattle.rtc_polling.specs.declared.met.Met.TheVariants.{Nothing}
-use Rattle.rtc_polling.specs.declared.polled_peer.PolledPeer.{PolledPeer}
-use Rattle.rtc_polling.specs.Connection.{with_sctp, with_pushed}
-use Rattle.rtc_polling.specs.StreamStages.{OpensChannelOver, ClosesChannelOver, HearsChannelOver, FallsChannelOver, LosesAssociation, TakesStreamEvent, TakesStreamAnswer}
-use Rattle.rtc_polling.specs.StreamStages.{PollsStreamEvents, SendsPacket, SendsFirst, SendsKeptPackets, TellsStreams, channel_over}
-use Rattle.rtc_polling.proofs.StageLemmas.{went_through}
-use Rattle.rtc_polling.proofs.StreamTurns.{streams_polled, kept_stay}
+use Rattle.rtc_connection.specs.declared.met.Met.TheVariants.{Nothing}
+use Rattle.rtc_connection.specs.declared.polled_peer.PolledPeer.{PolledPeer}
+use Rattle.rtc_connection.specs.Connection.{with_sctp, with_pushed}
+use Rattle.rtc_poll_stages.specs.StreamStages.{OpensChannelOver, ClosesChannelOver, HearsChannelOver, FallsChannelOver, LosesAssociation, TakesStreamEvent, TakesStreamAnswer}
+use Rattle.rtc_poll_stages.specs.StreamStages.{PollsStreamEvents, SendsPacket, SendsFirst, SendsKeptPackets, TellsStreams, channel_over}
+use Rattle.rtc_connection.proofs.StageLemmas.{went_through}
+use Rattle.rtc_poll_stages.proofs.StreamTurns.{streams_polled, kept_stay}
 use Rattle.rtc_polling_laws.proofs.RestingStreams.{StreamsRest, polled_rest}
 use Rattle.rtc_polling_laws.proofs.PushedAgain.{StreamsGive, polled_gives}
 use Rattle.rtc_polling_laws.proofs.RestingStages.{WaitsOver}

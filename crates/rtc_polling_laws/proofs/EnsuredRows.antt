@@ -3,7 +3,7 @@ use Rattle.std.proofs.Common.{if◌then◌else◌, ◌≡◌, ◌≤◌, ◌++�
 use Rattle.std.proofs.lemmas.Bool.{eqb-true}
 use Rattle.rtc_channels.specs.Channels.{Channel, Channels, channel_of_stream, is_of_stream, numbered_stream}
 use Rattle.rtc_channels.specs.Allocation.{channel_ensured, is_ensured, is_given, opened_by_other}
-use Rattle.rtc_polling.specs.StreamStages.{channel_over}
+use Rattle.rtc_poll_stages.specs.StreamStages.{channel_over}
 use Rattle.rtc_polling_laws.specs.ChannelStreams.{AreNumbersGiven}
 use Rattle.rtc_polling_laws.proofs.StreamsJoin.{same_given}
 

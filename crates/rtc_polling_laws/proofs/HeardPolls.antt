@@ -6,15 +6,15 @@ use Rattle.rtc_sctp.specs.Streams.{SctpStreams}
 use Rattle.rtc_sctp.specs.Polls.{PollsStreams}
 use Rattle.rtc_peer_state.specs.declared.phase.Phase.TheVariants.{Closed}
 use Rattle.rtc_peer_state.specs.Meanings.{Meanings, PartsLaws}
-use Rattle.rtc_polling.specs.declared.met.Met.TheVariants.{Nothing}
-use Rattle.rtc_polling.specs.declared.output.Output.TheVariants.{Timeout}
-use Rattle.rtc_polling.specs.declared.polled_peer.PolledPeer.{PolledPeer}
-use Rattle.rtc_polling.specs.Connection.{with_sctp}
-use Rattle.rtc_polling.specs.Stages.{FollowedBy}
-use Rattle.rtc_polling.specs.StreamStages.{TakesStreamAnswer, PollsStreamEvents, SendsKeptPackets, TellsStreams}
+use Rattle.rtc_connection.specs.declared.met.Met.TheVariants.{Nothing}
+use Rattle.rtc_connection.specs.declared.output.Output.TheVariants.{Timeout}
+use Rattle.rtc_connection.specs.declared.polled_peer.PolledPeer.{PolledPeer}
+use Rattle.rtc_connection.specs.Connection.{with_sctp}
+use Rattle.rtc_connection.specs.Stages.{FollowedBy}
+use Rattle.rtc_poll_stages.specs.StreamStages.{TakesStreamAnswer, PollsStreamEvents, SendsKeptPackets, TellsStreams}
 use Rattle.rtc_polling.specs.Walk.{StartsOverWhenDue, TellsConnection, TellsArrivals, SendsDatagrams, VisitsParts, PollsPeer}
-use Rattle.rtc_polling.proofs.StageLemmas.{went_through}
-use Rattle.rtc_polling.proofs.StreamTurns.{kept_stay}
+use Rattle.rtc_connection.proofs.StageLemmas.{went_through}
+use Rattle.rtc_poll_stages.proofs.StreamTurns.{kept_stay}
 use Rattle.rtc_polling_laws.specs.Drained.{AllHeard}
 use Rattle.rtc_polling_laws.proofs.HeardStreams.{poll_hears}
 use Rattle.rtc_polling_laws.proofs.DrainingStreams.{kept_packets}

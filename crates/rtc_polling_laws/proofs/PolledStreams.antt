@@ -16,9 +16,9 @@ use Rattle.rtc_stream_contents.proofs.RunningPolls.{polls_stay}
 use Rattle.rtc_sctp_laws.proofs.ClosingPolls.{started_moved}
 use Rattle.rtc_channels.specs.Channels.{AreRising, Channels}
 use Rattle.rtc_peer_state.specs.Meanings.{Meanings, PartsLaws}
-use Rattle.rtc_polling.specs.declared.met.Met.{Met}
-use Rattle.rtc_polling.specs.declared.polled_peer.PolledPeer.{PolledPeer}
-use Rattle.rtc_polling.specs.StreamStages.{channel_over}
+use Rattle.rtc_connection.specs.declared.met.Met.{Met}
+use Rattle.rtc_connection.specs.declared.polled_peer.PolledPeer.{PolledPeer}
+use Rattle.rtc_poll_stages.specs.StreamStages.{channel_over}
 use Rattle.rtc_polling_laws.specs.PeerActs.{nothing_came, queue_and_role}
 use Rattle.rtc_polling_laws.specs.Acts.{PeerDid, ArePassed}
 use Rattle.rtc_polling_laws.specs.ChannelStreams.{IsGone, LeavesLiveChannel, UnlessLacking, OpensByAnswer, TellsByAnswer, WasOpenInBand, Already}

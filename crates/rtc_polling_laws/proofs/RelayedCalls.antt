@@ -10,7 +10,7 @@ use Rattle.rtc_dtls.specs.DtlsWords.{dtls_sent, dtls_got}
 use Rattle.rtc_dtls.proofs.DtlsLemmas.{dtls_sent-append, dtls_got-append}
 use Rattle.rtc_sctp_laws.specs.StreamMessages.{StreamMessage, pushed_packets}
 use Rattle.rtc_peer_state.specs.Meanings.{Meanings}
-use Rattle.rtc_polling.specs.declared.polled_peer.PolledPeer.{PolledPeer}
+use Rattle.rtc_connection.specs.declared.polled_peer.PolledPeer.{PolledPeer}
 use Rattle.rtc_polling_laws.specs.PeerActs.{Came}
 use Rattle.rtc_polling_laws.specs.Acts.{PeerDid}
 use Rattle.rtc_polling_laws.specs.Relay.{Relays}

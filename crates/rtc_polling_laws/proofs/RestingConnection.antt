@@ -13,15 +13,15 @@ use Rattle.rtc_dtls.specs.DtlsState.{DtlsState, PollsOutput, drawn_by}
 use Rattle.rtc_dtls.specs.DtlsWords.{takes}
 use Rattle.rtc_peer_state.specs.declared.rtc_error.RtcError.TheVariants.{Alloc}
 use Rattle.rtc_peer_state.specs.Meanings.{Meanings, PartsLaws}
-use Rattle.rtc_polling.specs.declared.handshake.Handshake.{Handshake}
-use Rattle.rtc_polling.specs.declared.handshake.Handshake.TheVariants.{Pending, Finished, Told}
-use Rattle.rtc_polling.specs.declared.met.Met.{Met}
-use Rattle.rtc_polling.specs.declared.met.Met.TheVariants.{Nothing, Again, Error}
-use Rattle.rtc_polling.specs.declared.polled_peer.PolledPeer.{PolledPeer}
-use Rattle.rtc_polling.specs.Connection.{with_ice, with_dtls}
-use Rattle.rtc_polling.specs.DtlsStages.{TimesDtls, TimesDtlsIf, TakesDtlsOutput, TakesDtlsAnswer, PollsDtlsOutput, PollsDtlsOutputs, TellsConnected, TellsConnectedFrom, is_dtls_due}
-use Rattle.rtc_polling.specs.IceStages.{PollsIceEvent, PollsIceEvents, TakesIceEvent}
-use Rattle.rtc_polling.specs.Stages.{Stage, FollowedBy, Stopped, WentOn, StartsOver, RepeatsStage}
+use Rattle.rtc_connection.specs.declared.handshake.Handshake.{Handshake}
+use Rattle.rtc_connection.specs.declared.handshake.Handshake.TheVariants.{Pending, Finished, Told}
+use Rattle.rtc_connection.specs.declared.met.Met.{Met}
+use Rattle.rtc_connection.specs.declared.met.Met.TheVariants.{Nothing, Again, Error}
+use Rattle.rtc_connection.specs.declared.polled_peer.PolledPeer.{PolledPeer}
+use Rattle.rtc_connection.specs.Connection.{with_ice, with_dtls}
+use Rattle.rtc_poll_stages.specs.DtlsStages.{TimesDtls, TimesDtlsIf, TakesDtlsOutput, TakesDtlsAnswer, PollsDtlsOutput, PollsDtlsOutputs, TellsConnected, TellsConnectedFrom, is_dtls_due}
+use Rattle.rtc_poll_stages.specs.IceStages.{PollsIceEvent, PollsIceEvents, TakesIceEvent}
+use Rattle.rtc_connection.specs.Stages.{Stage, FollowedBy, Stopped, WentOn, StartsOver, RepeatsStage}
 
 module _ {P E : Type 0} where
   -- a stage met nothing and changed nothing, or memory is wanting

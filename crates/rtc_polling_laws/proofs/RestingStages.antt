@@ -12,21 +12,21 @@ use Rattle.rtc_sctp_entries.specs.declared.sctp_event.SctpEvent.TheVariants as e
 use Rattle.rtc_sctp.specs.Streams.{SctpStreams}
 use Rattle.rtc_peer_state.specs.declared.rtc_error.RtcError.TheVariants.{Dtls, Media, Alloc}
 use Rattle.rtc_peer_state.specs.Meanings.{Meanings, PartsLaws}
-use Rattle.rtc_polling.specs.declared.event.Event.TheVariants as told
-use Rattle.rtc_polling.specs.declared.handshake.Handshake.TheVariants.{Finished}
-use Rattle.rtc_polling.specs.declared.met.Met.{Met}
-use Rattle.rtc_polling.specs.declared.met.Met.TheVariants.{Nothing, Again, Transmit, Event as MetEvent, Error}
-use Rattle.rtc_polling.specs.declared.polled_peer.PolledPeer.{PolledPeer}
-use Rattle.rtc_polling.specs.declared.send_addr.SendAddr.{SendAddr}
-use Rattle.rtc_polling.specs.Closing.{is_phase_closing}
-use Rattle.rtc_polling.specs.Connection.{with_ice, with_dtls, with_media, with_sctp, with_pushed}
-use Rattle.rtc_polling.specs.DtlsStages.{TimesDtls, PollsDtlsOutputs, TellsConnected, is_dtls_due}
-use Rattle.rtc_polling.specs.IceStages.{PollsIceEvents}
-use Rattle.rtc_polling.specs.MediaStages.{TellsMedia, TellsFallibleMedia}
-use Rattle.rtc_polling.specs.SendStages.{SendsChecks, SendsDtlsPacket, SendsMediaDatagram, SendsBy, SendsByPair}
-use Rattle.rtc_polling.specs.Statistics.{TellsStatistics}
-use Rattle.rtc_polling.proofs.StatisticsTurns.{HasNoReport, statistics_rest}
-use Rattle.rtc_polling.specs.StreamStages.{TakesStreamAnswer, PollsStreamEvent, PollsStreamEvents, SendsPacket, SendsFirst, SendsKeptPackets, TellsStreams}
+use Rattle.rtc_connection.specs.declared.event.Event.TheVariants as told
+use Rattle.rtc_connection.specs.declared.handshake.Handshake.TheVariants.{Finished}
+use Rattle.rtc_connection.specs.declared.met.Met.{Met}
+use Rattle.rtc_connection.specs.declared.met.Met.TheVariants.{Nothing, Again, Transmit, Event as MetEvent, Error}
+use Rattle.rtc_connection.specs.declared.polled_peer.PolledPeer.{PolledPeer}
+use Rattle.rtc_connection.specs.declared.send_addr.SendAddr.{SendAddr}
+use Rattle.rtc_connection.specs.Closing.{is_phase_closing}
+use Rattle.rtc_connection.specs.Connection.{with_ice, with_dtls, with_media, with_sctp, with_pushed}
+use Rattle.rtc_poll_stages.specs.DtlsStages.{TimesDtls, PollsDtlsOutputs, TellsConnected, is_dtls_due}
+use Rattle.rtc_poll_stages.specs.IceStages.{PollsIceEvents}
+use Rattle.rtc_poll_stages.specs.MediaStages.{TellsMedia, TellsFallibleMedia}
+use Rattle.rtc_poll_stages.specs.SendStages.{SendsChecks, SendsDtlsPacket, SendsMediaDatagram, SendsBy, SendsByPair}
+use Rattle.rtc_connection.specs.Statistics.{TellsStatistics}
+use Rattle.rtc_connection.proofs.StatisticsTurns.{HasNoReport, statistics_rest}
+use Rattle.rtc_poll_stages.specs.StreamStages.{TakesStreamAnswer, PollsStreamEvent, PollsStreamEvents, SendsPacket, SendsFirst, SendsKeptPackets, TellsStreams}
 use Rattle.rtc_polling.specs.Walk.{StartsOverWhenDue, TellsConnection, TellsArrivals, SendsDatagrams, VisitsParts}
 use Rattle.rtc_polling_laws.proofs.RestingStreams.{HasFailed, StreamsRest}
 use Rattle.rtc_polling_laws.proofs.PushedAgain.{StreamsGive}

@@ -13,7 +13,7 @@ use Rattle.rtc_sctp_laws.proofs.CallActs.{closes_did, opens_did}
 use Rattle.rtc_channels.specs.Channels.{Channel, Channels}
 use Rattle.rtc_channels.specs.Openings.{ClosesChannel, OpensChannel, OpensAll, Following, Progresses, MeetsMoment}
 use Rattle.rtc_association.specs.AssociationMeaning.{AssociationMeaning}
-use Rattle.rtc_polling.specs.ChannelCalls.{SetsThresholdIf}
+use Rattle.rtc_connection.specs.ChannelCalls.{SetsThresholdIf}
 
 module _ {S : Type 0} (m : AssociationMeaning S) where
   -- nothing was done to the streams, or something and then more

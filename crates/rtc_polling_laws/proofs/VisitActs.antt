@@ -7,14 +7,14 @@ use Rattle.rtc_sctp_laws.specs.StreamMessages.{StreamMessage, are_dcep, shown_me
 use Rattle.rtc_sctp_laws.proofs.MessageLemmas.{dcep_join, shown-append}
 use Rattle.rtc_channels.specs.Channels.{Channel, Channels}
 use Rattle.rtc_peer_state.specs.Meanings.{Meanings}
-use Rattle.rtc_polling.specs.declared.event.Event.{Event}
-use Rattle.rtc_polling.specs.declared.event.Event.TheVariants.{ChannelData}
-use Rattle.rtc_polling.specs.declared.met.Met.{Met}
-use Rattle.rtc_polling.specs.declared.met.Met.TheVariants.{Nothing, Again, Transmit, Event as MetEvent, Error}
-use Rattle.rtc_polling.specs.declared.output.Output.TheVariants as outputs
-use Rattle.rtc_polling.specs.declared.polled_peer.PolledPeer.{PolledPeer}
-use Rattle.rtc_polling.specs.Stages.{Stage, FollowedBy, Stopped, WentOn, StartsOver, RepeatsStage}
-use Rattle.rtc_polling.specs.StreamStages.{channel_over}
+use Rattle.rtc_connection.specs.declared.event.Event.{Event}
+use Rattle.rtc_connection.specs.declared.event.Event.TheVariants.{ChannelData}
+use Rattle.rtc_connection.specs.declared.met.Met.{Met}
+use Rattle.rtc_connection.specs.declared.met.Met.TheVariants.{Nothing, Again, Transmit, Event as MetEvent, Error}
+use Rattle.rtc_connection.specs.declared.output.Output.TheVariants as outputs
+use Rattle.rtc_connection.specs.declared.polled_peer.PolledPeer.{PolledPeer}
+use Rattle.rtc_connection.specs.Stages.{Stage, FollowedBy, Stopped, WentOn, StartsOver, RepeatsStage}
+use Rattle.rtc_poll_stages.specs.StreamStages.{channel_over}
 use Rattle.rtc_polling_laws.specs.PeerActs.{nothing_came}
 use Rattle.rtc_polling_laws.specs.Acts.{PeerDid, ArePassed}
 use Rattle.rtc_polling_laws.specs.ChannelStreams.{StreamsWent, TellsByAnswer}

@@ -12,13 +12,13 @@ use Rattle.rtc_channels.specs.Channels.{AreBelow, AreRising, Channel, Channels, 
 use Rattle.rtc_peer_state.specs.declared.rtc_error.RtcError.{RtcError}
 use Rattle.rtc_peer_state.specs.declared.rtc_error.RtcError.TheVariants.{Alloc}
 use Rattle.rtc_peer_state.specs.Meanings.{Meanings}
-use Rattle.rtc_polling.specs.declared.channel_data.ChannelData.{ChannelData as ChannelMessage}
-use Rattle.rtc_polling.specs.declared.event.Event.{Event}
-use Rattle.rtc_polling.specs.declared.event.Event.TheVariants.{ChannelOpen, ChannelData, ChannelClose}
-use Rattle.rtc_polling.specs.declared.output.Output.{Output}
-use Rattle.rtc_polling.specs.declared.output.Output.TheVariants as outputs
-use Rattle.rtc_polling.specs.declared.polled_peer.PolledPeer.{PolledPeer}
-use Rattle.rtc_polling.specs.StreamStages.{channel_over}
+use Rattle.rtc_connection.specs.declared.channel_data.ChannelData.{ChannelData as ChannelMessage}
+use Rattle.rtc_connection.specs.declared.event.Event.{Event}
+use Rattle.rtc_connection.specs.declared.event.Event.TheVariants.{ChannelOpen, ChannelData, ChannelClose}
+use Rattle.rtc_connection.specs.declared.output.Output.{Output}
+use Rattle.rtc_connection.specs.declared.output.Output.TheVariants as outputs
+use Rattle.rtc_connection.specs.declared.polled_peer.PolledPeer.{PolledPeer}
+use Rattle.rtc_poll_stages.specs.StreamStages.{channel_over}
 use Rattle.rtc_polling_laws.specs.RowsChanged.{RowsPolled}
 
 -- the numbers of channels rise, each was given, and no two channels have one stream

@@ -8,9 +8,9 @@ use Rattle.rtc_sctp_entries.specs.Visits.{is_opening_over}
 use Rattle.rtc_sctp.specs.Streams.{SctpStreams, is_established}
 use Rattle.rtc_peer_state.specs.declared.rtc_error.RtcError.{RtcError}
 use Rattle.rtc_peer_state.specs.declared.rtc_error.RtcError.TheVariants.{Alloc}
-use Rattle.rtc_polling.specs.declared.output.Output.{Output}
-use Rattle.rtc_polling.specs.declared.output.Output.TheVariants.{Timeout}
-use Rattle.rtc_polling.specs.declared.polled_peer.PolledPeer.{PolledPeer}
+use Rattle.rtc_connection.specs.declared.output.Output.{Output}
+use Rattle.rtc_connection.specs.declared.output.Output.TheVariants.{Timeout}
+use Rattle.rtc_connection.specs.declared.polled_peer.PolledPeer.{PolledPeer}
 
 -- the same timeout is answered, and nothing changes; or memory is wanting
 abbrev pub AnswersAgain : {I D S M E N : Type 0} → (moment : ℕ) → PolledPeer I D S M N → Result (Output E) RtcError

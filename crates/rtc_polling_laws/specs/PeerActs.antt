@@ -12,9 +12,9 @@ use Rattle.rtc_dtls.specs.DtlsWords.{dtls_taken}
 use Rattle.rtc_association.specs.AssociationActs.{AssociationAct, Moved}
 use Rattle.rtc_media.specs.MediaActs.{MediaAct, MediaGiven, MediaTaken, MediaStirred, MediaMoved}
 use Rattle.rtc_peer_state.specs.Meanings.{Meanings}
-use Rattle.rtc_polling.specs.declared.input.Input.{Input}
-use Rattle.rtc_polling.specs.declared.input.Input.TheVariants.{Timeout, Receive as Datagram}
-use Rattle.rtc_polling.specs.declared.polled_peer.PolledPeer.{PolledPeer}
+use Rattle.rtc_connection.specs.declared.input.Input.{Input}
+use Rattle.rtc_connection.specs.declared.input.Input.TheVariants.{Timeout, Receive as Datagram}
+use Rattle.rtc_connection.specs.declared.polled_peer.PolledPeer.{PolledPeer}
 
 -- the acts of each part, in order
 pub record PeerActs : Type 0 where

@@ -7,7 +7,7 @@ use Rattle.rtc_association.specs.AssociationActs.{AssociationAct, Moved}
 use Rattle.rtc_association.specs.AssociationWords.{given, taken}
 use Rattle.rtc_sctp_laws.specs.StreamMessages.{pushed_packets}
 use Rattle.rtc_peer_state.specs.Meanings.{Meanings}
-use Rattle.rtc_polling.specs.declared.polled_peer.PolledPeer.{PolledPeer}
+use Rattle.rtc_connection.specs.declared.polled_peer.PolledPeer.{PolledPeer}
 
 -- Acts in order took the DTLS instance and the association from those of one peer to those of another. Each packet that the association
 -- was given came over the DTLS connection in these acts. Each packet that was sent over it in them, or stands to be sent behind them, was

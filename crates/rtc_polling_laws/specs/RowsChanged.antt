@@ -19,7 +19,7 @@ use Rattle.rtc_channels.specs.Allocation.{channel_ensured}
 use Rattle.rtc_channels.specs.Channels.{Channels, all_confirmed, with_channel}
 use Rattle.rtc_channels.specs.Holds.{removed_channel}
 use Rattle.rtc_channels.specs.Openings.{MeetsMoment}
-use Rattle.rtc_polling.specs.StreamStages.{channel_over}
+use Rattle.rtc_poll_stages.specs.StreamStages.{channel_over}
 
 -- rows stay, and no number is given
 abbrev pub SameRows : Channels → Channels → Type 0

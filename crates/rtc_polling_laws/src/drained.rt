@@ -2,8 +2,8 @@
 ghost use Rattle.std.specs.Prelude.{◌≡◌, ◌≢◌, ◌≤◌, ◌-◌, ◌^◌, ℕ, None, Ok};
 ghost use Rattle.rtc_peer_state.specs.Meanings.{meanings};
 ghost use Rattle.rtc_peer_state.specs.declared.phase.Phase.TheVariants.{Closed};
-ghost use Rattle.rtc_polling.specs.declared.output.Output.TheVariants.{Timeout};
-ghost use Rattle.rtc_polling.specs.declared.polled_peer.PolledPeer.{PolledPeer as Polled};
+ghost use Rattle.rtc_connection.specs.declared.output.Output.TheVariants.{Timeout};
+ghost use Rattle.rtc_connection.specs.declared.polled_peer.PolledPeer.{PolledPeer as Polled};
 ghost use Rattle.rtc_polling.specs.Walk.{PollsPeer};
 ghost use Rattle.rtc_polling_laws.specs.Drained.{AllHeard, AnswersAgain};
 

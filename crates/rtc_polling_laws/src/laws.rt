@@ -1,10 +1,10 @@
 //! What each call does to the association and to the DTLS connection.
 ghost use Rattle.std.specs.Prelude.{ℕ, Bool, List};
 ghost use Rattle.rtc_peer_state.specs.Meanings.{meanings};
-ghost use Rattle.rtc_polling.specs.declared.input.Input.{Input as Given};
-ghost use Rattle.rtc_polling.specs.declared.polled_peer.PolledPeer.{PolledPeer as Polled};
-ghost use Rattle.rtc_polling.specs.ChannelCalls.{ClosesDataChannel, SetsChannelThreshold, WritesChannel};
-ghost use Rattle.rtc_polling.specs.Closing.{ClosesPeer};
+ghost use Rattle.rtc_connection.specs.declared.input.Input.{Input as Given};
+ghost use Rattle.rtc_connection.specs.declared.polled_peer.PolledPeer.{PolledPeer as Polled};
+ghost use Rattle.rtc_connection.specs.ChannelCalls.{ClosesDataChannel, SetsChannelThreshold, WritesChannel};
+ghost use Rattle.rtc_connection.specs.Closing.{ClosesPeer};
 ghost use Rattle.rtc_polling.specs.Inputs.{HandlesInput};
 ghost use Rattle.rtc_polling.specs.Walk.{PollsPeer};
 ghost use Rattle.rtc_polling_laws.specs.Relay.{Relays};

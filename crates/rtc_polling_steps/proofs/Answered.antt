@@ -9,7 +9,7 @@ use Rattle.rtc_history.specs.declared.table.Table.{Table}
 use Rattle.rtc_history.specs.Performs.{HandlesRead, StepTakesDatagram}
 use Rattle.rtc_peer_state.specs.declared.rtc_error.RtcError.{RtcError}
 use Rattle.rtc_peer_state.specs.Meanings.{Meanings}
-use Rattle.rtc_polling.specs.declared.polled_peer.PolledPeer.{PolledPeer}
+use Rattle.rtc_connection.specs.declared.polled_peer.PolledPeer.{PolledPeer}
 use Rattle.rtc_polling_steps.specs.OutcomeOf.{outcome_of}
 use Rattle.rtc_step_replies.specs.ShownTable.{shown_table}
 

@@ -2,7 +2,7 @@
 ghost use Rattle.std.specs.Prelude.{◌≡◌, ◌≤◌, is_some, length};
 ghost use Rattle.rtc_history.specs.CallReplies.{ClosesOpenChannel, StepCalls, StepClosesChannel, StepWrites};
 ghost use Rattle.rtc_peer_state.specs.Meanings.{meanings};
-ghost use Rattle.rtc_polling.specs.ChannelCalls.{open_stream_under};
+ghost use Rattle.rtc_connection.specs.ChannelCalls.{open_stream_under};
 ghost use Rattle.rtc_polling_steps.specs.Written.{WritesIfOpen, written_outcome};
 
 use crate::hearing::outcome_of;

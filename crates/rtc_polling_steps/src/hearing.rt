@@ -7,9 +7,9 @@ ghost use Rattle.rtc_history.specs.CallReplies.{StepCalls};
 ghost use Rattle.rtc_history.specs.Performs.{HandlesRead, StepTakesDatagram};
 ghost use Rattle.rtc_polling_steps.specs.OutcomeOf.{outcome_of};
 ghost use Rattle.rtc_peer_state.specs.Meanings.{meanings};
-ghost use Rattle.rtc_polling.specs.Closing.{ClosesPeer};
+ghost use Rattle.rtc_connection.specs.Closing.{ClosesPeer};
 ghost use Rattle.rtc_polling.specs.Inputs.{HandlesInput};
-ghost use Rattle.rtc_polling.specs.declared.input.Input.TheVariants as given;
+ghost use Rattle.rtc_connection.specs.declared.input.Input.TheVariants as given;
 
 use rtc_history::{Outcome, Reply, SentPacket, Side};
 use rtc_peer::{Association, DtlsInstance, IceAgent, Ids, Input, MediaSession, Rtc, RtcError};

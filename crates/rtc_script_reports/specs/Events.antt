@@ -7,8 +7,8 @@ use Rattle.rtc_media.specs.declared.raw_packet.RawPacket.{RawPacket}
 use Rattle.rtc_media.specs.declared.raw_packet.RawPacket.TheVariants.{RtcpTx, RtcpRx, RtpTx, RtpRx}
 use Rattle.rtc_plain_media.specs.declared.plain_media_event.PlainMediaEvent.{PlainMediaEvent}
 use Rattle.rtc_plain_media.specs.declared.plain_media_event.PlainMediaEvent.TheVariants.{Added, Changed, Rtp, Rtcp, Raw}
-use Rattle.rtc_polling.specs.declared.event.Event.{Event}
-use Rattle.rtc_polling.specs.declared.event.Event.TheVariants as events
+use Rattle.rtc_connection.specs.declared.event.Event.{Event}
+use Rattle.rtc_connection.specs.declared.event.Event.TheVariants as events
 use Rattle.rtc_script.specs.Words.{direction_text, hex_word, kind_text, message_kind_text}
 
 -- a state of the connection that ICE makes

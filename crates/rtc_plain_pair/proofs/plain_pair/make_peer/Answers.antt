@@ -1,6 +1,6 @@
 use Rattle.std.proofs.Common.{true, ◌∙◌, ap}
 use Rattle.rtc_peer_state.specs.Config.{Config}
-use Rattle.rtc_polling.specs.Connection.{no_transport}
+use Rattle.rtc_connection.specs.Connection.{no_transport}
 use Rattle.rtc_plain_pair.proofs.PlainPeers.{built_bare, program_fresh, program_formed, program_unused}
 use Rattle.rtc_plain_pair.proofs.plain_pair.make_peer.Goals as goal
 

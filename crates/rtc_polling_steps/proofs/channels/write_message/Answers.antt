@@ -1,6 +1,6 @@
 use Rattle.std.proofs.Common.{◌∙◌}
 use Rattle.rtc_peer_state.specs.Meanings.{meanings}
-use Rattle.rtc_polling.specs.ChannelCalls.{open_stream_under}
+use Rattle.rtc_connection.specs.ChannelCalls.{open_stream_under}
 use Rattle.rtc_polling_steps.proofs.AnsweredWrites.{answered_write, no_room_to_write}
 use Rattle.rtc_polling_steps.proofs.channels.write_message.Goals as goal
 

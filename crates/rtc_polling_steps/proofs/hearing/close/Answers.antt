@@ -1,6 +1,6 @@
 use Rattle.std.proofs.Common.{◌∙◌, length, ap, arith}
 use Rattle.rtc_peer_state.specs.Meanings.{meanings}
-use Rattle.rtc_polling.specs.Closing.{ClosesPeer}
+use Rattle.rtc_connection.specs.Closing.{ClosesPeer}
 use Rattle.rtc_polling_steps.proofs.Answered.{answered_call}
 use Rattle.rtc_polling_steps.proofs.PollsKeep.{channels_after_close, lines_after_close}
 use Rattle.rtc_polling_steps.proofs.hearing.close.Goals as goal

@@ -1,5 +1,5 @@
 use Rattle.rtc_peer_state.specs.Meanings.{meanings}
-use Rattle.rtc_polling.specs.declared.input.Input.TheVariants as given
+use Rattle.rtc_connection.specs.declared.input.Input.TheVariants as given
 use Rattle.rtc_polling_steps.proofs.PollsKeep.{channels_after_input}
 use Rattle.rtc_polling_steps.proofs.hearing.give_datagram.Goals as goal
 

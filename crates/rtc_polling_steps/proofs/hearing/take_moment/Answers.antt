@@ -1,7 +1,7 @@
 use Rattle.std.proofs.Common.{◌∙◌, length, ap, arith}
 use Rattle.rtc_peer_state.specs.Meanings.{meanings}
 use Rattle.rtc_polling.specs.Inputs.{HandlesInput}
-use Rattle.rtc_polling.specs.declared.input.Input.TheVariants as given
+use Rattle.rtc_connection.specs.declared.input.Input.TheVariants as given
 use Rattle.rtc_polling_steps.proofs.Answered.{answered_call}
 use Rattle.rtc_polling_steps.proofs.PollsKeep.{channels_after_input, lines_after_input}
 use Rattle.rtc_polling_steps.proofs.hearing.take_moment.Goals as goal

@@ -1,0 +1,4 @@
+pub mod StageLemmas
+pub mod StatisticsTurns
+pub mod OpenStreams
+pub mod StandardFacts

@@ -1,0 +1,9 @@
+pub mod RecentAddrs
+pub mod RawPackets
+pub mod Connection
+pub mod Stages
+pub mod Closing
+pub mod Statistics
+pub mod Deadlines
+pub mod ChannelCalls
+pub mod Readings
