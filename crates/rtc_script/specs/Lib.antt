@@ -1,5 +1,3 @@
-pub mod Words
-pub mod ChannelParts
 pub mod Lines
 pub mod Script
 pub mod Steps

@@ -6,10 +6,9 @@ ghost use Rattle.rtc_history.specs.declared.op.Op.{Op};
 ghost use Rattle.rtc_history.specs.declared.step.Step.{Step};
 
 use crate::messages::read_write;
-use crate::numbers::{read_long, read_one, read_two, read_two_long};
 use crate::ops::read_ops;
-use crate::words::is_word;
 use rtc_history::{Side, Step};
+use rtc_script_words::{is_word, read_long, read_one, read_two, read_two_long};
 use rtc_wire::{ChannelId, Moment};
 use std::alloc::{AllocError, Global};
 

@@ -2,12 +2,10 @@
 ghost use Rattle.std.specs.Prelude.{◌≡◌, ◌≢◌, ℕ, Bool, List, [], ◌∷◌, IfOk, IfSome, IfNone, map, codes};
 ghost use Rattle.rtc_history.specs.Sides.{side_of};
 ghost use Rattle.rtc_script.specs.Lines.{AreMessageWords, IsAct};
-ghost use Rattle.rtc_script.specs.Words.{message_kind_text};
+ghost use Rattle.rtc_script_words.specs.Words.{message_kind_text};
 
-use crate::labels::read_bytes;
-use crate::numbers::read_u64;
-use crate::words::is_word;
 use rtc_history::{Side, Step};
+use rtc_script_words::{is_word, read_bytes, read_u64};
 use rtc_wire::{Bytes, ChannelId};
 use std::alloc::{AllocError, Global};
 

@@ -1,16 +1,13 @@
 //! Ops of a line.
-ghost use Rattle.std.specs.Prelude.{◌≡◌, ◌≢◌, ◌<◌, ◌^◌, [], ◌∷◌, Bool, List, IfOk, IfSome, IfNone, map, codes};
+ghost use Rattle.std.specs.Prelude.{◌≡◌, ◌≢◌, ◌<◌, [], ◌∷◌, Bool, List, IfOk, IfSome, IfNone, map, codes};
 ghost use Rattle.rtc_script.specs.Lines.{AreOpParts, IsOp, AreOps};
-ghost use Rattle.rtc_script.specs.Words.{keep_text};
+ghost use Rattle.rtc_script_words.specs.Words.{keep_text};
 ghost use Rattle.rtc_history.specs.declared.op.Op.{Op};
 
-use crate::channel_parts::{read_config, read_label_word};
-use crate::cutting::cut_parts;
-use crate::directions::read_direction;
-use crate::kinds::read_kind;
-use crate::numbers::read_u32;
-use crate::words::is_word;
 use rtc_history::Op;
+use rtc_script_words::{
+    cut_parts, is_word, read_config, read_direction, read_kind, read_label_word, read_u32,
+};
 use rtc_wire::Seq;
 use std::alloc::{AllocError, Global};
 
@@ -61,7 +58,7 @@ fn read_three_parts(word: &[u8], place: &[u8], value: &[u8]) -> Option<Op>
 }
 
 // An op that adds a channel with the label that a word writes.
-#[tactic(auto, using(crate::proofs::ChannelPartLemmas::no_labelled))]
+#[tactic(auto, using(crate::proofs::ChannelOpLemmas::no_labelled))]
 fn read_labelled(alloc: Global, value: &[u8]) -> Result<Option<Op>, AllocError>
     ensures some { IfOk result (λ read. IfSome read (λ op. AreOpParts (codes "channel" ∷ value.now ∷ []) op)) }
     ensures none { IfOk result (λ read. IfNone read ((op : Op) → AreOpParts (codes "channel" ∷ value.now ∷ []) op → ⊥)) }
@@ -84,7 +81,7 @@ fn read_pair(alloc: Global, word: &[u8], value: &[u8]) -> Result<Option<Op>, All
 }
 
 // An op that adds a channel with all that it is opened with, by the words of its parts.
-#[tactic(auto, using(crate::proofs::ChannelPartLemmas::no_whole))]
+#[tactic(auto, using(crate::proofs::ChannelOpLemmas::no_whole))]
 fn read_whole(
     alloc: Global,
     label: &[u8],
@@ -105,7 +102,7 @@ fn read_whole(
 }
 
 // An op of six parts.
-#[tactic(auto, using(crate::proofs::ChannelPartLemmas::no_other))]
+#[tactic(auto, using(crate::proofs::ChannelOpLemmas::no_other))]
 fn read_six_parts(
     alloc: Global,
     word: &[u8],

@@ -7,11 +7,8 @@ ghost use Rattle.rtc_script.specs.Steps.{AreAllSettings};
 ghost use Rattle.rtc_script.specs.declared.setting.Setting.{Setting};
 
 use crate::Setting;
-use crate::cutting::cut_words;
-use crate::numbers::read_u32;
-use crate::sides::read_side;
-use crate::words::is_word;
 use rtc_history::Side;
+use rtc_script_words::{cut_words, is_word, read_side, read_u32};
 use rtc_wire::Seq;
 use std::alloc::{AllocError, Global};
 

@@ -9,7 +9,7 @@ use Rattle.rtc_plain_media.specs.declared.plain_media_event.PlainMediaEvent.{Pla
 use Rattle.rtc_plain_media.specs.declared.plain_media_event.PlainMediaEvent.TheVariants.{Added, Changed, Rtp, Rtcp, Raw}
 use Rattle.rtc_connection.specs.declared.event.Event.{Event}
 use Rattle.rtc_connection.specs.declared.event.Event.TheVariants as events
-use Rattle.rtc_script.specs.Words.{direction_text, hex_word, kind_text, message_kind_text}
+use Rattle.rtc_script_words.specs.Words.{direction_text, hex_word, kind_text, message_kind_text}
 
 -- a state of the connection that ICE makes
 abbrev pub state_text : IceConnectionState → List ℕ

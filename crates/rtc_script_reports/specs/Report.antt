@@ -10,7 +10,7 @@ use Rattle.rtc_history.specs.declared.outcome.Outcome.{Outcome}
 use Rattle.rtc_history.specs.declared.reply.Reply.{Reply}
 use Rattle.rtc_history.specs.declared.step.Step.{Step}
 use Rattle.rtc_history.specs.declared.table.Table.{Table}
-use Rattle.rtc_script.specs.Words.{side_text}
+use Rattle.rtc_script_words.specs.Words.{side_text}
 
 -- the lines and then the channels of a table, where there is one
 abbrev pub table_lines : Option Table → List ℕ

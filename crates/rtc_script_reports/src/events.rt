@@ -1,7 +1,7 @@
 //! Words of events.
 ghost use Rattle.std.specs.Prelude.{◌≡◌, ◌++◌, OnOk, string_bytes};
 ghost use Rattle.rtc_script_reports.specs.Events.{event_text, line_bytes_text, media_event_text, raw_packet_text, state_text};
-ghost use Rattle.rtc_script.specs.Words.{hex_word, message_kind_text};
+ghost use Rattle.rtc_script_words.specs.Words.{hex_word, message_kind_text};
 ghost use Rattle.rtc_connection.specs.declared.event.Event.TheVariants.{ChannelData as DataOf, ChannelOpen as OpenOf, PeerStats as TotalsOf};
 
 use crate::pushing::{push_named, push_word};
