@@ -45,7 +45,8 @@ use rtc_ids::Ids;
 /// side is later than each moment that its peer took.
 ///
 /// Where no step added a channel with a stream that both ends settled by other means, and the pair kept no session description at its
-/// start, no stream was settled so: each channel that was confirmed, and whose stream was never reset, is then open at both sides.
+/// start, no stream was settled so: each channel that was confirmed, and whose stream was never reset, is then open at both sides, where
+/// the last timeout of its side is later than each moment that its peer took.
 pub fn settled_pairs_have_open_channels<N: Ids>()
     ensures level { (stun : List ℕ → Bool) (start pair : PlainPair N) (past : List (Entry PlainMediaEvent)) → IsNewPair N.ids start
         → Reached (plain_over N.ids) stun start past pair → IsSettledPair past pair → (at : Side) (stream : ℕ)

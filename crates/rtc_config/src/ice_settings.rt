@@ -12,8 +12,9 @@ pub struct IceSettings {
     pub lite: bool,
     /// Time until a check is sent again for the first time (RFC 8445, section 14.3).
     pub initial_stun_rto: Span,
+    /// The longest time until a check is sent again.
     pub max_stun_rto: Span,
-    /// How often a check is sent at most.
+    /// How often a check is sent again at most.
     pub max_stun_retransmits: u32,
 }
 

@@ -1,4 +1,4 @@
-//! What a peer is built from, and the statistics that it reports.
+//! All settings of a configuration, which no peer takes yet; passes on the rounds of statistics.
 #![tactic(auto)]
 
 mod codec_setters;

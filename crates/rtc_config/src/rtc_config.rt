@@ -15,7 +15,7 @@ use rtc_wire::{
 use std::alloc::{AllocError, Global};
 use std::marker::Model;
 
-/// What a peer is built from.
+/// All settings of a peer. `Rtc::build` takes the smaller `RtcConfig` of `rtc_peer_state`; no peer takes this one yet.
 #[derive(Debug, Drop)]
 pub struct RtcConfig {
     pub(crate) alloc: Global,

@@ -54,7 +54,7 @@ impl RtcConfig {
         self.ice.max_stun_rto = rto;
     }
 
-    /// How often a check is sent at most.
+    /// How often a check is sent again at most.
     pub fn set_max_stun_retransmits(&mut self, count: u32)
         ensures { self.new ≡ record self.old { ice = record self.old.ice { max_stun_retransmits = count } } }
     {

@@ -1,8 +1,4 @@
 //! What a user does to a peer without session descriptions: functions over a peer that is polled.
-//!
-//! Each poll reads all parts of a peer. A poller that kept two signals, of events and of timeouts, would set both in each
-//! function here that takes the peer to write to it, before it returns or lends; feedback of the application sets that of
-//! events alone.
 #![tactic(auto)]
 
 mod channel_making;

@@ -1,4 +1,5 @@
-//! Reads a script of steps for two peers, performs it, and prints each reply with the acting peer's lines.
+//! Reads a script of steps for two peers, performs it, and prints each reply with the acting peer's lines and channels; or performs a
+//! demo of rounds that a seed determines, and prints what is counted over them.
 #![tactic(auto)]
 
 mod asking;

@@ -69,6 +69,7 @@ impl<'a, I: IceAgent, D: DtlsInstance, S: Association, M: MediaSession, N: Ids> 
     }
 
     /// `make_stream_rx` with None where no row of media has the mid, and where the media part has no such stream.
+    /// Its contract says only when it lends nothing; that of `make_stream_rx` also says what the peer is afterwards.
     pub fn expect_stream_rx(
         &mut self,
         ssrc: Ssrc,
@@ -82,6 +83,7 @@ impl<'a, I: IceAgent, D: DtlsInstance, S: Association, M: MediaSession, N: Ids> 
     }
 
     /// `make_stream_tx` with None where no row of media has the mid, and where the media part has no such stream.
+    /// Its contract says only when it lends nothing; that of `make_stream_tx` also says what the peer is afterwards.
     pub fn declare_stream_tx(
         &mut self,
         ssrc: Ssrc,
