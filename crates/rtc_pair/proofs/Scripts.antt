@@ -18,7 +18,7 @@ use Rattle.rtc_plain_ice.specs.Messages.{is_ice_message}
 use Rattle.rtc_plain_media.specs.declared.plain_media_event.PlainMediaEvent.{PlainMediaEvent}
 use Rattle.rtc_io.proofs.Told.{breaks_off_as}
 use Rattle.rtc_io.specs.Saying.{BreaksOff}
-use Rattle.rtc_script.specs.Report.{report}
+use Rattle.rtc_script_reports.specs.Report.{report}
 use Rattle.rtc_history.specs.DrawnInRuns.{AllPlain, DrawsUnused, HaveNoLines}
 use Rattle.rtc_history.specs.Fresh.{ArePeersFormed}
 use Rattle.rtc_history.specs.Runs.{Runs}

@@ -22,7 +22,7 @@ use Rattle.rtc_plain_pair.specs.ProgramPair.{counting, plain_parts, PlainPairSta
 use Rattle.rtc_plain_pair.specs.declared.peer_settings.PeerSettings.{PeerSettings}
 use Rattle.rtc_script.specs.Script.{IsScript, IsRefused}
 use Rattle.rtc_script.specs.declared.script_error.ScriptError.TheVariants.{Line}
-use Rattle.rtc_script.specs.Report.{report}
+use Rattle.rtc_script_reports.specs.Report.{report}
 use Rattle.rtc_script.specs.declared.script.Script.{Script}
 use Rattle.rtc_script.specs.Settings.{sets_lite, sets_snap, buffer_set, interval_set, max_message_set}
 use Rattle.rtc_script.specs.declared.setting.Setting.{Setting}

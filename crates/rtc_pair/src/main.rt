@@ -13,7 +13,8 @@ use rtc_io::{OUT_OF_MEMORY, collect_words};
 pub use rtc_io::{MemSink, MemSource, Sink, Source, StdSink, StdSource};
 pub use rtc_plain_pair::PlainPair;
 pub use rtc_run::{Pair, run_pair};
-pub use rtc_script::{Script, ScriptError, Setting, read_script, write_report};
+pub use rtc_script::{Script, ScriptError, Setting, read_script};
+pub use rtc_script_reports::write_report;
 use std::process::ExitCode;
 
 // Ends with a status, once what was kept is dropped.

@@ -3,7 +3,7 @@ ghost use Rattle.std.specs.Prelude.{◌≡◌, ◌≢◌, ◌<◌, ◌≤◌, �
 ghost use Rattle.rtc_io.specs.Saying.{BreaksOff};
 ghost use Rattle.rtc_io.specs.Programs.{RefusesInput};
 ghost use Rattle.rtc_history.specs.Sizes.{steps_size};
-ghost use Rattle.rtc_script.specs.Report.{report};
+ghost use Rattle.rtc_script_reports.specs.Report.{report};
 ghost use Rattle.rtc_pair.specs.Answers.{
   script_program,
   peer_settings,
@@ -24,7 +24,8 @@ use rtc_io::{OUT_OF_MEMORY, SINK_FAILED, Sink, Source, read_input, refuse_input,
 use rtc_plain::PlainMediaEvent;
 use rtc_plain_pair::{PeerSettings, PlainPair, make_pair};
 use rtc_run::run_pair;
-use rtc_script::{Script, ScriptError, read_script, write_report};
+use rtc_script::{Script, ScriptError, read_script};
+use rtc_script_reports::write_report;
 use rtc_wire::Seq;
 use std::alloc::{AllocError, Global};
 

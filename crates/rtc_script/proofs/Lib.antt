@@ -1,7 +1,6 @@
-pub mod LabelLemmas
 pub mod MessageWords
 pub mod LineLemmas
-pub mod ChannelPartLemmas
+pub mod ChannelOpLemmas
 pub mod SixParts
 pub mod SettingLines
 pub mod SettingWords

@@ -6,7 +6,7 @@ use Rattle.rtc_fields.specs.Words.{words}
 use Rattle.rtc_script.specs.Lines.{IsLine, IsSetting, AreSettingWords, AreStepWords}
 use Rattle.rtc_script.specs.Script.{HaveSteps, HaveBoth, HaveLines}
 use Rattle.rtc_script.specs.Steps.{AreAllSettings, StepsFailAt, FailsAt}
-use Rattle.rtc_script.specs.Words.{side_text}
+use Rattle.rtc_script_words.specs.Words.{side_text}
 use Rattle.rtc_script.specs.declared.script.Script.{Script}
 use Rattle.rtc_script.specs.declared.setting.Setting.{Setting}
 use Rattle.rtc_script.proofs.LineLemmas.{same_letter}

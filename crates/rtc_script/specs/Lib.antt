@@ -1,11 +1,4 @@
-pub mod Words
-pub mod ChannelParts
 pub mod Lines
 pub mod Script
 pub mod Steps
-pub mod Outcomes
-pub mod Events
-pub mod Outputs
-pub mod Report
-pub mod Rows
 pub mod Settings

@@ -1,5 +1,5 @@
 -- The lines of settings and of steps: words parted by single spaces.
-use Rattle.std.specs.Prelude.{◌≡◌, ◌≢◌, ◌<◌, ◌≤◌, ◌^◌, ℕ, Bool, true, false, List, [], ◌∷◌, map, All, codes}
+use Rattle.std.specs.Prelude.{◌≡◌, ◌≢◌, ◌<◌, ◌≤◌, ◌^◌, ℕ, Bool, true, false, List, [], ◌∷◌, codes}
 use Rattle.std.specs.Fmt.{decimal}
 use Rattle.std.specs.List.{AllZip}
 use Rattle.hex.specs.Hex.{IsBytes}
@@ -11,8 +11,9 @@ use Rattle.rtc_history.specs.declared.side.Side.{Side}
 use Rattle.rtc_history.specs.declared.step.Step.{Step}
 use Rattle.rtc_history.specs.declared.step.Step.TheVariants.{Negotiate, AcceptOffer, AcceptAnswer, Time, Datagram, Poll, Drain}
 use Rattle.rtc_history.specs.declared.step.Step.TheVariants.{Write, CloseChannel, Close}
-use Rattle.rtc_script.specs.ChannelParts.{AreChannelParts}
-use Rattle.rtc_script.specs.Words.{side_text, kind_text, direction_text, hex_word, keep_text, message_kind_text, setting_words}
+use Rattle.rtc_script_words.specs.Numbers.{AreLongNumbers, AreNumbers}
+use Rattle.rtc_script_words.specs.ChannelParts.{AreChannelParts}
+use Rattle.rtc_script_words.specs.Words.{side_text, kind_text, direction_text, hex_word, keep_text, message_kind_text}
 use Rattle.rtc_script.specs.declared.setting.Setting.{Setting}
 use Rattle.rtc_script.specs.declared.setting.Setting.TheVariants.{Lite, Snap, Buffer, MaxMessage, Stats}
 
@@ -31,14 +32,6 @@ IsOp word op = AreOpParts (parts 58 word) op
 -- a word for each op
 abbrev pub AreOps : List (List ℕ) → List Op → Type 0
 AreOps found ops = AllZip IsOp found ops
-
--- a decimal without leading zeros for each number, all below 2 ^ 32
-abbrev pub AreNumbers : List (List ℕ) → List ℕ → Type 0
-AreNumbers found numbers = (found ≡ map decimal numbers) × All (λ n. n < 2 ^ 32) numbers
-
--- such a number for each, all below 2 ^ 64
-abbrev pub AreLongNumbers : List (List ℕ) → List ℕ → Type 0
-AreLongNumbers found numbers = (found ≡ map decimal numbers) × All (λ n. n < 2 ^ 64) numbers
 
 -- the number of a channel, below 2 ^ 64, and a message for it: its kind and its bytes
 abbrev pub AreMessageWords : List (List ℕ) → (channel : ℕ) → (binary : Bool) → (bytes : List ℕ) → Type 0
@@ -99,6 +92,14 @@ IsAllowed Snap = Unit {0}
 IsAllowed (Buffer size) = size ≤ 1000000000
 IsAllowed (MaxMessage size) = size < 2 ^ 32
 IsAllowed (Stats millis) = (1 ≤ millis) × (millis ≤ 1000000000)
+
+-- the words of a setting
+abbrev pub setting_words : Setting → List (List ℕ)
+setting_words Lite = codes "lite" ∷ []
+setting_words Snap = codes "snap" ∷ []
+setting_words (Buffer size) = codes "buffer" ∷ decimal size ∷ []
+setting_words (MaxMessage size) = codes "maxmsg" ∷ decimal size ∷ []
+setting_words (Stats millis) = codes "stats" ∷ decimal millis ∷ []
 
 -- the words of a setting that is allowed
 abbrev pub AreValueWords : List (List ℕ) → Setting → Type 0

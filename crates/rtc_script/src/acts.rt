@@ -6,9 +6,9 @@ ghost use Rattle.rtc_history.specs.declared.op.Op.{Op};
 ghost use Rattle.rtc_history.specs.declared.step.Step.{Step};
 
 use crate::messages::read_write;
-use crate::numbers::{read_long, read_one, read_two, read_two_long};
 use crate::ops::read_ops;
 use rtc_history::{Side, Step};
+use rtc_script_words::{is_word, read_long, read_one, read_two, read_two_long};
 use rtc_wire::{ChannelId, Moment};
 use std::alloc::{AllocError, Global};
 
@@ -34,13 +34,13 @@ fn read_single(at: Side, verb: &[u8]) -> Option<Step>
     ensures some { IfSome result (λ step. (side_of step ≡ at) × IsAct verb.now [] step) }
     ensures none { IfNone result ((step : Step) → IsSingle step → IsAct verb.now [] step → ⊥) }
 {
-    if verb == b"poll".as_slice() {
+    if is_word(verb, "poll") {
         return Some(Step::Poll { at });
     }
-    if verb == b"drain".as_slice() {
+    if is_word(verb, "drain") {
         return Some(Step::Drain { at });
     }
-    if verb == b"close".as_slice() {
+    if is_word(verb, "close") {
         return Some(Step::Close { at });
     }
     None
@@ -53,17 +53,17 @@ fn read_polling(at: Side, verb: &[u8], rest: &[&[u8]]) -> Option<Step>
     ensures some { IfSome result (λ step. (side_of step ≡ at) × IsAct verb.now (map (λ word. word.now) rest.now) step) }
     ensures none { IfNone result ((step : Step) → IsAct verb.now (map (λ word. word.now) rest.now) step → ⊥) }
 {
-    if verb == b"time".as_slice() {
+    if is_word(verb, "time") {
         let nanos = read_long(rest)?;
         let now = Moment::from_nanos(nanos);
         return Some(Step::Time { at, now });
     }
-    if verb == b"datagram".as_slice() {
+    if is_word(verb, "datagram") {
         let (packet, nanos) = read_two_long(rest)?;
         let now = Moment::from_nanos(nanos);
         return Some(Step::Datagram { at, packet, now });
     }
-    if verb == b"closechannel".as_slice() {
+    if is_word(verb, "closechannel") {
         let number = read_long(rest)?;
         let channel = ChannelId::new(number);
         return Some(Step::CloseChannel { at, channel });
@@ -86,7 +86,7 @@ fn read_other(
     ensures some { IfOk result (λ read. IfSome read (λ step. (side_of step ≡ at) × IsAct verb.now (map (λ word. word.now) rest.now) step)) }
     ensures none { IfOk result (λ read. IfNone read ((step : Step) → IsAct verb.now (map (λ word. word.now) rest.now) step → ⊥)) }
 {
-    if verb == b"write".as_slice() {
+    if is_word(verb, "write") {
         return read_write(alloc, at, rest);
     }
     Ok(read_polling(at, verb, rest))
@@ -102,19 +102,19 @@ pub fn read_act(
     ensures some { IfOk result (λ read. IfSome read (λ step. (side_of step ≡ at) × IsAct verb.now (map (λ word. word.now) rest.now) step)) }
     ensures none { IfOk result (λ read. IfNone read ((step : Step) → IsAct verb.now (map (λ word. word.now) rest.now) step → ⊥)) }
 {
-    if verb == b"offer".as_slice() {
+    if is_word(verb, "offer") {
         return read_negotiation(alloc, at, rest, true);
     }
-    if verb == b"stage".as_slice() {
+    if is_word(verb, "stage") {
         return read_negotiation(alloc, at, rest, false);
     }
-    if verb == b"accept".as_slice() {
+    if is_word(verb, "accept") {
         return match read_one(rest) {
             Some(offer) => Ok(Some(Step::AcceptOffer { at, offer })),
             None => Ok(None),
         };
     }
-    if verb == b"answer".as_slice() {
+    if is_word(verb, "answer") {
         return match read_two(rest) {
             Some((token, answer)) => Ok(Some(Step::AcceptAnswer { at, token, answer })),
             None => Ok(None),

@@ -2,11 +2,10 @@
 ghost use Rattle.std.specs.Prelude.{◌≡◌, ◌≢◌, ℕ, Bool, List, [], ◌∷◌, IfOk, IfSome, IfNone, map, codes};
 ghost use Rattle.rtc_history.specs.Sides.{side_of};
 ghost use Rattle.rtc_script.specs.Lines.{AreMessageWords, IsAct};
-ghost use Rattle.rtc_script.specs.Words.{message_kind_text};
+ghost use Rattle.rtc_script_words.specs.Words.{message_kind_text};
 
-use crate::labels::read_bytes;
-use crate::numbers::read_u64;
 use rtc_history::{Side, Step};
+use rtc_script_words::{is_word, read_bytes, read_u64};
 use rtc_wire::{Bytes, ChannelId};
 use std::alloc::{AllocError, Global};
 
@@ -15,9 +14,9 @@ fn read_message_kind(word: &[u8]) -> Option<bool>
     ensures some { IfSome result (λ binary. word.now ≡ message_kind_text binary) }
     ensures none { IfNone result ((binary : Bool) → word.now ≢ message_kind_text binary) }
 {
-    if word == b"binary".as_slice() {
+    if is_word(word, "binary") {
         Some(true)
-    } else if word == b"text".as_slice() {
+    } else if is_word(word, "text") {
         Some(false)
     } else {
         None

@@ -1,15 +1,13 @@
 //! Ops of a line.
-ghost use Rattle.std.specs.Prelude.{◌≡◌, ◌≢◌, ◌<◌, ◌^◌, [], ◌∷◌, Bool, List, IfOk, IfSome, IfNone, map, codes};
+ghost use Rattle.std.specs.Prelude.{◌≡◌, ◌≢◌, ◌<◌, [], ◌∷◌, Bool, List, IfOk, IfSome, IfNone, map, codes};
 ghost use Rattle.rtc_script.specs.Lines.{AreOpParts, IsOp, AreOps};
-ghost use Rattle.rtc_script.specs.Words.{keep_text};
+ghost use Rattle.rtc_script_words.specs.Words.{keep_text};
 ghost use Rattle.rtc_history.specs.declared.op.Op.{Op};
 
-use crate::channel_parts::{read_config, read_label_word};
-use crate::cutting::cut_parts;
-use crate::directions::read_direction;
-use crate::kinds::read_kind;
-use crate::numbers::read_u32;
 use rtc_history::Op;
+use rtc_script_words::{
+    cut_parts, is_word, read_config, read_direction, read_kind, read_label_word, read_u32,
+};
 use rtc_wire::Seq;
 use std::alloc::{AllocError, Global};
 
@@ -18,9 +16,9 @@ fn read_keep(word: &[u8]) -> Option<bool>
     ensures some { IfSome result (λ keep. word.now ≡ keep_text keep) }
     ensures none { IfNone result ((keep : Bool) → word.now ≢ keep_text keep) }
 {
-    if word == b"keep".as_slice() {
+    if is_word(word, "keep") {
         Some(true)
-    } else if word == b"new".as_slice() {
+    } else if is_word(word, "new") {
         Some(false)
     } else {
         None
@@ -33,11 +31,11 @@ fn read_two_parts(word: &[u8], value: &[u8]) -> Option<Op>
     ensures some { IfSome result (λ op. AreOpParts (word.now ∷ value.now ∷ []) op) }
     ensures none { IfNone result ((op : Op) → AreOpParts (word.now ∷ value.now ∷ []) op → ⊥) }
 {
-    if word == b"stop".as_slice() {
+    if is_word(word, "stop") {
         let place = read_u32(value)?;
         return Some(Op::StopMedia { place });
     }
-    if word == b"restart".as_slice() {
+    if is_word(word, "restart") {
         let keep = read_keep(value)?;
         return Some(Op::IceRestart { keep });
     }
@@ -51,7 +49,7 @@ fn read_three_parts(word: &[u8], place: &[u8], value: &[u8]) -> Option<Op>
     ensures some { IfSome result (λ op. AreOpParts (word.now ∷ place.now ∷ value.now ∷ []) op) }
     ensures none { IfNone result ((op : Op) → AreOpParts (word.now ∷ place.now ∷ value.now ∷ []) op → ⊥) }
 {
-    if word != b"dir".as_slice() {
+    if !is_word(word, "dir") {
         return None;
     }
     let place = read_u32(place)?;
@@ -60,7 +58,7 @@ fn read_three_parts(word: &[u8], place: &[u8], value: &[u8]) -> Option<Op>
 }
 
 // An op that adds a channel with the label that a word writes.
-#[tactic(auto, using(crate::proofs::ChannelPartLemmas::no_labelled))]
+#[tactic(auto, using(crate::proofs::ChannelOpLemmas::no_labelled))]
 fn read_labelled(alloc: Global, value: &[u8]) -> Result<Option<Op>, AllocError>
     ensures some { IfOk result (λ read. IfSome read (λ op. AreOpParts (codes "channel" ∷ value.now ∷ []) op)) }
     ensures none { IfOk result (λ read. IfNone read ((op : Op) → AreOpParts (codes "channel" ∷ value.now ∷ []) op → ⊥)) }
@@ -76,14 +74,14 @@ fn read_pair(alloc: Global, word: &[u8], value: &[u8]) -> Result<Option<Op>, All
     ensures some { IfOk result (λ read. IfSome read (λ op. AreOpParts (word.now ∷ value.now ∷ []) op)) }
     ensures none { IfOk result (λ read. IfNone read ((op : Op) → AreOpParts (word.now ∷ value.now ∷ []) op → ⊥)) }
 {
-    if word == b"channel".as_slice() {
+    if is_word(word, "channel") {
         return read_labelled(alloc, value);
     }
     Ok(read_two_parts(word, value))
 }
 
 // An op that adds a channel with all that it is opened with, by the words of its parts.
-#[tactic(auto, using(crate::proofs::ChannelPartLemmas::no_whole))]
+#[tactic(auto, using(crate::proofs::ChannelOpLemmas::no_whole))]
 fn read_whole(
     alloc: Global,
     label: &[u8],
@@ -104,7 +102,7 @@ fn read_whole(
 }
 
 // An op of six parts.
-#[tactic(auto, using(crate::proofs::ChannelPartLemmas::no_other))]
+#[tactic(auto, using(crate::proofs::ChannelOpLemmas::no_other))]
 fn read_six_parts(
     alloc: Global,
     word: &[u8],
@@ -119,7 +117,7 @@ fn read_six_parts(
     ensures none { IfOk result (λ read. IfNone read ((op : Op) → AreOpParts
         (word.now ∷ label.now ∷ order.now ∷ reliability.now ∷ stream.now ∷ protocol.now ∷ []) op → ⊥)) }
 {
-    if word == b"channel".as_slice() {
+    if is_word(word, "channel") {
         return read_whole(alloc, label, order, reliability, stream, protocol);
     }
     Ok(None)

@@ -4,10 +4,10 @@ ghost use Rattle.rtc_history.specs.Sizes.{steps_size};
 ghost use Rattle.rtc_script.specs.Script.{header, HaveLines, ArePieces, AreRefused, IsScript, IsRefused};
 ghost use Rattle.rtc_script.specs.Steps.{IsScriptLinesError};
 
-use crate::cutting::cut_lines;
 use crate::settings::read_settings;
 use crate::steps::{StepsError, read_steps};
 use crate::{Script, ScriptError};
+use rtc_script_words::cut_lines;
 use rtc_wire::Seq;
 use std::alloc::Global;
 

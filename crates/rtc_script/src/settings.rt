@@ -7,10 +7,8 @@ ghost use Rattle.rtc_script.specs.Steps.{AreAllSettings};
 ghost use Rattle.rtc_script.specs.declared.setting.Setting.{Setting};
 
 use crate::Setting;
-use crate::cutting::cut_words;
-use crate::numbers::read_u32;
-use crate::sides::read_side;
 use rtc_history::Side;
+use rtc_script_words::{cut_words, is_word, read_side, read_u32};
 use rtc_wire::Seq;
 use std::alloc::{AllocError, Global};
 
@@ -20,9 +18,9 @@ fn read_one_word(word: &[u8]) -> Option<Setting>
     ensures some { IfSome result (λ setting. AreValueWords (word.now ∷ []) setting) }
     ensures none { IfNone result ((setting : Setting) → AreValueWords (word.now ∷ []) setting → ⊥) }
 {
-    if word == b"lite".as_slice() {
+    if is_word(word, "lite") {
         Some(Setting::Lite)
-    } else if word == b"snap".as_slice() {
+    } else if is_word(word, "snap") {
         Some(Setting::Snap)
     } else {
         None
@@ -87,11 +85,11 @@ fn read_two_words(word: &[u8], number: &[u8]) -> Option<Setting>
     ensures some { IfSome result (λ setting. AreValueWords (word.now ∷ number.now ∷ []) setting) }
     ensures none { IfNone result ((setting : Setting) → AreValueWords (word.now ∷ number.now ∷ []) setting → ⊥) }
 {
-    if word == b"buffer".as_slice() {
+    if is_word(word, "buffer") {
         read_buffer(number)
-    } else if word == b"maxmsg".as_slice() {
+    } else if is_word(word, "maxmsg") {
         read_max_message(number)
-    } else if word == b"stats".as_slice() {
+    } else if is_word(word, "stats") {
         read_stats(number)
     } else {
         None
@@ -114,7 +112,7 @@ fn read_behind(verb: &[u8], side: &[u8], value: &[&[u8]]) -> Option<(Side, Setti
     ensures none { IfNone result ((setting : Side × Setting)
         → AreSettingWords (verb.now ∷ side.now ∷ map (λ word. word.now) value.now) setting → ⊥) }
 {
-    if verb != b"set".as_slice() {
+    if !is_word(verb, "set") {
         return None;
     }
     let at = read_side(side)?;

@@ -1,7 +1,0 @@
-use Rattle.std.proofs.Common.{◌≡◌, ◌++◌, drop, string_bytes}
-use Rattle.rtc_script.specs.Rows.{row_lines}
-use Rattle.rtc_script.proofs.rows.push_rows.Given as goal
-
--- the lines so far, and those of the rows to come, are all lines
-abbrev pub invariant-loop-row : goal.invariant-loop-row
-invariant-loop-row l = string_bytes l.out ++ row_lines (drop l.row-index l.rows) ≡ string_bytes l.fn.out ++ row_lines l.rows

@@ -1,0 +1,5 @@
+pub mod Outcomes
+pub mod Events
+pub mod Outputs
+pub mod Report
+pub mod Rows

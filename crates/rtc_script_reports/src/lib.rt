@@ -1,0 +1,14 @@
+//! Reports of scripts: a line for each reply, with what its polls gave and what its peer holds.
+#![tactic(auto)]
+
+mod channels;
+mod events;
+mod outcomes;
+mod outputs;
+mod pushing;
+mod refusals;
+mod reports;
+mod rows;
+mod words;
+
+pub use reports::write_report;

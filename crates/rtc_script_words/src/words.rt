@@ -1,0 +1,9 @@
+//! Words that are told by their letters.
+ghost use Rattle.std.specs.Prelude.{◌≡◌, ◌↔◌, IsTrue};
+
+/// Whether a word has these letters.
+pub fn is_word(word: &[u8], letters: &str) -> bool
+    ensures { IsTrue result ↔ (word.now ≡ letters.now) }
+{
+    word == letters.as_bytes()
+}
