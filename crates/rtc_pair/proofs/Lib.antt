@@ -1,5 +1,3 @@
-mod NewPairs
 pub mod Scripts
 pub mod Words
 pub mod Completes
-pub mod Demos

@@ -1,30 +1,16 @@
 -- What was read, said of what a source had left.
-use Rattle.std.proofs.Common.{◌≡◌, ◌≤◌, ◌^◌, ◌⊎◌, inl, inr, ℕ, Bool, true, List, length, Option, Result, Ok, Err, IfOk, sym, subst}
+use Rattle.std.proofs.Common.{◌≡◌, ◌≤◌, ◌^◌, ◌⊎◌, inl, inr, ℕ, true, List, length, Option, subst}
 use Rattle.std.specs.declared.alloc.Global.{Global}
 use Rattle.std.specs.Io.KnownBytes.{Consumes, IsAtEnd}
-use Rattle.rtc_channel_runs.proofs.DrainedRuns.{run_hands_out}
-use Rattle.rtc_channel_runs.proofs.SettlesRuns.{run_settles_open}
-use Rattle.rtc_plain_pair.proofs.PlainFaults.{plain_unfaulted}
-use Rattle.rtc_plain_pair.specs.ProgramPair.{counting, plain_parts, PlainPairState}
+use Rattle.rtc_plain_pair.specs.ProgramPair.{PlainPairState}
 use Rattle.rtc_io.proofs.Told.{reads_input}
 use Rattle.rtc_io.specs.Programs.{ReadsInput}
 use Rattle.rtc_script.specs.Script.{IsScript, IsRefused}
 use Rattle.rtc_script.specs.declared.script.Script.{Script}
 use Rattle.rtc_script.specs.declared.script_error.ScriptError.{ScriptError}
 use Rattle.rtc_script.specs.declared.script_error.ScriptError.TheVariants.{Line}
-use Rattle.rtc_history.specs.declared.reply.Reply.{Reply}
-use Rattle.rtc_history.specs.declared.step.Step.{Step}
-use Rattle.rtc_plain_ice.specs.Messages.{is_ice_message}
-use Rattle.rtc_plain_media.specs.declared.plain_media_event.PlainMediaEvent.{PlainMediaEvent}
-use Rattle.rtc_io.proofs.Told.{breaks_off_as}
-use Rattle.rtc_io.specs.Saying.{BreaksOff}
-use Rattle.rtc_script_reports.specs.Report.{report}
-use Rattle.rtc_history.specs.DrawnInRuns.{AllPlain, DrawsUnused, HaveNoLines}
-use Rattle.rtc_history.specs.Fresh.{ArePeersFormed}
-use Rattle.rtc_history.specs.Runs.{Runs}
-use Rattle.rtc_history.specs.Signalled.{AllReadBack}
-use Rattle.rtc_pair.proofs.NewPairs.{program_new, program_no_lines}
-use Rattle.rtc_pair.specs.Answers.{IsPairOf, IsReport, RanScript, KeepsReport, PerformsScript, RunsScript}
+use Rattle.rtc_pair.specs.Answers.{RunsScript}
+use Rattle.rtc_script_runs.specs.Performed.{PerformsScript}
 
 pub reads_script : (a b : Option (List ℕ)) (bytes slice : List ℕ) (script : Script)
     → Consumes a b bytes → IsAtEnd b → length bytes ≤ 2 ^ 20 → slice ≡ bytes → IsScript slice script
@@ -45,63 +31,3 @@ pub runs_or : (alloc : Global) (a b written written' : Option (List ℕ)) (last 
     → RunsScript alloc true a b written written' last ⊎ R
 runs_or alloc a b written written' last script R read (inl performs) = inl (record { script = script; read = read; performs = performs })
 runs_or alloc a b written written' last script R read (inr rest) = inr rest
-
--- what is known of descriptions that are plain, by replies
-abbrev pub KnowPlain : List Step → (start pair : PlainPairState) → List (Reply PlainMediaEvent) → Type 0
-KnowPlain steps start pair told =
-    (run : Runs plain_parts is_ice_message start steps told pair)
-    → DrawsUnused plain_parts is_ice_message start steps told pair run
-    → AllPlain pair.sdps
-
--- so it is of steps that are the same
-pub known_of : {E : Type 0} (start pair : PlainPairState) (replies : Result (List (Reply PlainMediaEvent)) E) (steps steps' : List Step) → steps ≡ steps'
-    → (HaveNoLines plain_parts start → IfOk replies (KnowPlain steps start pair)) → HaveNoLines plain_parts start → IfOk replies (KnowPlain steps' start pair)
-known_of start pair replies steps steps' is known =
-    subst (λ (x : List Step). HaveNoLines plain_parts start → IfOk replies (KnowPlain x start pair)) is known
-
--- replies that are joined with the pair are those of the run
-pub ran_joined : {E : Type 0} (alloc : Global) (script : Script) (start pair : PlainPairState) (replies : Result (List (Reply PlainMediaEvent)) E)
-    (result : Result (PlainPairState × List (Reply PlainMediaEvent)) E) → IfOk result (λ joined. (joined.0 ≡ pair) × (replies ≡ Ok joined.1))
-    → IsPairOf alloc script start → ArePeersFormed plain_parts start → IfOk replies (λ told. Runs plain_parts is_ice_message start script.steps told pair)
-    → IfOk replies (λ told. AllReadBack pair.sdps) → (HaveNoLines plain_parts start → IfOk replies (KnowPlain script.steps start pair))
-    → IfOk result (λ ran. RanScript alloc script ran.1 ran.0)
-ran_joined {E = E} alloc script start pair replies (Ok (kept, told)) (kept_is, told_is) program formed runs read_back plain =
-    let Q : Result (List (Reply PlainMediaEvent)) E → Type 0 = λ (r : Result (List (Reply PlainMediaEvent)) E). IfOk r (λ told. Runs plain_parts is_ice_message start script.steps told pair) in
-    let U : Result (List (Reply PlainMediaEvent)) E → Type 0 = λ (r : Result (List (Reply PlainMediaEvent)) E). IfOk r (λ told. AllReadBack pair.sdps) in
-    let V : Result (List (Reply PlainMediaEvent)) E → Type 0 = λ (r : Result (List (Reply PlainMediaEvent)) E). IfOk r (KnowPlain script.steps start pair) in
-    let ran : Runs plain_parts is_ice_message start script.steps told pair = subst Q told_is runs in
-    let read : AllReadBack pair.sdps = subst U told_is read_back in
-    let known : KnowPlain script.steps start pair told = subst V told_is (plain (program_no_lines alloc _ _ start program)) in
-    subst (λ (left : PlainPairState). RanScript alloc script told left) (sym kept_is) (record {
-      start = start;
-      program = program;
-      formed = formed;
-      runs = ran;
-      read_back = read;
-      plain = λ drew. known ran drew;
-      no_fault = plain_unfaulted start pair script.steps told ran;
-      channels = run_hands_out counting is_ice_message start pair script.steps told (program_new alloc _ _ start program) ran;
-      settles = run_settles_open counting is_ice_message start pair script.steps told (program_new alloc _ _ start program) ran;
-    })
-ran_joined alloc script start pair replies (Err error) joined program formed runs read_back plain = tt
-
--- a script was run, and its report was written
-pub performs : (alloc : Global) (lacking : Bool) (script : Script) (replies : List (Reply PlainMediaEvent)) (pair : PlainPairState) (written written' : Option (List ℕ))
-    (last : Option PlainPairState) → RanScript alloc script replies pair → KeepsReport lacking script.steps replies pair written written' last
-    → PerformsScript alloc lacking script written written' last
-performs alloc lacking script replies pair written written' last ran keeps = record { replies = replies; pair = pair; ran = ran; keeps = keeps }
-
-pub performs_or : (alloc : Global) (lacking : Bool) (script : Script) (replies : List (Reply PlainMediaEvent)) (pair : PlainPairState) (written written' : Option (List ℕ))
-    (last : Option PlainPairState) (R : Type 0) → RanScript alloc script replies pair → KeepsReport lacking script.steps replies pair written written' last ⊎ R
-    → PerformsScript alloc lacking script written written' last ⊎ R
-performs_or alloc lacking script replies pair written written' last R ran (inl keeps) =
-    inl (performs alloc lacking script replies pair written written' last ran keeps)
-performs_or alloc lacking script replies pair written written' last R ran (inr rest) = inr rest
-
--- a report that is broken off is that of the run
-pub report_off : (alloc : Global) (script : Script) (replies : List (Reply PlainMediaEvent)) (pair : PlainPairState) (written written' : Option (List ℕ)) (faults faults' : ℕ)
-    → RanScript alloc script replies pair → BreaksOff (λ text. text ≡ report script.steps replies) written written' faults faults'
-    → BreaksOff (IsReport alloc script) written written' faults faults'
-report_off alloc script replies pair written written' faults faults' ran off =
-    let P : List ℕ → Type 0 = λ (text : List ℕ). text ≡ report script.steps replies in
-    breaks_off_as P (IsReport alloc script) written written' faults faults' (λ text is. record { replies = replies; pair = pair; ran = ran; is = is }) off

@@ -1,76 +1,18 @@
 -- What the program does and answers.
-use Rattle.std.specs.Prelude.{◌≡◌, ◌≤◌, ◌^◌, ◌⊎◌, ℕ, Bool, false, List, [], ◌∷◌, length, codes, Option, Some, None}
-use Rattle.std.specs.List.{list_any}
+use Rattle.std.specs.Prelude.{◌≡◌, ◌≤◌, ◌^◌, ◌⊎◌, ℕ, Bool, List, [], ◌∷◌, length, codes, Option, Some, None}
 use Rattle.std.specs.declared.alloc.Global.{Global}
 use Rattle.std.specs.Io.KnownBytes.{Appends}
 use Rattle.rtc_io.specs.Faults.{Rose}
 use Rattle.rtc_io.specs.Programs.{Program, ReadsInput, IsTooLong, IsDue, fault_line, long_line}
-use Rattle.rtc_history.specs.declared.side.Side.{Side}
-use Rattle.rtc_history.specs.declared.side.Side.TheVariants.{Left, Right}
-use Rattle.rtc_history.specs.declared.reply.Reply.{Reply}
-use Rattle.rtc_history.specs.declared.step.Step.{Step}
-use Rattle.rtc_history.specs.Memory.{lacks_memory, tell_fault}
-use Rattle.rtc_history.specs.DrawnInRuns.{AllPlain, DrawsUnused}
-use Rattle.rtc_history.specs.Fresh.{ArePeersFormed}
-use Rattle.rtc_history.specs.Runs.{Runs}
-use Rattle.rtc_history.specs.Signalled.{AllReadBack}
-use Rattle.rtc_plain_ice.specs.Messages.{is_ice_message}
-use Rattle.rtc_plain_media.specs.declared.plain_media_event.PlainMediaEvent.{PlainMediaEvent}
-use Rattle.rtc_channel_runs.specs.HandedOut.{HandsOut}
-use Rattle.rtc_channel_runs.specs.SettledPairs.{SettlesOpen}
-use Rattle.rtc_plain_pair.specs.ProgramPair.{counting, plain_parts, PlainPairState, IsProgramPair}
-use Rattle.rtc_plain_pair.specs.declared.peer_settings.PeerSettings.{PeerSettings}
+use Rattle.rtc_plain_pair.specs.ProgramPair.{PlainPairState}
 use Rattle.rtc_script.specs.Script.{IsScript, IsRefused}
 use Rattle.rtc_script.specs.declared.script_error.ScriptError.TheVariants.{Line}
-use Rattle.rtc_script_reports.specs.Report.{report}
 use Rattle.rtc_script.specs.declared.script.Script.{Script}
-use Rattle.rtc_script.specs.Settings.{sets_lite, sets_snap, buffer_set, interval_set, max_message_set}
-use Rattle.rtc_script.specs.declared.setting.Setting.{Setting}
+use Rattle.rtc_script_runs.specs.Performed.{IsReport, PerformsScript}
 
 -- the words of a run
 abbrev pub run_words : List (List ℕ)
 run_words = codes "run" ∷ []
-
--- whether a reply tells that memory ran out
-abbrev pub lack_memory : {E : Type 0} → List (Reply E) → Bool
-lack_memory replies = list_any lacks_memory replies
-
--- what the settings of a script set a peer to
-abbrev pub peer_settings : Side → List (Side × Setting) → PeerSettings
-peer_settings at settings = record {
-  lite = sets_lite at settings;
-  snap = sets_snap at settings;
-  max_buffered = buffer_set at settings;
-  max_message_size = max_message_set at settings;
-  stats_interval = interval_set at settings;
-}
-
--- The pair of the program, as the settings of a script make it.
-abbrev pub IsPairOf : Global → Script → PlainPairState → Type 0
-IsPairOf alloc script pair =
-    IsProgramPair alloc (peer_settings Left script.settings) (peer_settings Right script.settings) pair
-
--- A script was run on the program's pair, which is formed, with these replies, which left this pair, and each description that was made is
--- read back, as it was written where each source was unused when it was drawn. No reply tells that a part failed: those in memory never
--- do. Channels hand out what the other side sent, and of those that were opened in-band each is announced at most once; where the run
--- leaves the pair settled, one that is open at a side, over a stream that both keep, is open at both, and was announced at both.
-pub record RanScript (alloc : Global) (script : Script) (replies : List (Reply PlainMediaEvent)) (pair : PlainPairState) : Type 0 where
-  pub start : PlainPairState
-  pub program : IsPairOf alloc script start
-  pub formed : ArePeersFormed plain_parts start
-  pub runs : Runs plain_parts is_ice_message start script.steps replies pair
-  pub read_back : AllReadBack pair.sdps
-  pub plain : DrawsUnused plain_parts is_ice_message start script.steps replies pair runs → AllPlain pair.sdps
-  pub no_fault : tell_fault replies ≡ false
-  pub channels : HandsOut counting is_ice_message start script.steps replies pair runs
-  pub settles : SettlesOpen counting is_ice_message start script.steps replies pair runs
-
--- This text is the report of a run of a script.
-pub record IsReport (alloc : Global) (script : Script) (text : List ℕ) : Type 0 where
-  pub replies : List (Reply PlainMediaEvent)
-  pub pair : PlainPairState
-  pub ran : RanScript alloc script replies pair
-  pub is : text ≡ report script.steps replies
 
 -- the texts of the program: it reads scripts, and answers each with the report of its run
 abbrev pub script_program : Global → Program Script
@@ -89,21 +31,6 @@ TellsFault faults faults' written written' = Rose faults faults' × Appends writ
 -- More bytes were left than a program reads, and the line of their length was written.
 abbrev pub TellsLength : Global → Option (List ℕ) → Option (List ℕ) → Option (List ℕ) → Type 0
 TellsLength alloc left written written' = IsTooLong left × Appends written written' (long_line (script_program alloc).subject)
-
--- The report of steps and their replies was written, and what they were performed on is kept.
-pub record KeepsReport {P : Type 0} (lacking : Bool) (steps : List Step) (replies : List (Reply PlainMediaEvent)) (performed : P)
-    (written written' : Option (List ℕ)) (last : Option P) : Type 0 where
-  pub reported : Appends written written' (report steps replies)
-  pub kept : last ≡ Some performed
-  pub memory : lack_memory replies ≡ lacking
-
--- A script was run, its report was written, and the pair is left.
-pub record PerformsScript (alloc : Global) (lacking : Bool) (script : Script) (written written' : Option (List ℕ))
-    (last : Option PlainPairState) : Type 0 where
-  pub replies : List (Reply PlainMediaEvent)
-  pub pair : PlainPairState
-  pub ran : RanScript alloc script replies pair
-  pub keeps : KeepsReport lacking script.steps replies pair written written' last
 
 -- A script was read to the end of the input, and performed.
 pub record RunsScript (alloc : Global) (lacking : Bool) (left left' written written' : Option (List ℕ))

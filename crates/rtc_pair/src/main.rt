@@ -3,7 +3,6 @@
 #![tactic(auto)]
 
 mod asking;
-mod demo;
 mod program;
 mod top;
 

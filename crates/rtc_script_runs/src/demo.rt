@@ -2,9 +2,9 @@
 ghost use Rattle.std.specs.Prelude.{◌≡◌, ◌≤◌, ◌<◌, ◌^◌, ◌⊎◌, IfOk};
 ghost use Rattle.rtc_io.specs.Saying.{BreaksOff};
 ghost use Rattle.rtc_history.specs.Sizes.{steps_size};
-ghost use Rattle.rtc_pair.specs.Demo.{demo_script, demo_text, IsDemoText, PerformsDemo, TellsCounts};
+ghost use Rattle.rtc_script_runs.specs.Demo.{demo_script, demo_text, IsDemoText, PerformsDemo, TellsCounts};
 
-use crate::top::{lack_memory, run_script};
+use crate::running::{lack_memory, run_script};
 use rtc_demo::{count_demo, demo_steps, write_counts};
 use rtc_history::{Reply, Step};
 use rtc_io::{OUT_OF_MEMORY, SINK_FAILED, Sink, write_all};
@@ -60,7 +60,7 @@ fn tell_counts<W: Sink, P: Drop>(
     0
 }
 
-/// Performs a demo of so many rounds, which a seed settles, on the pair of the program, and writes what is counted over the replies;
+/// Performs a demo of so many rounds, which a seed determines, on the pair of the program, and writes what is counted over the replies;
 /// answers the status to end with.
 pub fn perform_demo<W: Sink>(
     alloc: Global,

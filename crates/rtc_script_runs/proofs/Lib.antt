@@ -1,0 +1,3 @@
+mod NewPairs
+pub mod Performances
+pub mod Demos

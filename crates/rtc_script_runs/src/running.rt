@@ -1,0 +1,65 @@
+//! Scripts that are run on the pair of the program.
+ghost use Rattle.std.specs.Prelude.{◌≡◌, ◌<◌, ◌^◌, IfOk, Ok};
+ghost use Rattle.rtc_history.specs.Sizes.{steps_size};
+ghost use Rattle.rtc_script_runs.specs.Performed.{peer_settings, RanScript, lack_memory};
+
+use rtc_history::{Reply, Side};
+use rtc_plain::PlainMediaEvent;
+use rtc_plain_pair::{PeerSettings, PlainPair, make_pair};
+use rtc_run::run_pair;
+use rtc_script::Script;
+use rtc_wire::Seq;
+use std::alloc::{AllocError, Global};
+
+/// Whether a reply tells that memory ran out.
+pub fn lack_memory(replies: &[Reply<PlainMediaEvent>]) -> bool
+    ensures { result ≡ lack_memory replies.now }
+{
+    for reply in replies {
+        if reply.is_out_of_memory() {
+            return true;
+        }
+    }
+    false
+}
+
+// What the settings of a script set a peer to.
+fn settings_of(script: &Script, at: Side) -> PeerSettings
+    ensures { result ≡ peer_settings at script.now.settings }
+{
+    PeerSettings {
+        lite: script.sets_lite(at),
+        snap: script.sets_snap(at),
+        max_buffered: script.buffer_set(at),
+        max_message_size: script.max_message_set(at),
+        stats_interval: script.interval_set(at),
+    }
+}
+
+// Replies, with what the steps were performed on.
+fn join_replies<P: Drop>(
+    performed: P,
+    replies: Result<Seq<Reply<PlainMediaEvent>>, AllocError>,
+) -> Result<(P, Seq<Reply<PlainMediaEvent>>), AllocError>
+    ensures { IfOk result (λ joined. (joined.0 ≡ performed) × (replies ≡ Ok joined.1)) }
+{
+    match replies {
+        Ok(replies) => Ok((performed, replies)),
+        Err(error) => Err(error),
+    }
+}
+
+/// The pair of the program after the steps of a script, and their replies.
+pub fn run_script(
+    alloc: Global,
+    script: &Script,
+) -> Result<(PlainPair, Seq<Reply<PlainMediaEvent>>), AllocError>
+    requires { steps_size script.now.steps < 2 ^ 32 }
+    ensures { IfOk result (λ ran. RanScript alloc script.now ran.1 ran.0) }
+{
+    let left_settings = settings_of(script, Side::Left);
+    let right_settings = settings_of(script, Side::Right);
+    let mut pair = make_pair(alloc, left_settings, right_settings)?;
+    let replies = run_pair(alloc, &mut pair, script.steps.as_slice());
+    join_replies(pair, replies)
+}
