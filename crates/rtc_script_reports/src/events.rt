@@ -2,7 +2,8 @@
 ghost use Rattle.std.specs.Prelude.{◌≡◌, ◌++◌, OnOk, string_bytes};
 ghost use Rattle.rtc_script_reports.specs.Events.{event_text, line_bytes_text, media_event_text, raw_packet_text, state_text};
 ghost use Rattle.rtc_script_words.specs.Words.{hex_word, message_kind_text};
-ghost use Rattle.rtc_connection.specs.declared.event.Event.TheVariants.{ChannelData as DataOf, ChannelOpen as OpenOf, PeerStats as TotalsOf};
+ghost use Rattle.rtc_connection.specs.declared.event.Event.TheVariants.{ChannelData as DataOf, ChannelOpen as OpenOf};
+ghost use Rattle.rtc_connection.specs.declared.event.Event.TheVariants.{PeerStats as TotalsOf};
 
 use crate::pushing::{push_named, push_word};
 use crate::words::{direction_word, kind_word};

@@ -1,7 +1,8 @@
 //! Lines of what polls gave.
 ghost use Rattle.std.specs.Prelude.{◌≡◌, ◌++◌, OnOk, codes, string_bytes};
 ghost use Rattle.rtc_peer_state.specs.RtcErrorText.{rtc_error_text};
-ghost use Rattle.rtc_script_reports.specs.Outputs.{end_line, error_line, moment_text, output_line, outputs_lines, polled_lines, reason_text};
+ghost use Rattle.rtc_script_reports.specs.Outputs.{end_line, error_line, moment_text, output_line, outputs_lines};
+ghost use Rattle.rtc_script_reports.specs.Outputs.{polled_lines, reason_text};
 
 use crate::events::push_event;
 use crate::pushing::{push_named, push_number, push_word};

@@ -1,7 +1,8 @@
 //! The words of what a channel is opened with.
 ghost use Rattle.std.specs.Prelude.{◌≡◌, ◌≢◌, ◌<◌, ◌^◌, ◌++◌, ℕ, Bool, List, Option, MatchOption, IfOk, IfSome, IfNone, codes};
 ghost use Rattle.std.specs.Fmt.{decimal};
-ghost use Rattle.rtc_script_words.specs.ChannelParts.{order_text, reliability_text, settled_text, IsReliability, IsSettled, IsLabelWord, AreConfigWords};
+ghost use Rattle.rtc_script_words.specs.ChannelParts.{order_text, reliability_text, settled_text, IsReliability};
+ghost use Rattle.rtc_script_words.specs.ChannelParts.{IsSettled, IsLabelWord, AreConfigWords};
 ghost use Rattle.rtc_wire.specs.declared.channel_config.ChannelConfig.{ChannelConfig};
 ghost use Rattle.rtc_wire.specs.declared.reliability.Reliability.{Reliability};
 
