@@ -1,4 +1,4 @@
-//! The parts of a peer that stand outside of it, each known by what its calls do.
+//! The SCTP association of a peer, by what its calls do, with its events, errors and payload protocol identifiers.
 #![tactic(auto)]
 
 mod assoc_error;

@@ -7,11 +7,22 @@ use std::marker::Model;
 /// What the side that made an offer keeps until it accepts the answer.
 ///
 /// Accepting the answer spends it, and it cannot be copied.
-#[derive(Debug, Drop)]
+#[derive(Debug)]
 pub struct SdpPendingOffer {
     change_id: u64,
     changes: Changes,
     sctp_init: bool,
+}
+
+// Written out, so that the proof of what owns a token sees one call and not the drop of each field.
+impl Drop for SdpPendingOffer {
+    fn drop(self) {
+        let SdpPendingOffer {
+            change_id: _change_id,
+            changes: _changes,
+            sctp_init: _sctp_init,
+        } = self;
+    }
 }
 
 impl Model for SdpPendingOffer {
@@ -57,6 +68,11 @@ impl SdpPendingOffer {
     pub fn into_changes(self) -> Changes
         ensures { result.0 ≡ self.changes }
     {
-        self.changes
+        let SdpPendingOffer {
+            change_id: _change_id,
+            changes,
+            sctp_init: _sctp_init,
+        } = self;
+        changes
     }
 }

@@ -37,8 +37,8 @@ impl SdpOffer {
         sdp_text(&self.0)
     }
 
-    /// Whether the mids and the BUNDLE group of the offer fit together (RFC 8843, section 7.1). It takes time in the square of the
-    /// lines.
+    /// Whether the mids and the BUNDLE group of the offer fit together (RFC 8843, section 7.1). Where there is no memory for
+    /// sets of mids, it takes time in the square of the lines.
     pub fn assert_consistency(&self) -> Result<(), SdpError>
         ensures { result ≡ refusal (inconsistency self.now.0) }
     {

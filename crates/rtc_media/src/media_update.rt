@@ -6,7 +6,7 @@ use rtc_wire::{Seq, Text, TryCopy, fill_next, whole};
 use std::alloc::AllocError;
 
 /// A line as a negotiation leaves it. The media part is handed one for each media line of a session description.
-#[derive(Debug, PartialEq, Eq, Drop)]
+#[derive(Debug, PartialEq, Eq)]
 pub struct MediaUpdate {
     pub row: LineRow,
     /// The stopped line in whose place an offer put this one (RFC 8829, section 5.2.2).
@@ -23,6 +23,24 @@ pub struct MediaUpdate {
     pub ssrcs_tx: Seq<(Ssrc, Option<Ssrc>)>,
     /// The streams that the other end sends.
     pub ssrcs_rx: Seq<(Ssrc, Option<Ssrc>)>,
+}
+
+// Written out, so that the proof of what owns an update sees one call and not the drop of each field.
+impl Drop for MediaUpdate {
+    fn drop(self) {
+        let MediaUpdate {
+            row: _row,
+            removed: _removed,
+            announce: _announce,
+            payloads: _payloads,
+            exts: _exts,
+            simulcast: _simulcast,
+            msid: _msid,
+            cname: _cname,
+            ssrcs_tx: _ssrcs_tx,
+            ssrcs_rx: _ssrcs_rx,
+        } = self;
+    }
 }
 
 impl MediaUpdate {

@@ -10,7 +10,7 @@ use rtc_wire::{Seq, Text, TryCopy, fill_next, whole};
 use std::alloc::{AllocError, Global};
 
 /// An m-line of a session description, with its attributes (RFC 8866, section 5.14).
-#[derive(Debug, PartialEq, Eq, Drop)]
+#[derive(Debug, PartialEq, Eq)]
 pub struct MediaLine {
     pub kind: LineKind,
     /// Its port is 0.
@@ -31,6 +31,30 @@ pub struct MediaLine {
     /// In bytes; 0 means any size (RFC 8841, section 6).
     pub max_message_size: Option<u64>,
     pub sctp_init: Option<Text>,
+}
+
+// Written out, so that the proof of what owns a line sees one call and not the drop of each field.
+impl Drop for MediaLine {
+    fn drop(self) {
+        let MediaLine {
+            kind: _kind,
+            disabled: _disabled,
+            mid: _mid,
+            dir: _dir,
+            candidates: _candidates,
+            creds: _creds,
+            fingerprint: _fingerprint,
+            setup: _setup,
+            payloads: _payloads,
+            exts: _exts,
+            simulcast: _simulcast,
+            msid: _msid,
+            cname: _cname,
+            ssrcs: _ssrcs,
+            max_message_size: _max_message_size,
+            sctp_init: _sctp_init,
+        } = self;
+    }
 }
 
 impl MediaLine {

@@ -11,7 +11,7 @@ use rtc_wire::{Seq, TryCopy, fill_next, whole};
 use std::alloc::AllocError;
 
 /// A session description (RFC 8866, section 5).
-#[derive(Debug, PartialEq, Eq, Drop)]
+#[derive(Debug, PartialEq, Eq)]
 pub struct Sdp {
     /// The number of the session, of the `o=` line.
     pub id: u64,
@@ -22,6 +22,21 @@ pub struct Sdp {
     pub fingerprint: Option<Fingerprint>,
     pub setup: Option<Setup>,
     pub lines: Seq<MediaLine>,
+}
+
+// Written out, so that the proof of what owns a session description sees one call and not the drop of each field.
+impl Drop for Sdp {
+    fn drop(self) {
+        let Sdp {
+            id: _id,
+            groups: _groups,
+            ice_lite: _ice_lite,
+            creds: _creds,
+            fingerprint: _fingerprint,
+            setup: _setup,
+            lines: _lines,
+        } = self;
+    }
 }
 
 fn line_creds(lines: &[MediaLine]) -> Option<&IceCreds>
