@@ -1,113 +1,80 @@
 //! Calls on one end, and their refusals.
-use crate::ends::{
-    SECOND, close, connect, fresh, give, is_quiet, open, sends, shut, wakes_at, write,
-};
-use rtc_association::{AssocError, AssocEvent, Association};
-use rtc_cases::{every, is_ok, is_refused, is_true};
-use rtc_wire::{Moment, ReliabilityType};
+use crate::ends::{Call, SECOND, Step, is_played};
+use rtc_association::{AssocError, AssocEvent};
 use std::alloc::Global;
 
-fn starts_by_halves<A: Association>(end: &mut A) -> Result<bool, AssocError> {
-    if end.is_started() {
-        return Err(AssocError::Closing);
-    }
-    end.connect_snap(Moment::FAR_PAST, 1000, b"local", b"remote")?;
-    Ok(end.is_started() & is_quiet(end) & end.poll_timeout().is_none())
-}
+static STARTED_BY_HALVES: [Step; 4] = [
+    Step::Does(Call::StartByHalves),
+    Step::IsStarted,
+    Step::IsQuiet,
+    Step::WakesAt(None),
+];
 
-fn sends_hello_again<A: Association>(left: &mut A) -> Result<bool, AssocError> {
-    let first = sends(left, &[1]) & wakes_at(left, SECOND);
-    left.handle_timeout(Moment::from_nanos(SECOND))?;
-    Ok(first & sends(left, &[1]) & wakes_at(left, 2 * SECOND))
-}
+static HELLO_AGAIN: [Step; 11] = [
+    Step::Does(Call::Connect),
+    Step::Sends(&[1]),
+    Step::WakesAt(Some(SECOND)),
+    Step::Does(Call::Pass(SECOND)),
+    Step::Sends(&[1]),
+    Step::WakesAt(Some(2 * SECOND)),
+    Step::Does(Call::Give(SECOND, &[2])),
+    Step::Tells(Some(AssocEvent::Connected)),
+    Step::Does(Call::Give(SECOND, &[2])),
+    Step::IsQuiet,
+    Step::WakesAt(None),
+];
 
-fn hears_hello<A: Association>(left: &mut A) -> Result<bool, AssocError> {
-    let again = sends_hello_again(left)?;
-    give(left, SECOND, &[2])?;
-    let connected = left.poll() == Some(AssocEvent::Connected);
-    give(left, SECOND, &[2])?;
-    Ok(again & connected & is_quiet(left) & left.poll_timeout().is_none())
-}
+static SHUT: [Step; 10] = [
+    Step::Does(Call::Connect),
+    Step::Does(Call::Open(3)),
+    Step::Does(Call::Shut),
+    Step::IsClosing,
+    Step::Sends(&[1]),
+    Step::Sends(&[5]),
+    Step::Refuses(Call::Shut, AssocError::Closing),
+    Step::Refuses(Call::Open(4), AssocError::Closing),
+    Step::Refuses(Call::Close(3), AssocError::Closing),
+    Step::Refuses(Call::Write(3, b"a"), AssocError::Closing),
+];
 
-fn is_closing<T: Drop>(answer: Result<T, AssocError>) -> bool {
-    is_refused(answer, &AssocError::Closing)
-}
+static CLOSED: [Step; 7] = [
+    Step::Does(Call::Connect),
+    Step::Does(Call::Open(3)),
+    Step::Does(Call::Close(3)),
+    Step::HasStream(3, true),
+    Step::IsStale(3),
+    Step::Refuses(Call::Write(3, b"a"), AssocError::NoStream),
+    Step::Refuses(Call::Close(3), AssocError::NoStream),
+];
 
-fn lacks_stream<T: Drop>(answer: Result<T, AssocError>) -> bool {
-    is_refused(answer, &AssocError::NoStream)
-}
+// The other end takes 40 bytes.
+static TOO_LONG: [Step; 5] = [
+    Step::Does(Call::Connect),
+    Step::Does(Call::Open(3)),
+    Step::Refuses(
+        Call::Write(3, b"abcdefghijklmnopqrstuvwxyz0123456789abcde"),
+        AssocError::TooLong,
+    ),
+    Step::Does(Call::Write(3, b"abcdefghijklmnopqrstuvwxyz0123456789abcd")),
+    Step::Buffers(3, 40),
+];
 
-fn refuses_once_shut<A: Association>(left: &mut A) -> bool {
-    every(&[
-        is_closing(shut(left)),
-        is_closing(open(left, 4)),
-        is_closing(close(left, 3)),
-        is_closing(write(left, 3, b"a")),
-    ])
-}
-
-fn shuts_down<A: Association>(left: &mut A) -> Result<bool, AssocError> {
-    open(left, 3)?;
-    shut(left)?;
-    let closing = left.is_closing() & !left.is_closed();
-    let sent = sends(left, &[1]) & sends(left, &[5]);
-    Ok(closing & sent & refuses_once_shut(left))
-}
-
-fn closes_stream<A: Association>(left: &mut A) -> Result<bool, AssocError> {
-    open(left, 3)?;
-    close(left, 3)?;
-    let stale = left.has_stream(3) & left.is_stale(3) & (left.generation(3) == 0);
-    let refused = lacks_stream(write(left, 3, b"a"));
-    Ok(stale & refused & lacks_stream(close(left, 3)))
-}
-
-fn refuses_long_message<A: Association>(left: &mut A) -> Result<bool, AssocError> {
-    open(left, 3)?;
-    let bytes = [7u8; 1001];
-    let refused = is_refused(write(left, 3, &bytes), &AssocError::TooLong);
-    let wrote = write(left, 3, &bytes[..1000])?;
-    Ok(refused & (wrote == 1000) & (left.buffered_amount(3) == 1000))
-}
-
-// Sets how often items of a stream are sent again.
-fn set_reliability<A: Association>(left: &mut A, id: u16) -> Result<(), AssocError> {
-    if !left.is_started() {
-        return Err(AssocError::Closing);
-    }
-    left.set_reliability(id, true, ReliabilityType::Rexmit, 1)
-}
-
-fn takes_reliability<A: Association>(left: &mut A) -> Result<bool, AssocError> {
-    open(left, 3)?;
-    set_reliability(left, 3)?;
-    Ok(lacks_stream(set_reliability(left, 4)))
-}
-
-// Whether a call on a client that has not heard of a server answers as the rules say.
-fn agrees<A: Association>(left: &mut A, example: &str) -> bool {
-    match example {
-        "a hello is sent again each second until it is answered" => is_true(hears_hello(left)),
-        "an end that shut down is closing for good" => is_true(shuts_down(left)),
-        "a closed stream is there and stale" => is_true(closes_stream(left)),
-        "a message longer than the other end takes is refused" => {
-            is_true(refuses_long_message(left))
-        }
-        "reliability is taken where the stream is there" => is_true(takes_reliability(left)),
-        _ => false,
-    }
-}
-
-fn agrees_afresh<A: Association>(left: &mut A, example: &str) -> bool {
-    if example == "a start by halves is connected without an event" {
-        return is_true(starts_by_halves(left));
-    }
-    let connected = is_ok(connect(left));
-    connected & agrees(left, example)
-}
+static RELIABILITY: [Step; 4] = [
+    Step::Does(Call::Connect),
+    Step::Does(Call::Open(3)),
+    Step::Does(Call::SetReliability(3)),
+    Step::Refuses(Call::SetReliability(4), AssocError::NoStream),
+];
 
 /// Whether a call on one end answers as the rules of the association say.
 pub fn does_agree(alloc: Global, example: &str) -> bool {
-    let mut left = fresh(alloc);
-    agrees_afresh(&mut left, example)
+    match example {
+        "a start by halves is connected without an event" => is_played(alloc, &STARTED_BY_HALVES),
+        "a hello is sent again each second until it is answered" => is_played(alloc, &HELLO_AGAIN),
+        "an end that shut down is closing for good" => is_played(alloc, &SHUT),
+        "a closed stream is there and stale" => is_played(alloc, &CLOSED),
+        "a message longer than the other end takes is refused" => is_played(alloc, &TOO_LONG),
+        "reliability is taken where the stream is there" => is_played(alloc, &RELIABILITY),
+        _ => false,
+    }
 }

@@ -1,9 +1,8 @@
 //! Packets that are none, and packets that somebody else made.
-use crate::ends::{accept, fresh, give};
+use crate::ends::{Call, Step, fresh, is_played, make};
 use rtc_association::{AssocEvent, Association};
-use rtc_cases::{is_ok, is_true};
-use rtc_wire::whole;
-use std::alloc::{AllocError, Global};
+use rtc_cases::is_ok;
+use std::alloc::Global;
 
 // What a packet does to a server: its first event, how many packets it queues, and the last byte of the first one.
 #[derive(Clone, Copy)]
@@ -38,6 +37,108 @@ const LOST: Seen = Seen {
     last: None,
 };
 
+const READABLE: Seen = Seen {
+    event: Some(AssocEvent::Readable(7)),
+    packets: 1,
+    last: Some(1),
+};
+
+const MORE: Seen = Seen {
+    event: None,
+    packets: 1,
+    last: Some(1),
+};
+
+const FINISHED: Seen = Seen {
+    event: Some(AssocEvent::Finished(7)),
+    packets: 2,
+    last: Some(0),
+};
+
+static MALFORMED: [(&[u8], Seen); 16] = [
+    (b"", NOTHING),
+    (b"\0", NOTHING),
+    (b"\x01\0", NOTHING),
+    (b"\x02\0", NOTHING),
+    (b"\x05\0", NOTHING),
+    (b"\x06", NOTHING),
+    (b"\xff", NOTHING),
+    (b"\x03", NOTHING),
+    (b"\x04", NOTHING),
+    (b"\x04\0\0\0\0\0\0\0", NOTHING),
+    (b"\x04\0\0\0\0\0\0\0\x01\0", NOTHING),
+    (b"\x04\xff\xff\xff\xff\xff\xff\xff\xff", NOTHING),
+    (b"\x02", NOTHING),
+    (
+        b"\x03\0\0\0\0\0\0\0\0\0\0\0\0\0\0\0\x01\0\x07\0\0\0\0\x01\0\0\0",
+        NOTHING,
+    ),
+    (
+        b"\x03\0\0\0\0\0\0\0\0\0\0\0\0\0\0\0\x01\0\x07\0\0\0\0\x03\0\0\0\x33",
+        NOTHING,
+    ),
+    (
+        b"\x03\0\0\0\0\0\0\0\0\0\0\0\0\0\0\0\x01\0\x07\0\0\0\0\xff\0\0\0\x33",
+        NOTHING,
+    ),
+];
+
+static GREETINGS: [(&[u8], Seen); 2] = [(b"\x01", CONNECTED), (b"\x05", LOST)];
+
+// Data packets of stream 7 with the greatest acknowledgement and no content, told apart by number, generation and part.
+static FORGED: [(&[u8], Seen); 10] = [
+    (
+        b"\x03\xff\xff\xff\xff\xff\xff\xff\xff\0\0\0\0\0\0\0\0\0\x07\0\0\0\0\x01\0\0\0\x33",
+        DROPPED,
+    ),
+    (
+        b"\x03\xff\xff\xff\xff\xff\xff\xff\xff\0\0\0\0\0\0\0\x02\0\x07\0\0\0\0\x01\0\0\0\x33",
+        DROPPED,
+    ),
+    (
+        b"\x03\xff\xff\xff\xff\xff\xff\xff\xff\xff\xff\xff\xff\xff\xff\xff\xff\0\x07\0\0\0\0\x01\0\0\0\x33",
+        DROPPED,
+    ),
+    (
+        b"\x03\xff\xff\xff\xff\xff\xff\xff\xff\0\0\0\0\0\0\0\x01\0\x07\0\0\0\0\x01\0\0\0\x33",
+        READABLE,
+    ),
+    (
+        b"\x03\xff\xff\xff\xff\xff\xff\xff\xff\0\0\0\0\0\0\0\x01\0\x07\xff\xff\xff\xff\x01\0\0\0\x33",
+        DROPPED,
+    ),
+    (
+        b"\x03\xff\xff\xff\xff\xff\xff\xff\xff\0\0\0\0\0\0\0\x01\0\x07\0\0\0\0\0\0\0\0\x33",
+        MORE,
+    ),
+    (
+        b"\x03\xff\xff\xff\xff\xff\xff\xff\xff\0\0\0\0\0\0\0\x01\0\x07\0\0\0\x01\0\0\0\0\x33",
+        DROPPED,
+    ),
+    (
+        b"\x03\xff\xff\xff\xff\xff\xff\xff\xff\0\0\0\0\0\0\0\x01\0\x07\0\0\0\x01\x02\0\0\0\x33",
+        DROPPED,
+    ),
+    (
+        b"\x03\xff\xff\xff\xff\xff\xff\xff\xff\0\0\0\0\0\0\0\x01\0\x07\0\0\0\0\x03\0\0\0\x33",
+        NOTHING,
+    ),
+    (
+        b"\x03\xff\xff\xff\xff\xff\xff\xff\xff\0\0\0\0\0\0\0\x01\0\x07\0\0\0\0\x02\0\0\0\x33",
+        FINISHED,
+    ),
+];
+
+// A message of the second generation.
+static LATER: [Step; 3] = [
+    Step::Does(Call::Accept),
+    Step::Does(Call::Give(
+        0,
+        b"\x03\xff\xff\xff\xff\xff\xff\xff\xff\0\0\0\0\0\0\0\x01\0\x07\0\0\0\x01\x01\0\0\0\x33later",
+    )),
+    Step::HasStream(7, false),
+];
+
 fn last_byte<A: Association>(end: &mut A) -> Option<u8> {
     match end.poll_transmit() {
         None => None,
@@ -57,167 +158,34 @@ fn shows<A: Association>(end: &mut A, want: &Seen) -> bool {
 }
 
 // Whether a packet does this to a server that has heard of no client.
-fn does_at<A: Association>(end: &mut A, bytes: &[u8], want: &Seen) -> bool {
-    let started = is_ok(accept(end));
-    let given = is_ok(give(end, 0, bytes));
+fn does_at<A: Association>(end: &mut A, bytes: &'static [u8], want: &Seen) -> bool {
+    let started = is_ok(make(end, &Call::Accept));
+    let given = is_ok(make(end, &Call::Give(0, bytes)));
     started & given & shows(end, want)
 }
 
-fn does(alloc: Global, bytes: &[u8], want: &Seen) -> bool {
+fn does(alloc: Global, bytes: &'static [u8], want: &Seen) -> bool {
     let mut end = fresh(alloc);
     does_at(&mut end, bytes, want)
 }
 
-// A data packet of stream 7, with its acknowledgement, number, generation, part and content.
-fn packet(
-    alloc: Global,
-    number: u64,
-    generation: u32,
-    part: u8,
-    content: &[u8],
-) -> Result<Vec<u8>, AllocError> {
-    let mut bytes = Vec::new(alloc);
-    let filled = fill(&mut bytes, number, generation, part, content);
-    whole(bytes, filled)
-}
-
-fn fill(
-    bytes: &mut Vec<u8>,
-    number: u64,
-    generation: u32,
-    part: u8,
-    content: &[u8],
-) -> Result<(), AllocError> {
-    bytes.push(3)?;
-    bytes.extend_from_slice(&u64::MAX.to_be_bytes())?;
-    bytes.extend_from_slice(&number.to_be_bytes())?;
-    bytes.extend_from_slice(&7u16.to_be_bytes())?;
-    bytes.extend_from_slice(&generation.to_be_bytes())?;
-    bytes.push(part)?;
-    bytes.extend_from_slice(&51u32.to_be_bytes())?;
-    bytes.extend_from_slice(content)?;
-    Ok(())
-}
-
-const NONE: [&[u8]; 16] = [
-    &[],
-    &[0],
-    &[1, 0],
-    &[2, 0],
-    &[5, 0],
-    &[6],
-    &[255],
-    &[3],
-    &[4],
-    &[4, 0, 0, 0, 0, 0, 0, 0],
-    &[4, 0, 0, 0, 0, 0, 0, 0, 1, 0],
-    &[4, 255, 255, 255, 255, 255, 255, 255, 255],
-    &[2],
-    &[
-        3, 0, 0, 0, 0, 0, 0, 0, 0, 0, 0, 0, 0, 0, 0, 0, 1, 0, 7, 0, 0, 0, 0, 1, 0, 0, 0,
-    ],
-    &[
-        3, 0, 0, 0, 0, 0, 0, 0, 0, 0, 0, 0, 0, 0, 0, 0, 1, 0, 7, 0, 0, 0, 0, 3, 0, 0, 0, 51,
-    ],
-    &[
-        3, 0, 0, 0, 0, 0, 0, 0, 0, 0, 0, 0, 0, 0, 0, 0, 1, 0, 7, 0, 0, 0, 0, 255, 0, 0, 0, 51,
-    ],
-];
-
-fn ignores_malformed(alloc: Global) -> bool {
-    for bytes in NONE {
-        if !does(alloc, bytes, &NOTHING) {
+// Whether each packet does what stands beside it.
+fn do_all(alloc: Global, packets: &[(&'static [u8], Seen)]) -> bool {
+    for (bytes, want) in packets {
+        if !does(alloc, bytes, want) {
             return false;
         }
     }
     true
-}
-
-fn hears_greetings(alloc: Global) -> bool {
-    does(alloc, &[1], &CONNECTED) & does(alloc, &[5], &LOST)
-}
-
-// Number, generation, part, and what is seen.
-const FORGED: [(u64, u32, u8, Seen); 10] = [
-    (0, 0, 1, DROPPED),
-    (2, 0, 1, DROPPED),
-    (u64::MAX, 0, 1, DROPPED),
-    (
-        1,
-        0,
-        1,
-        Seen {
-            event: Some(AssocEvent::Readable(7)),
-            packets: 1,
-            last: Some(1),
-        },
-    ),
-    (1, u32::MAX, 1, DROPPED),
-    (
-        1,
-        0,
-        0,
-        Seen {
-            event: None,
-            packets: 1,
-            last: Some(1),
-        },
-    ),
-    (1, 1, 0, DROPPED),
-    (1, 1, 2, DROPPED),
-    (1, 0, 3, NOTHING),
-    (
-        1,
-        0,
-        2,
-        Seen {
-            event: Some(AssocEvent::Finished(7)),
-            packets: 2,
-            last: Some(0),
-        },
-    ),
-];
-
-fn does_forged(
-    alloc: Global,
-    number: u64,
-    generation: u32,
-    part: u8,
-    want: &Seen,
-) -> Result<bool, AllocError> {
-    let bytes = packet(alloc, number, generation, part, b"")?;
-    Ok(does(alloc, bytes.as_slice(), want))
-}
-
-fn hears_forged(alloc: Global) -> bool {
-    for (number, generation, part, want) in FORGED {
-        if !is_true(does_forged(alloc, number, generation, part, &want)) {
-            return false;
-        }
-    }
-    true
-}
-
-// Whether a server that is given a packet has no stream 7.
-fn is_left<A: Association>(end: &mut A, bytes: &[u8]) -> bool {
-    let started = is_ok(accept(end));
-    let given = is_ok(give(end, 0, bytes));
-    started & given & !end.has_stream(7)
-}
-
-fn leaves_no_stream(alloc: Global) -> Result<bool, AllocError> {
-    let bytes = packet(alloc, 1, 1, 1, b"later")?;
-    let mut end = fresh(alloc);
-    Ok(is_left(&mut end, bytes.as_slice()))
 }
 
 /// Whether a packet of somebody else does what the format says.
 pub fn does_agree(alloc: Global, example: &str) -> bool {
     match example {
-        "malformed packets do nothing" => ignores_malformed(alloc),
-        "hello and shutdown do what the format says" => hears_greetings(alloc),
-        "forged items do what the format says" => hears_forged(alloc),
-        "a message of a generation to come leaves no stream" => is_true(leaves_no_stream(alloc)),
+        "malformed packets do nothing" => do_all(alloc, &MALFORMED),
+        "hello and shutdown do what the format says" => do_all(alloc, &GREETINGS),
+        "forged items do what the format says" => do_all(alloc, &FORGED),
+        "a message of a generation to come leaves no stream" => is_played(alloc, &LATER),
         _ => false,
     }
 }

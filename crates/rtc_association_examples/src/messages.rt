@@ -1,5 +1,6 @@
 //! Messages between two associations in memory.
-use rtc_assoc::{AssocReply, AssocStep, PlainAssociation, run_assoc};
+use crate::scripts::{Do, L, R, Says, add_steps, replies_to};
+use rtc_assoc::{AssocReply, AssocStep};
 use rtc_association::Ppi;
 use rtc_cases::{every, is_true};
 use rtc_wire::{Bytes, Moment};
@@ -30,14 +31,15 @@ fn carry(steps: &mut Vec<AssocStep>, left: bool, packet: u32) -> Result<(), Allo
 }
 
 // The start of both ends, which hear of each other.
-fn start(steps: &mut Vec<AssocStep>) -> Result<(), AllocError> {
-    steps.push(AssocStep::Connect { left: true })?;
-    steps.push(AssocStep::Accept { left: false })?;
-    carry(steps, true, 0)?;
-    carry(steps, false, 1)?;
-    steps.push(AssocStep::Open { left: true, id: 0 })?;
-    Ok(())
-}
+static START: [(Do, Says); 7] = [
+    (Do::Connect(L), Says::Done),
+    (Do::Accept(R), Says::Done),
+    (Do::Send(L), Says::Packet(Some(0))),
+    (Do::Give(R, 0, 0), Says::Done),
+    (Do::Send(R), Says::Packet(Some(1))),
+    (Do::Give(L, 1, 0), Says::Done),
+    (Do::Open(L, 0), Says::Done),
+];
 
 fn write(alloc: Global, steps: &mut Vec<AssocStep>, length: usize) -> Result<(), AllocError> {
     let bytes = message(alloc, length)?;
@@ -63,8 +65,8 @@ fn pass(steps: &mut Vec<AssocStep>, length: usize) -> Result<(), AllocError> {
 }
 
 // The steps that take a message from the left end to the right one.
-fn add_steps(alloc: Global, steps: &mut Vec<AssocStep>, length: usize) -> Result<(), AllocError> {
-    start(steps)?;
+fn add_all(alloc: Global, steps: &mut Vec<AssocStep>, length: usize) -> Result<(), AllocError> {
+    add_steps(alloc, steps, &START)?;
     write(alloc, steps, length)?;
     pass(steps, length)
 }
@@ -82,29 +84,27 @@ fn gives(replies: &[AssocReply], expected: &[u8]) -> bool {
     }
 }
 
-fn run(alloc: Global, steps: &[AssocStep]) -> Result<Vec<AssocReply>, AllocError> {
-    if steps.len() > 10_000 {
-        return Err(AllocError);
+fn is_read(replies: Result<Vec<AssocReply>, AllocError>, expected: &[u8]) -> bool {
+    match replies {
+        Ok(replies) => gives(replies.as_slice(), expected),
+        Err(_) => false,
     }
-    let mut left = PlainAssociation::new(alloc);
-    let mut right = PlainAssociation::new(alloc);
-    run_assoc(alloc, MAX_PAYLOAD, steps, &mut left, &mut right)
 }
 
-fn is_read(alloc: Global, steps: &[AssocStep], expected: &[u8]) -> Result<bool, AllocError> {
-    let replies = run(alloc, steps)?;
-    Ok(gives(replies.as_slice(), expected))
+fn arrives(alloc: Global, steps: &mut Vec<AssocStep>, length: usize) -> Result<bool, AllocError> {
+    add_all(alloc, steps, length)?;
+    let expected = message(alloc, length)?;
+    let replies = replies_to(alloc, MAX_PAYLOAD, steps.as_slice());
+    Ok(is_read(replies, expected.as_slice()))
 }
 
 // Whether a message of so many bytes, at most 262,144, is read as it was written.
-fn does_arrive(alloc: Global, length: usize) -> Result<bool, AllocError> {
+fn does_arrive(alloc: Global, length: usize) -> bool {
     if length > 262_144 {
-        return Ok(false);
+        return false;
     }
-    let expected = message(alloc, length)?;
     let mut steps = Vec::new(alloc);
-    add_steps(alloc, &mut steps, length)?;
-    is_read(alloc, steps.as_slice(), expected.as_slice())
+    is_true(arrives(alloc, &mut steps, length))
 }
 
 // Whether payload identifiers have their registered numbers (RFC 8831, section 8).
@@ -132,7 +132,7 @@ fn length(example: &str) -> Option<usize> {
 /// Whether an example of messages gives what is expected.
 pub fn does_agree(alloc: Global, example: &str) -> bool {
     match length(example) {
-        Some(length) => is_true(does_arrive(alloc, length)),
+        Some(length) => does_arrive(alloc, length),
         None => (example == "with registered identifiers") & identifiers(),
     }
 }

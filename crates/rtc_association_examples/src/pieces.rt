@@ -1,11 +1,6 @@
 //! A message in pieces, byte by byte.
-use crate::ends::{
-    SECOND, accept, connect, fresh, give, has_read_all, is_quiet, open, reads, sends,
-    set_threshold, wakes_at, write,
-};
-use rtc_association::{AssocError, AssocEvent, Association};
-use rtc_cases::{every, is_ok, is_true};
-use rtc_wire::Moment;
+use crate::ends::{Call, SECOND, Step, is_played};
+use rtc_association::AssocEvent;
 use std::alloc::Global;
 
 const MESSAGE: &[u8] = b"abcdefghijklmnopqrstuvwxyz0123";
@@ -19,94 +14,79 @@ const SECOND_PIECE: &[u8] =
 
 const THIRD: &[u8] = b"\x03\0\0\0\0\0\0\0\0\0\0\0\0\0\0\0\x03\0\0\0\0\0\0\x01\0\0\0\x35yz0123";
 
-fn begin<A: Association>(left: &mut A) -> Result<(), AssocError> {
-    open(left, 0)?;
-    write(left, 0, MESSAGE)?;
-    Ok(())
-}
-
 // The hello and the three pieces, and nothing behind them.
-fn sends_all<A: Association>(left: &mut A) -> bool {
-    every(&[
-        sends(left, &[1]),
-        sends(left, FIRST),
-        sends(left, SECOND_PIECE),
-        sends(left, THIRD),
-        is_quiet(left),
-    ])
-}
+static SENT: [Step; 8] = [
+    Step::Does(Call::Connect),
+    Step::Does(Call::Open(0)),
+    Step::Does(Call::Write(0, MESSAGE)),
+    Step::Sends(&[1]),
+    Step::Sends(FIRST),
+    Step::Sends(SECOND_PIECE),
+    Step::Sends(THIRD),
+    Step::IsQuiet,
+];
 
-fn acknowledges<A: Association>(right: &mut A, number: u8) -> bool {
-    sends(right, &[4, 0, 0, 0, 0, 0, 0, 0, number])
-}
+static TAKEN_IN_ORDER: [Step; 14] = [
+    Step::Does(Call::Accept),
+    Step::Does(Call::Give(0, THIRD)),
+    Step::Does(Call::Give(0, FIRST)),
+    Step::Does(Call::Give(0, FIRST)),
+    Step::Does(Call::Give(0, SECOND_PIECE)),
+    Step::Reads(0, None),
+    Step::Sends(&[4, 0, 0, 0, 0, 0, 0, 0, 0]),
+    Step::Sends(&[4, 0, 0, 0, 0, 0, 0, 0, 1]),
+    Step::Sends(&[4, 0, 0, 0, 0, 0, 0, 0, 1]),
+    Step::Sends(&[4, 0, 0, 0, 0, 0, 0, 0, 2]),
+    Step::IsQuiet,
+    Step::Does(Call::Give(0, THIRD)),
+    Step::Reads(0, Some(MESSAGE)),
+    Step::Reads(0, None),
+];
 
-fn takes_in_order<A: Association>(right: &mut A) -> Result<bool, AssocError> {
-    give(right, 0, THIRD)?;
-    give(right, 0, FIRST)?;
-    give(right, 0, FIRST)?;
-    give(right, 0, SECOND_PIECE)?;
-    let unread = has_read_all(right, 0);
-    let front = acknowledges(right, 0) & acknowledges(right, 1);
-    let acknowledged = front & acknowledges(right, 1) & acknowledges(right, 2);
-    let quiet = is_quiet(right);
-    give(right, 0, THIRD)?;
-    Ok(unread & acknowledged & quiet & reads(right, 0, MESSAGE) & has_read_all(right, 0))
-}
+static SENT_AGAIN: [Step; 17] = [
+    Step::Does(Call::Connect),
+    Step::Does(Call::Open(0)),
+    Step::Does(Call::Write(0, MESSAGE)),
+    Step::Sends(&[1]),
+    Step::Sends(FIRST),
+    Step::Sends(SECOND_PIECE),
+    Step::Sends(THIRD),
+    Step::IsQuiet,
+    Step::WakesAt(Some(SECOND)),
+    Step::Does(Call::Pass(999_999_999)),
+    Step::IsQuiet,
+    Step::Does(Call::Pass(SECOND)),
+    Step::Sends(&[1]),
+    Step::Sends(FIRST),
+    Step::Sends(SECOND_PIECE),
+    Step::Sends(THIRD),
+    Step::IsQuiet,
+];
 
-fn sends_again<A: Association>(left: &mut A) -> Result<bool, AssocError> {
-    begin(left)?;
-    let sent = sends_all(left) & wakes_at(left, SECOND);
-    left.handle_timeout(Moment::from_nanos(SECOND - 1))?;
-    let quiet = is_quiet(left);
-    left.handle_timeout(Moment::from_nanos(SECOND))?;
-    Ok(sent & quiet & sends_all(left))
-}
-
-// Whether so much is buffered, and this is told, once an acknowledgement came.
-fn buffers<A: Association>(
-    left: &mut A,
-    number: u8,
-    amount: usize,
-    told: Option<AssocEvent>,
-) -> Result<bool, AssocError> {
-    give(left, 0, &[4, 0, 0, 0, 0, 0, 0, 0, number])?;
-    Ok((left.buffered_amount(0) == amount) & (left.poll() == told))
-}
-
-fn lowers_amount<A: Association>(left: &mut A) -> Result<bool, AssocError> {
-    begin(left)?;
-    set_threshold(left, 0, 10)?;
-    let all = left.buffered_amount(0) == 30;
-    let first = buffers(left, 1, 18, None)?;
-    let second = buffers(left, 2, 6, Some(AssocEvent::BufferedAmountLow(0)))?;
-    let last = buffers(left, 9, 0, None)?;
-    Ok(all & first & second & last)
-}
-
-fn sends_pieces<A: Association>(left: &mut A) -> Result<bool, AssocError> {
-    begin(left)?;
-    Ok(sends_all(left))
-}
-
-fn agrees<A: Association>(left: &mut A, right: &mut A, example: &str) -> bool {
-    match example {
-        "a message goes in pieces of 12, 12 and 6 bytes" => is_true(sends_pieces(left)),
-        "pieces are taken in their order alone" => is_true(takes_in_order(right)),
-        "unacknowledged items are sent again after one second" => is_true(sends_again(left)),
-        "acknowledgements lower the buffered amount" => is_true(lowers_amount(left)),
-        _ => false,
-    }
-}
-
-// Whether a client and a server that have not heard of each other do what the format says.
-fn agree_afresh<A: Association>(left: &mut A, right: &mut A, example: &str) -> bool {
-    let started = is_ok(connect(left)) & is_ok(accept(right));
-    started & agrees(left, right, example)
-}
+static ACKNOWLEDGED: [Step; 14] = [
+    Step::Does(Call::Connect),
+    Step::Does(Call::Open(0)),
+    Step::Does(Call::Write(0, MESSAGE)),
+    Step::Does(Call::SetThreshold(0, 10)),
+    Step::Buffers(0, 30),
+    Step::Does(Call::Give(0, &[4, 0, 0, 0, 0, 0, 0, 0, 1])),
+    Step::Buffers(0, 18),
+    Step::Tells(None),
+    Step::Does(Call::Give(0, &[4, 0, 0, 0, 0, 0, 0, 0, 2])),
+    Step::Buffers(0, 6),
+    Step::Tells(Some(AssocEvent::BufferedAmountLow(0))),
+    Step::Does(Call::Give(0, &[4, 0, 0, 0, 0, 0, 0, 0, 9])),
+    Step::Buffers(0, 0),
+    Step::Tells(None),
+];
 
 /// Whether the pieces of a message go as the format says.
 pub fn does_agree(alloc: Global, example: &str) -> bool {
-    let mut left = fresh(alloc);
-    let mut right = fresh(alloc);
-    agree_afresh(&mut left, &mut right, example)
+    match example {
+        "a message goes in pieces of 12, 12 and 6 bytes" => is_played(alloc, &SENT),
+        "pieces are taken in their order alone" => is_played(alloc, &TAKEN_IN_ORDER),
+        "unacknowledged items are sent again after one second" => is_played(alloc, &SENT_AGAIN),
+        "acknowledgements lower the buffered amount" => is_played(alloc, &ACKNOWLEDGED),
+        _ => false,
+    }
 }

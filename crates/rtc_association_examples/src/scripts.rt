@@ -1,7 +1,7 @@
 //! Scripts of two ends, each step with the reply that the rules of the association give by hand.
 use rtc_assoc::{AssocReply, AssocStep, PlainAssociation, run_assoc};
 use rtc_association::{AssocError, AssocEvent, Ppi};
-use rtc_cases::gives;
+use rtc_cases::{is_list, is_true};
 use rtc_wire::{Bytes, Moment};
 use std::alloc::{AllocError, Global};
 
@@ -26,39 +26,36 @@ pub enum Do {
     Read(bool, u16),
 }
 
-/// What it is to answer.
+/// What it is to answer, a generation first where there is one.
 #[derive(Clone, Copy)]
 pub enum Says {
     Done,
     Refused(AssocError),
     Wrote(u64),
-    Sent(u32),
-    Quiet,
-    Told(AssocEvent),
-    Still,
-    Text(u64, &'static [u8]),
-    Bytes(u64, &'static [u8]),
-    Nothing(u64),
+    Packet(Option<u32>),
+    Event(Option<AssocEvent>),
+    Message(u64, Option<(Ppi, &'static [u8])>),
     NoSuch,
 }
 
 fn moment(milliseconds: u64) -> Moment {
-    if milliseconds > 1_000_000 {
-        return Moment::FAR_FUTURE;
-    }
-    Moment::from_nanos(milliseconds * 1_000_000)
+    Moment::from_nanos(milliseconds.saturating_mul(1_000_000))
 }
 
-fn step(alloc: Global, wanted: Do) -> Result<AssocStep, AllocError> {
-    Ok(match wanted {
+fn bytes(alloc: Global, bytes: &[u8]) -> Result<Bytes, AllocError> {
+    Ok(Bytes::new(Vec::from_slice(alloc, bytes)?))
+}
+
+fn step(alloc: Global, wanted: &Do) -> Result<AssocStep, AllocError> {
+    Ok(match *wanted {
         Do::Connect(left) => AssocStep::Connect { left },
         Do::Accept(left) => AssocStep::Accept { left },
         Do::Open(left, id) => AssocStep::Open { left, id },
-        Do::Write(left, id, ppi, bytes) => AssocStep::Write {
+        Do::Write(left, id, ppi, message) => AssocStep::Write {
             left,
             id,
             ppi,
-            bytes: Bytes::new(Vec::from_slice(alloc, bytes)?),
+            bytes: bytes(alloc, message)?,
         },
         Do::Close(left, id) => AssocStep::CloseStream { left, id },
         Do::Time(left, at) => AssocStep::Time {
@@ -76,99 +73,79 @@ fn step(alloc: Global, wanted: Do) -> Result<AssocStep, AllocError> {
     })
 }
 
-fn is_message(
-    generation: u64,
-    message: &Option<(Ppi, Bytes)>,
-    want: u64,
-    ppi: Ppi,
-    bytes: &[u8],
-) -> bool {
-    match message {
-        None => false,
-        Some((got, read)) => (generation == want) & (*got == ppi) & (read.as_slice() == bytes),
-    }
+fn reply(alloc: Global, said: &Says) -> Result<AssocReply, AllocError> {
+    Ok(match *said {
+        Says::Done => AssocReply::Done,
+        Says::Refused(error) => AssocReply::Refused(error),
+        Says::Wrote(generation) => AssocReply::Wrote { generation },
+        Says::Packet(number) => AssocReply::Packet(number),
+        Says::Event(event) => AssocReply::Event(event),
+        Says::Message(generation, None) => AssocReply::Message {
+            generation,
+            message: None,
+        },
+        Says::Message(generation, Some((ppi, message))) => AssocReply::Message {
+            generation,
+            message: Some((ppi, bytes(alloc, message)?)),
+        },
+        Says::NoSuch => AssocReply::NoSuch,
+    })
 }
 
-fn answers(reply: &AssocReply, want: Says) -> bool {
-    match want {
-        Says::Done => *reply == AssocReply::Done,
-        Says::Refused(error) => *reply == AssocReply::Refused(error),
-        Says::Wrote(generation) => *reply == AssocReply::Wrote { generation },
-        Says::Sent(number) => *reply == AssocReply::Packet(Some(number)),
-        Says::Quiet => *reply == AssocReply::Packet(None),
-        Says::Told(event) => *reply == AssocReply::Event(Some(event)),
-        Says::Still => *reply == AssocReply::Event(None),
-        Says::Text(want, bytes) => match reply {
-            AssocReply::Message {
-                generation,
-                message,
-            } => is_message(*generation, message, want, Ppi::Text, bytes),
-            _ => false,
-        },
-        Says::Bytes(want, bytes) => match reply {
-            AssocReply::Message {
-                generation,
-                message,
-            } => is_message(*generation, message, want, Ppi::Binary, bytes),
-            _ => false,
-        },
-        Says::Nothing(want) => match reply {
-            AssocReply::Message {
-                generation,
-                message,
-            } => (*generation == want) & message.is_none(),
-            _ => false,
-        },
-        Says::NoSuch => *reply == AssocReply::NoSuch,
-    }
-}
-
-fn add_steps(
+/// Adds the steps of a script.
+pub fn add_steps(
     alloc: Global,
     steps: &mut Vec<AssocStep>,
     script: &[(Do, Says)],
 ) -> Result<(), AllocError> {
     for (wanted, _) in script {
-        let step = step(alloc, *wanted)?;
+        let step = step(alloc, wanted)?;
         steps.push(step)?;
     }
     Ok(())
 }
 
-fn run(alloc: Global, steps: &[AssocStep]) -> Result<Vec<AssocReply>, AllocError> {
-    if steps.len() > 1000 {
+fn add_replies(
+    alloc: Global,
+    replies: &mut Vec<AssocReply>,
+    script: &[(Do, Says)],
+) -> Result<(), AllocError> {
+    for (_, said) in script {
+        let reply = reply(alloc, said)?;
+        replies.push(reply)?;
+    }
+    Ok(())
+}
+
+/// The replies of two fresh ends, whose packets have at most so many bytes.
+pub fn replies_to(
+    alloc: Global,
+    max_payload: usize,
+    steps: &[AssocStep],
+) -> Result<Vec<AssocReply>, AllocError> {
+    if steps.len() > 10_000 || max_payload < 29 || max_payload > 1900 {
         return Err(AllocError);
     }
     let mut left = PlainAssociation::new(alloc);
     let mut right = PlainAssociation::new(alloc);
-    run_assoc(alloc, 40, steps, &mut left, &mut right)
+    run_assoc(alloc, max_payload, steps, &mut left, &mut right)
 }
 
-fn replies_to(alloc: Global, script: &[(Do, Says)]) -> Result<Vec<AssocReply>, AllocError> {
-    let mut steps = Vec::new(alloc);
-    add_steps(alloc, &mut steps, script)?;
-    run(alloc, steps.as_slice())
-}
-
-// The number of the first step that is not answered so, or that of all steps.
-fn played(alloc: Global, script: &[(Do, Says)]) -> Result<usize, AllocError> {
-    let replies = replies_to(alloc, script)?;
-    let mut place = 0;
-    for reply in replies.as_slice() {
-        match script.get(place) {
-            None => return Ok(place),
-            Some((_, want)) => {
-                if !answers(reply, *want) {
-                    return Ok(place);
-                }
-            }
-        }
-        place += 1;
-    }
-    Ok(place)
+fn plays(
+    alloc: Global,
+    steps: &mut Vec<AssocStep>,
+    replies: &mut Vec<AssocReply>,
+    script: &[(Do, Says)],
+) -> Result<bool, AllocError> {
+    add_steps(alloc, steps, script)?;
+    add_replies(alloc, replies, script)?;
+    let given = replies_to(alloc, 40, steps.as_slice());
+    Ok(is_list(given, replies.as_slice()))
 }
 
 /// Whether each step of a script is answered as it says.
 pub fn is_played(alloc: Global, script: &[(Do, Says)]) -> bool {
-    gives(played(alloc, script), &script.len())
+    let mut steps = Vec::new(alloc);
+    let mut replies = Vec::new(alloc);
+    is_true(plays(alloc, &mut steps, &mut replies, script))
 }

@@ -1,22 +1,136 @@
 //! Streams that channels are given, hold and let go.
-use crate::channels::{Channels, tell_held, tell_stream, tell_wake};
+use crate::channels::{ChannelCall, Channels};
 use crate::notes::Notes;
 use rtc_cases::is_refused;
 use rtc_channels::ChannelError;
 use rtc_wire::{ChannelConfig, ChannelId, Text};
 use std::alloc::{AllocError, Global};
 
-/// What the channels of one side do.
+/// A step of the channels of one side. Channels are named by their places among those that were made.
 #[derive(Clone, Copy)]
-pub enum ChannelScene {
-    HeldTwice,
-    StaysHeld,
-    Numbers,
-    Refused,
-    SettledWaits,
-    OddStreams,
-    AllHeld,
-    Many,
+pub enum ChannelStep {
+    Does(ChannelCall),
+    /// Gives streams to the channels of a client a hundred times.
+    AllocateOften,
+    /// Holds each odd stream.
+    HoldOdd,
+    /// Makes and confirms a channel, for a stream that was negotiated, if there is one.
+    Make(Option<u16>),
+    /// Makes and confirms as many channels.
+    MakeMany(u16),
+    /// Makes and confirms a channel, and notes its number.
+    Number(Option<u16>),
+    /// Notes whether a channel for a stream that was negotiated for another one is refused.
+    TellRefused(u16),
+    Remove(usize),
+    Close(usize),
+    TellHeld(u16),
+    TellStream(usize),
+    TellWake,
+    TellLabel(u16),
+}
+
+// A stream is held as often as channels that had it went, and each completed reset ends one hold.
+static HELD_TWICE: [ChannelStep; 10] = [
+    ChannelStep::Does(ChannelCall::Hold(4)),
+    ChannelStep::Does(ChannelCall::Hold(4)),
+    ChannelStep::TellHeld(4),
+    ChannelStep::Does(ChannelCall::Complete(4)),
+    ChannelStep::TellHeld(4),
+    ChannelStep::Does(ChannelCall::Complete(4)),
+    ChannelStep::TellHeld(4),
+    ChannelStep::Does(ChannelCall::Hold(4)),
+    ChannelStep::Does(ChannelCall::Lose),
+    ChannelStep::TellHeld(4),
+];
+
+// However often streams are given, one that is held stays so.
+static STAYS_HELD: [ChannelStep; 4] = [
+    ChannelStep::Does(ChannelCall::Hold(4)),
+    ChannelStep::Make(Some(4)),
+    ChannelStep::AllocateOften,
+    ChannelStep::TellHeld(4),
+];
+
+// The number of a channel that went is not given again.
+static NUMBERS: [ChannelStep; 5] = [
+    ChannelStep::Number(None),
+    ChannelStep::Number(None),
+    ChannelStep::Remove(0),
+    ChannelStep::Number(None),
+    ChannelStep::Number(None),
+];
+
+// A config that is refused, for a stream that is settled for another channel, uses no number.
+static REFUSED: [ChannelStep; 4] = [
+    ChannelStep::Number(None),
+    ChannelStep::Number(Some(4)),
+    ChannelStep::TellRefused(4),
+    ChannelStep::Number(None),
+];
+
+// A settled stream that is held is given once its reset is complete, and then opened.
+static SETTLED_WAITS: [ChannelStep; 13] = [
+    ChannelStep::Does(ChannelCall::Start(true)),
+    ChannelStep::Does(ChannelCall::Hold(4)),
+    ChannelStep::Make(Some(4)),
+    ChannelStep::Does(ChannelCall::Pass),
+    ChannelStep::TellStream(0),
+    ChannelStep::TellWake,
+    ChannelStep::Does(ChannelCall::Complete(4)),
+    ChannelStep::TellWake,
+    ChannelStep::Does(ChannelCall::Pass),
+    ChannelStep::TellStream(0),
+    ChannelStep::TellLabel(4),
+    ChannelStep::TellWake,
+    ChannelStep::Close(0),
+];
+
+// A server takes the least odd stream that is free.
+static ODD_STREAMS: [ChannelStep; 9] = [
+    ChannelStep::Make(None),
+    ChannelStep::Make(None),
+    ChannelStep::Does(ChannelCall::Allocate(false)),
+    ChannelStep::TellStream(0),
+    ChannelStep::TellStream(1),
+    ChannelStep::Remove(0),
+    ChannelStep::Make(None),
+    ChannelStep::Does(ChannelCall::Allocate(false)),
+    ChannelStep::TellStream(2),
+];
+
+// Where every stream of a side is held, a channel gets none, and no moment is wanted.
+static ALL_HELD: [ChannelStep; 6] = [
+    ChannelStep::Does(ChannelCall::Start(false)),
+    ChannelStep::HoldOdd,
+    ChannelStep::Make(None),
+    ChannelStep::Does(ChannelCall::Allocate(false)),
+    ChannelStep::TellStream(0),
+    ChannelStep::TellWake,
+];
+
+// Ten thousand channels get the even streams from 0 on.
+static MANY: [ChannelStep; 3] = [
+    ChannelStep::MakeMany(10_000),
+    ChannelStep::Does(ChannelCall::Allocate(true)),
+    ChannelStep::TellStream(9_999),
+];
+
+/// How many scenes there are.
+pub const CHANNEL_SCENES: u8 = 8;
+
+/// What the channels of one side do in a scene, by its number from 0 on.
+pub fn channel_scene(number: u8) -> &'static [ChannelStep] {
+    match number {
+        0 => &HELD_TWICE,
+        1 => &STAYS_HELD,
+        2 => &NUMBERS,
+        3 => &REFUSED,
+        4 => &SETTLED_WAITS,
+        5 => &ODD_STREAMS,
+        6 => &ALL_HELD,
+        _ => &MANY,
+    }
 }
 
 fn config(alloc: Global, negotiated: Option<u16>) -> Result<ChannelConfig, AllocError> {
@@ -39,145 +153,130 @@ fn add<C: Channels>(
     Ok(id)
 }
 
-// The number of a channel that is made and confirmed.
+// Makes a channel, and gives its number.
 fn make<C: Channels>(
     alloc: Global,
     channels: &mut C,
     negotiated: Option<u16>,
-    notes: &mut Notes,
-) -> ChannelId {
-    match add(alloc, channels, negotiated) {
-        Ok(id) => id,
-        Err(_) => {
-            notes.fail();
-            ChannelId::new(0)
-        }
+    made: &mut Vec<u64>,
+) -> Result<u64, ChannelError> {
+    let number = add(alloc, channels, negotiated)?.number();
+    made.push(number)?;
+    Ok(number)
+}
+
+fn tell_number(made: Result<u64, ChannelError>, notes: &mut Notes) {
+    match made {
+        Ok(number) => notes.add_count("channel ", number),
+        Err(_) => notes.fail(),
     }
 }
 
-// Makes a channel and notes its number.
-fn number<C: Channels>(
+fn make_many<C: Channels>(
     alloc: Global,
     channels: &mut C,
-    negotiated: Option<u16>,
+    count: u16,
+    made: &mut Vec<u64>,
     notes: &mut Notes,
-) -> ChannelId {
-    let id = make(alloc, channels, negotiated, notes);
-    notes.add_count("channel ", id.number());
-    id
-}
-
-// A stream is held as often as channels that had it went, and each completed reset ends one hold.
-fn stream_is_held_twice<C: Channels>(channels: &mut C, notes: &mut Notes) {
-    notes.expect(channels.hold(4));
-    notes.expect(channels.hold(4));
-    tell_held(channels, 4, notes);
-    channels.complete(4);
-    tell_held(channels, 4, notes);
-    channels.complete(4);
-    tell_held(channels, 4, notes);
-    notes.expect(channels.hold(4));
-    channels.lose();
-    tell_held(channels, 4, notes);
-}
-
-// However often streams are given, one that is held stays so.
-fn stream_stays_held<C: Channels>(alloc: Global, channels: &mut C, notes: &mut Notes) {
-    notes.expect(channels.hold(4));
-    make(alloc, channels, Some(4), notes);
-    for _ in 0..100u8 {
-        notes.expect(channels.allocate(true));
+) {
+    for _ in 0..count {
+        notes.expect(make(alloc, channels, None, made));
     }
-    tell_held(channels, 4, notes);
 }
 
-// The number of a channel that went is not given again.
-fn numbers_are_not_given_again<C: Channels>(alloc: Global, channels: &mut C, notes: &mut Notes) {
-    let first = number(alloc, channels, None, notes);
-    number(alloc, channels, None, notes);
-    channels.remove(first);
-    number(alloc, channels, None, notes);
-    number(alloc, channels, None, notes);
-}
-
-// A config that is refused, for a stream that is settled for another channel, uses no number.
-fn refused_config_uses_no_number<C: Channels>(alloc: Global, channels: &mut C, notes: &mut Notes) {
-    number(alloc, channels, None, notes);
-    number(alloc, channels, Some(4), notes);
-    let refused = is_refused(add(alloc, channels, Some(4)), &ChannelError::BadChannel);
-    notes.add_line("channel ", if refused { "refused" } else { "made" });
-    number(alloc, channels, None, notes);
-}
-
-// A settled stream that is held is given once its reset is complete, and then opened.
-fn settled_stream_waits<C: Channels>(alloc: Global, channels: &mut C, notes: &mut Notes) {
-    notes.expect(channels.start(true));
-    notes.expect(channels.hold(4));
-    let id = make(alloc, channels, Some(4), notes);
-    notes.expect(channels.pass());
-    tell_stream(channels, id, notes);
-    tell_wake(channels, notes);
-    channels.complete(4);
-    tell_wake(channels, notes);
-    notes.expect(channels.pass());
-    tell_stream(channels, id, notes);
-    let labelled = channels.is_labelled(4, "chat");
-    notes.add_line("label ", if labelled { "chat" } else { "-" });
-    tell_wake(channels, notes);
-    notes.expect(channels.close(id));
-}
-
-// A server takes the least odd stream that is free.
-fn server_takes_odd_streams<C: Channels>(alloc: Global, channels: &mut C, notes: &mut Notes) {
-    let first = make(alloc, channels, None, notes);
-    let second = make(alloc, channels, None, notes);
-    notes.expect(channels.allocate(false));
-    tell_stream(channels, first, notes);
-    tell_stream(channels, second, notes);
-    channels.remove(first);
-    let third = make(alloc, channels, None, notes);
-    notes.expect(channels.allocate(false));
-    tell_stream(channels, third, notes);
-}
-
-// Where every stream of a side is held, a channel gets none, and no moment is wanted.
-fn every_stream_is_held<C: Channels>(alloc: Global, channels: &mut C, notes: &mut Notes) {
-    notes.expect(channels.start(false));
+fn hold_odd<C: Channels>(channels: &mut C, notes: &mut Notes) {
     for place in 0..32768u16 {
-        notes.expect(channels.hold(2 * place + 1));
+        notes.need(channels.does(ChannelCall::Hold(2 * place + 1)));
     }
-    let id = make(alloc, channels, None, notes);
-    notes.expect(channels.allocate(false));
-    tell_stream(channels, id, notes);
-    tell_wake(channels, notes);
 }
 
-// Ten thousand channels get the even streams from 0 on.
-fn many_channels<C: Channels>(alloc: Global, channels: &mut C, notes: &mut Notes) {
-    let mut last = make(alloc, channels, None, notes);
-    for _ in 1..10000u16 {
-        last = make(alloc, channels, None, notes);
+fn allocate_often<C: Channels>(channels: &mut C, notes: &mut Notes) {
+    for _ in 0..100u8 {
+        notes.need(channels.does(ChannelCall::Allocate(true)));
     }
-    notes.expect(channels.allocate(true));
-    tell_stream(channels, last, notes);
+}
+
+// The number of the channel at a place. One that was not made has no stream.
+fn at(made: &[u64], place: usize) -> u64 {
+    match made.get(place) {
+        Some(number) => *number,
+        None => u64::MAX,
+    }
+}
+
+fn tell_stream<C: Channels>(channels: &C, number: u64, notes: &mut Notes) {
+    match channels.stream_of(ChannelId::new(number)) {
+        Some(stream) => notes.add_count("stream ", stream as u64),
+        None => notes.add_line("stream ", "-"),
+    }
+}
+
+// Performs a step that notes what channels show.
+fn tell<C: Channels>(channels: &C, step: &ChannelStep, made: &[u64], notes: &mut Notes) {
+    match *step {
+        ChannelStep::TellHeld(stream) => notes.add_count("held ", channels.holds(stream)),
+        ChannelStep::TellStream(place) => tell_stream(channels, at(made, place), notes),
+        ChannelStep::TellWake => {
+            notes.add_line("wake ", if channels.wants_moment() { "now" } else { "-" })
+        }
+        ChannelStep::TellLabel(stream) => {
+            let labelled = channels.is_labelled(stream, "chat");
+            notes.add_line("label ", if labelled { "chat" } else { "-" })
+        }
+        _ => notes.fail(),
+    }
+}
+
+fn perform<C: Channels>(
+    alloc: Global,
+    channels: &mut C,
+    step: &ChannelStep,
+    made: &mut Vec<u64>,
+    notes: &mut Notes,
+) {
+    match *step {
+        ChannelStep::Does(call) => notes.need(channels.does(call)),
+        ChannelStep::AllocateOften => allocate_often(channels, notes),
+        ChannelStep::HoldOdd => hold_odd(channels, notes),
+        ChannelStep::Make(negotiated) => notes.expect(make(alloc, channels, negotiated, made)),
+        ChannelStep::MakeMany(count) => make_many(alloc, channels, count, made, notes),
+        ChannelStep::Number(negotiated) => {
+            tell_number(make(alloc, channels, negotiated, made), notes)
+        }
+        ChannelStep::TellRefused(stream) => {
+            let answer = add(alloc, channels, Some(stream));
+            let refused = is_refused(answer, &ChannelError::BadChannel);
+            notes.add_line("channel ", if refused { "refused" } else { "made" })
+        }
+        ChannelStep::Remove(place) => {
+            notes.need(channels.does(ChannelCall::Remove(at(made.as_slice(), place))))
+        }
+        ChannelStep::Close(place) => {
+            notes.need(channels.does(ChannelCall::Close(at(made.as_slice(), place))))
+        }
+        _ => tell(channels, step, made.as_slice(), notes),
+    }
+}
+
+fn perform_all<C: Channels>(
+    alloc: Global,
+    channels: &mut C,
+    steps: &[ChannelStep],
+    notes: &mut Notes,
+) {
+    let mut made = Vec::new(alloc);
+    for step in steps {
+        perform(alloc, channels, step, &mut made, notes);
+    }
 }
 
 /// What the channels of one side do in a scene.
 pub fn play_channels<C: Channels + Drop>(
     alloc: Global,
     channels: C,
-    scene: ChannelScene,
+    steps: &[ChannelStep],
     notes: &mut Notes,
 ) {
     let mut channels = channels;
-    match scene {
-        ChannelScene::HeldTwice => stream_is_held_twice(&mut channels, notes),
-        ChannelScene::StaysHeld => stream_stays_held(alloc, &mut channels, notes),
-        ChannelScene::Numbers => numbers_are_not_given_again(alloc, &mut channels, notes),
-        ChannelScene::Refused => refused_config_uses_no_number(alloc, &mut channels, notes),
-        ChannelScene::SettledWaits => settled_stream_waits(alloc, &mut channels, notes),
-        ChannelScene::OddStreams => server_takes_odd_streams(alloc, &mut channels, notes),
-        ChannelScene::AllHeld => every_stream_is_held(alloc, &mut channels, notes),
-        ChannelScene::Many => many_channels(alloc, &mut channels, notes),
-    }
+    perform_all(alloc, &mut channels, steps, notes);
 }

@@ -1,43 +1,43 @@
 //! What examples ask of the channels of one side.
-use crate::notes::Notes;
 use rtc_association::Association;
+use rtc_cases::is_ok;
 use rtc_channels::{ChannelError, ChannelHandler};
 use rtc_ready::Readiness;
-use rtc_sctp::{RtcSctp, SctpError};
+use rtc_sctp::RtcSctp;
 use rtc_wire::{ChannelConfig, ChannelId, Moment};
 use std::alloc::AllocError;
 
+/// A call on the channels of one side, or on their association.
+#[derive(Clone, Copy)]
+pub enum ChannelCall {
+    /// Starts the association, as the client or as the server.
+    Start(bool),
+    /// Holds a stream once more: a channel of it goes while its reset is pending.
+    Hold(u16),
+    /// A reset of a stream is complete.
+    Complete(u16),
+    /// The association is lost.
+    Lose,
+    /// Gives streams to channels, those of the client or of the server.
+    Allocate(bool),
+    /// Takes a moment.
+    Pass,
+    /// Removes the channel of a number, with no reset pending.
+    Remove(u64),
+    /// Closes the stream of a channel.
+    Close(u64),
+}
+
 /// What examples ask of the channels of one side. A function over it is checked without what the channels consist of.
 pub trait Channels {
-    /// Starts the association.
-    fn start(&mut self, client: bool) -> Result<(), SctpError>;
+    /// Whether a call succeeds.
+    fn does(&mut self, call: ChannelCall) -> bool;
 
     /// Makes a channel.
     fn add(&mut self, config: &ChannelConfig) -> Result<ChannelId, ChannelError>;
 
     /// Confirms one, with a config whose texts are short.
     fn confirm_one(&mut self, id: ChannelId, config: ChannelConfig);
-
-    /// Holds a stream once more: a channel of it goes while its reset is pending.
-    fn hold(&mut self, stream: u16) -> Result<(), AllocError>;
-
-    /// A reset of a stream is complete.
-    fn complete(&mut self, stream: u16);
-
-    /// The association is lost.
-    fn lose(&mut self);
-
-    /// Gives streams to channels.
-    fn allocate(&mut self, client: bool) -> Result<(), AllocError>;
-
-    /// Removes a channel, with no reset pending.
-    fn remove(&mut self, id: ChannelId);
-
-    /// Closes the stream of a channel.
-    fn close(&mut self, id: ChannelId) -> Result<(), AllocError>;
-
-    /// Takes a moment.
-    fn pass(&mut self) -> Result<(), AllocError>;
 
     /// How often a stream is held.
     fn holds(&self, stream: u16) -> u64;
@@ -59,9 +59,51 @@ pub struct Side<S> {
     pub sctp: RtcSctp<S>,
 }
 
+fn hold(channels: &mut ChannelHandler, stream: u16) -> Result<(), AllocError> {
+    channels.ensure_channel_id_for(stream)?;
+    if let Some(id) = channels.channel_id_by_stream_id(stream) {
+        channels.remove_channel(id, true);
+    }
+    Ok(())
+}
+
+fn pass<S: Association>(
+    channels: &mut ChannelHandler,
+    sctp: &mut RtcSctp<S>,
+) -> Result<(), AllocError> {
+    let mut readiness = Readiness::armed();
+    let mut wake = readiness.wake();
+    let handed = channels.handle_timeout(Moment::FAR_PAST, sctp, &mut wake);
+    readiness.fold(wake);
+    handed
+}
+
 impl<S: Association> Channels for Side<S> {
-    fn start(&mut self, client: bool) -> Result<(), SctpError> {
-        self.sctp.init(client, Moment::FAR_PAST, None, None)
+    fn does(&mut self, call: ChannelCall) -> bool {
+        match call {
+            ChannelCall::Start(client) => {
+                is_ok(self.sctp.init(client, Moment::FAR_PAST, None, None))
+            }
+            ChannelCall::Hold(stream) => is_ok(hold(&mut self.channels, stream)),
+            ChannelCall::Complete(stream) => {
+                self.channels.stream_reset_complete(stream);
+                true
+            }
+            ChannelCall::Lose => {
+                self.channels.association_lost();
+                true
+            }
+            ChannelCall::Allocate(client) => is_ok(self.channels.do_allocations(client)),
+            ChannelCall::Pass => is_ok(pass(&mut self.channels, &mut self.sctp)),
+            ChannelCall::Remove(number) => {
+                self.channels.remove_channel(ChannelId::new(number), false);
+                true
+            }
+            ChannelCall::Close(number) => {
+                let id = ChannelId::new(number);
+                is_ok(self.channels.close_channel(id, &mut self.sctp))
+            }
+        }
     }
 
     fn add(&mut self, config: &ChannelConfig) -> Result<ChannelId, ChannelError> {
@@ -74,44 +116,6 @@ impl<S: Association> Channels for Side<S> {
         if self.channels.has_channel(id) && label <= 65_535 && protocol <= 65_535 {
             self.channels.confirm(id, config);
         }
-    }
-
-    fn hold(&mut self, stream: u16) -> Result<(), AllocError> {
-        self.channels.ensure_channel_id_for(stream)?;
-        if let Some(id) = self.channels.channel_id_by_stream_id(stream) {
-            self.channels.remove_channel(id, true);
-        }
-        Ok(())
-    }
-
-    fn complete(&mut self, stream: u16) {
-        self.channels.stream_reset_complete(stream);
-    }
-
-    fn lose(&mut self) {
-        self.channels.association_lost();
-    }
-
-    fn allocate(&mut self, client: bool) -> Result<(), AllocError> {
-        self.channels.do_allocations(client)
-    }
-
-    fn remove(&mut self, id: ChannelId) {
-        self.channels.remove_channel(id, false);
-    }
-
-    fn close(&mut self, id: ChannelId) -> Result<(), AllocError> {
-        self.channels.close_channel(id, &mut self.sctp)
-    }
-
-    fn pass(&mut self) -> Result<(), AllocError> {
-        let mut readiness = Readiness::armed();
-        let mut wake = readiness.wake();
-        let handed = self
-            .channels
-            .handle_timeout(Moment::FAR_PAST, &mut self.sctp, &mut wake);
-        readiness.fold(wake);
-        handed
     }
 
     fn holds(&self, stream: u16) -> u64 {
@@ -132,22 +136,4 @@ impl<S: Association> Channels for Side<S> {
             None => false,
         }
     }
-}
-
-/// Notes how often a stream is held.
-pub fn tell_held<C: Channels>(channels: &C, stream: u16, notes: &mut Notes) {
-    notes.add_count("held ", channels.holds(stream));
-}
-
-/// Notes the stream of a channel.
-pub fn tell_stream<C: Channels>(channels: &C, id: ChannelId, notes: &mut Notes) {
-    match channels.stream_of(id) {
-        Some(stream) => notes.add_count("stream ", stream as u64),
-        None => notes.add_line("stream ", "-"),
-    }
-}
-
-/// Notes whether a moment is wanted.
-pub fn tell_wake<C: Channels>(channels: &C, notes: &mut Notes) {
-    notes.add_line("wake ", if channels.wants_moment() { "now" } else { "-" });
 }

@@ -11,7 +11,7 @@ mod stream_scenes;
 mod streams;
 mod two_peers;
 
-use channel_scenes::{ChannelScene, play_channels};
+use channel_scenes::{CHANNEL_SCENES, channel_scene, play_channels};
 use channels::Side;
 use notes::Notes;
 use rtc_assoc_end::PlainAssociation;
@@ -21,26 +21,7 @@ use rtc_wire::Moment;
 use start_scenes::{play_starts, tell_refused};
 use std::alloc::Global;
 use std::process::ExitCode;
-use stream_scenes::{StreamScene, play_streams, tell_longest};
-
-const STREAM_SCENES: [StreamScene; 5] = [
-    StreamScene::OneMessage,
-    StreamScene::OpenedAgain,
-    StreamScene::WaitsForReset,
-    StreamScene::Went,
-    StreamScene::GivenUp,
-];
-
-const CHANNEL_SCENES: [ChannelScene; 8] = [
-    ChannelScene::HeldTwice,
-    ChannelScene::StaysHeld,
-    ChannelScene::Numbers,
-    ChannelScene::Refused,
-    ChannelScene::SettledWaits,
-    ChannelScene::OddStreams,
-    ChannelScene::AllHeld,
-    ChannelScene::Many,
-];
+use stream_scenes::{STREAM_SCENES, play_streams, stream_scene, tell_longest};
 
 // The streams of a side that is not started.
 fn fresh(alloc: Global) -> RtcSctp<PlainAssociation> {
@@ -72,14 +53,20 @@ fn side(alloc: Global) -> Side<PlainAssociation> {
 }
 
 fn show(alloc: Global, notes: &mut Notes) {
-    for scene in STREAM_SCENES {
-        play_streams(alloc, fresh(alloc), fresh(alloc), scene, notes);
+    for scene in 0..STREAM_SCENES {
+        play_streams(
+            alloc,
+            fresh(alloc),
+            fresh(alloc),
+            stream_scene(scene),
+            notes,
+        );
     }
     tell_longest(over_short_datagrams(alloc), notes);
     play_starts(alloc, fresh(alloc), fresh(alloc), notes);
     tell_refused(fresh(alloc), notes);
-    for scene in CHANNEL_SCENES {
-        play_channels(alloc, side(alloc), scene, notes);
+    for scene in 0..CHANNEL_SCENES {
+        play_channels(alloc, side(alloc), channel_scene(scene), notes);
     }
 }
 

@@ -23,6 +23,11 @@ impl Notes {
         self.failed = self.failed | !is_ok(answer);
     }
 
+    /// Notes that a call was to succeed, which did or did not.
+    pub fn need(&mut self, done: bool) {
+        self.failed = self.failed | !done;
+    }
+
     /// Notes that something failed that was to succeed.
     pub fn fail(&mut self) {
         self.failed = true;

@@ -2,13 +2,15 @@
 use crate::notes::Notes;
 use crate::starts::Starts;
 use crate::streams::Streams;
-use crate::two_peers::{Side, TwoPeers};
+use crate::two_peers::{PeersStep, perform_all};
 use rtc_plain_ids::CountIds;
 use rtc_sctp::{SctpError, SctpInitData};
 use std::alloc::Global;
 
 // The chunk of the right side: its numbers are 11 and 12.
 const RIGHT_TEXT: &str = "AQAAFAAAAAsAEAAA/////wAAAAw=";
+
+static OPENED: [PeersStep; 2] = [PeersStep::OpenLeft(0, "chat", false), PeersStep::Exchange];
 
 // Notes a text that there is, or a dash.
 fn note_text<E: Drop>(name: &str, told: Result<Option<String>, E>, notes: &mut Notes) {
@@ -129,7 +131,5 @@ pub fn play_starts<T: Starts + Streams + Drop>(
     start(&mut right, false, notes);
     note_text("left keeps ", left.other_text(), notes);
     note_text("right keeps ", right.other_text(), notes);
-    let mut peers = TwoPeers::new(left, right);
-    notes.expect(peers.open(alloc, Side::Left, 0, "chat", false));
-    peers.exchange(notes);
+    perform_all(alloc, &mut left, &mut right, &OPENED, notes);
 }

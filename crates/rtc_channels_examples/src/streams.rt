@@ -1,32 +1,35 @@
 //! What examples ask of the streams of a peer.
 use rtc_association::Association;
+use rtc_cases::is_ok;
 use rtc_ready::Readiness;
-use rtc_sctp::{RtcSctp, SctpError, SctpEvent};
+use rtc_sctp::{RtcSctp, SctpEvent};
 use rtc_wire::{ChannelConfig, Moment};
 use std::alloc::AllocError;
 
+/// A call on the streams of a peer.
+#[derive(Clone, Copy)]
+pub enum StreamCall {
+    /// Starts the association, as the client or as the server.
+    Start(bool),
+    /// Writes a text.
+    Write(u16, &'static str),
+    Close(u16),
+    /// Shuts the association down.
+    Shut,
+    /// Takes a moment, in nanoseconds.
+    Pass(u64),
+}
+
 /// What examples ask of the streams of one peer. A function over it is checked without what the streams consist of.
 pub trait Streams {
-    /// Starts the association.
-    fn start(&mut self, client: bool) -> Result<(), SctpError>;
+    /// Whether a call succeeds.
+    fn does(&mut self, call: StreamCall) -> bool;
 
     /// Opens a stream with a config whose texts are short.
     fn open(&mut self, id: u16, config: ChannelConfig) -> Result<(), AllocError>;
 
-    /// Writes a text.
-    fn write_text(&mut self, id: u16, text: &str) -> Result<usize, SctpError>;
-
-    /// Closes a stream.
-    fn close_one(&mut self, id: u16) -> Result<(), AllocError>;
-
-    /// Shuts the association down.
-    fn shut_down(&mut self) -> Result<(), SctpError>;
-
     /// Takes a packet.
     fn take(&mut self, packet: &[u8]) -> Result<(), AllocError>;
-
-    /// Takes a moment.
-    fn pass(&mut self, now: Moment) -> Result<(), AllocError>;
 
     /// What there is to tell or to send.
     fn next(&mut self) -> Result<Option<SctpEvent>, AllocError>;
@@ -38,9 +41,23 @@ pub trait Streams {
     fn longest(&self) -> usize;
 }
 
+fn pass<S: Association>(sctp: &mut RtcSctp<S>, now: Moment) -> Result<(), AllocError> {
+    let mut readiness = Readiness::armed();
+    let mut wake = readiness.wake();
+    let handed = sctp.handle_timeout(now, &mut wake);
+    readiness.fold(wake);
+    handed
+}
+
 impl<S: Association> Streams for RtcSctp<S> {
-    fn start(&mut self, client: bool) -> Result<(), SctpError> {
-        self.init(client, Moment::FAR_PAST, None, None)
+    fn does(&mut self, call: StreamCall) -> bool {
+        match call {
+            StreamCall::Start(client) => is_ok(self.init(client, Moment::FAR_PAST, None, None)),
+            StreamCall::Write(id, text) => is_ok(self.write(id, false, text.as_bytes())),
+            StreamCall::Close(id) => is_ok(self.close_stream(id)),
+            StreamCall::Shut => is_ok(self.close()),
+            StreamCall::Pass(nanos) => is_ok(pass(self, Moment::from_nanos(nanos))),
+        }
     }
 
     fn open(&mut self, id: u16, config: ChannelConfig) -> Result<(), AllocError> {
@@ -52,28 +69,8 @@ impl<S: Association> Streams for RtcSctp<S> {
         self.open_stream(id, config)
     }
 
-    fn write_text(&mut self, id: u16, text: &str) -> Result<usize, SctpError> {
-        self.write(id, false, text.as_bytes())
-    }
-
-    fn close_one(&mut self, id: u16) -> Result<(), AllocError> {
-        self.close_stream(id)
-    }
-
-    fn shut_down(&mut self) -> Result<(), SctpError> {
-        self.close()
-    }
-
     fn take(&mut self, packet: &[u8]) -> Result<(), AllocError> {
         self.handle_input(Moment::FAR_PAST, packet)
-    }
-
-    fn pass(&mut self, now: Moment) -> Result<(), AllocError> {
-        let mut readiness = Readiness::armed();
-        let mut wake = readiness.wake();
-        let handed = self.handle_timeout(now, &mut wake);
-        readiness.fold(wake);
-        handed
     }
 
     fn next(&mut self) -> Result<Option<SctpEvent>, AllocError> {

@@ -1,22 +1,28 @@
 //! The streams of two peers in one process.
 use crate::notes::Notes;
-use crate::streams::Streams;
+use crate::streams::{StreamCall, Streams};
 use rtc_sctp::SctpEvent;
-use rtc_wire::{Bytes, ChannelConfig, Moment, Seq, Text, release};
+use rtc_wire::{Bytes, ChannelConfig, Seq, Text, release};
 use std::alloc::{AllocError, Global};
 
-/// A side of two peers.
+/// A step of the streams of two peers, the left and the right one.
 #[derive(Clone, Copy)]
-pub enum Side {
-    Left,
-    Right,
-}
-
-/// The streams of a client, the left side, and of its server. Every packet arrives, and what each side is told is noted.
-#[derive(Drop)]
-pub struct TwoPeers<T> {
-    left: T,
-    right: T,
+pub enum PeersStep {
+    Left(StreamCall),
+    Right(StreamCall),
+    /// Opens a channel with a label at the left side: in-band, or settled by other means.
+    OpenLeft(u16, &'static str, bool),
+    /// The same at the right side.
+    OpenRight(u16, &'static str, bool),
+    /// Hands over what each side has to send, and notes what each is told.
+    Exchange,
+    /// Hands over what the left side has to send, and notes what it is told.
+    CarryLeft,
+    CarryRight,
+    /// Hands over one packet of the left side.
+    CarryPacket,
+    /// Notes which generation of a stream each side has.
+    TellGeneration(u16),
 }
 
 // A config of a channel: in-band, or settled by other means.
@@ -121,85 +127,56 @@ fn carry<T: Streams>(name: &str, from: &mut T, to: &mut T, notes: &mut Notes) {
     }
 }
 
-impl<T: Streams> TwoPeers<T> {
-    /// Two sides that are not started.
-    pub fn new(left: T, right: T) -> TwoPeers<T> {
-        TwoPeers { left, right }
+fn exchange<T: Streams>(left: &mut T, right: &mut T, notes: &mut Notes) {
+    for _ in 0..4 {
+        carry("left", left, right, notes);
+        carry("right", right, left, notes);
     }
+    notes.need(left.does(StreamCall::Pass(0)));
+    notes.need(right.does(StreamCall::Pass(0)));
+}
 
-    /// Starts the left side as the client, and the right one as the server, and connects them.
-    pub fn start(&mut self, notes: &mut Notes) {
-        notes.expect(self.left.start(true));
-        notes.expect(self.right.start(false));
-        self.exchange(notes);
-    }
+fn tell_generation<T: Streams>(left: &T, right: &T, id: u16, notes: &mut Notes) {
+    notes.add("generation ");
+    notes.add_number(left.resets(id));
+    notes.add_count(" ", right.resets(id));
+}
 
-    /// Hands over what each side has to send, and notes what each is told.
-    pub fn exchange(&mut self, notes: &mut Notes) {
-        for _ in 0..4 {
-            self.carry_from(Side::Left, notes);
-            self.carry_from(Side::Right, notes);
+fn perform<T: Streams>(
+    alloc: Global,
+    left: &mut T,
+    right: &mut T,
+    step: &PeersStep,
+    notes: &mut Notes,
+) {
+    match *step {
+        PeersStep::Left(call) => notes.need(left.does(call)),
+        PeersStep::Right(call) => notes.need(right.does(call)),
+        PeersStep::OpenLeft(id, label, settled) => {
+            notes.expect(open(alloc, left, id, label, settled))
         }
-        notes.expect(self.left.pass(Moment::FAR_PAST));
-        notes.expect(self.right.pass(Moment::FAR_PAST));
-    }
-
-    /// Hands over what one side has to send, and notes what it is told.
-    pub fn carry_from(&mut self, side: Side, notes: &mut Notes) {
-        match side {
-            Side::Left => carry("left", &mut self.left, &mut self.right, notes),
-            Side::Right => carry("right", &mut self.right, &mut self.left, notes),
+        PeersStep::OpenRight(id, label, settled) => {
+            notes.expect(open(alloc, right, id, label, settled))
         }
-    }
-
-    /// Hands over one packet of the left side.
-    pub fn carry_packet(&mut self, notes: &mut Notes) {
-        carry_one("left", &mut self.left, &mut self.right, notes);
-    }
-
-    /// Hands the left side a moment, so many seconds after the first.
-    pub fn pass_seconds(&mut self, seconds: u64, notes: &mut Notes) {
-        let now = Moment::from_nanos(seconds.saturating_mul(1_000_000_000));
-        notes.expect(self.left.pass(now));
-    }
-
-    /// Opens a channel at one side: in-band, or settled by other means.
-    pub fn open(
-        &mut self,
-        alloc: Global,
-        side: Side,
-        id: u16,
-        label: &str,
-        settled: bool,
-    ) -> Result<(), AllocError> {
-        match side {
-            Side::Left => open(alloc, &mut self.left, id, label, settled),
-            Side::Right => open(alloc, &mut self.right, id, label, settled),
+        PeersStep::Exchange => exchange(left, right, notes),
+        PeersStep::CarryLeft => carry("left", left, right, notes),
+        PeersStep::CarryRight => carry("right", right, left, notes),
+        PeersStep::CarryPacket => {
+            carry_one("left", left, right, notes);
         }
+        PeersStep::TellGeneration(id) => tell_generation(left, right, id, notes),
     }
+}
 
-    /// Writes a text at one side.
-    pub fn write(&mut self, side: Side, id: u16, text: &str, notes: &mut Notes) {
-        match side {
-            Side::Left => notes.expect(self.left.write_text(id, text)),
-            Side::Right => notes.expect(self.right.write_text(id, text)),
-        }
-    }
-
-    /// Closes a channel at the left side.
-    pub fn close_stream(&mut self, id: u16, notes: &mut Notes) {
-        notes.expect(self.left.close_one(id));
-    }
-
-    /// Notes which generation of a stream each side has.
-    pub fn tell_generation(&self, id: u16, notes: &mut Notes) {
-        notes.add("generation ");
-        notes.add_number(self.left.resets(id));
-        notes.add_count(" ", self.right.resets(id));
-    }
-
-    /// Shuts the association down at the left side.
-    pub fn close(&mut self, notes: &mut Notes) {
-        notes.expect(self.left.shut_down());
+/// Performs steps of a client, the left side, and of its server. Every packet arrives, and what each side is told is noted.
+pub fn perform_all<T: Streams>(
+    alloc: Global,
+    left: &mut T,
+    right: &mut T,
+    steps: &[PeersStep],
+    notes: &mut Notes,
+) {
+    for step in steps {
+        perform(alloc, left, right, step, notes);
     }
 }

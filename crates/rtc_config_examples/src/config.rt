@@ -40,9 +40,6 @@ pub trait Config: Sized {
     /// It with these extensions in place of its own, and that of the audio level by the number 4.
     fn with_extensions(self, map: ExtensionMap) -> Result<Self, AllocError>;
 
-    /// Drops its codecs and extensions in place.
-    fn clear(&mut self);
-
     /// Its codecs.
     fn rows(&self) -> &[PayloadRow];
 
@@ -51,12 +48,6 @@ pub trait Config: Sized {
 
     /// Its extensions.
     fn extension_rows(&self) -> &[(u8, Extension)];
-
-    /// The credentials that were set.
-    fn creds(&self) -> Option<&IceCreds>;
-
-    /// The certificate that was set.
-    fn cert(&self) -> Option<&[u8]>;
 }
 
 /// The configuration of a peer.

@@ -39,11 +39,6 @@ impl Config for RtcConfig {
         config.set_extension(4, Extension::AudioLevel)
     }
 
-    fn clear(&mut self) {
-        self.codec_config().rows.clear();
-        self.extension_map().rows.clear();
-    }
-
     fn rows(&self) -> &[PayloadRow] {
         self.codecs().rows.as_slice()
     }
@@ -54,13 +49,5 @@ impl Config for RtcConfig {
 
     fn extension_rows(&self) -> &[(u8, Extension)] {
         self.extensions().rows.as_slice()
-    }
-
-    fn creds(&self) -> Option<&IceCreds> {
-        self.local_ice_credentials().as_ref()
-    }
-
-    fn cert(&self) -> Option<&[u8]> {
-        self.dtls_cert()
     }
 }

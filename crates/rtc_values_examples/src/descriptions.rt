@@ -1,43 +1,9 @@
-//! Values of session descriptions: layers, extensions, codecs, and hashes of certificates.
-use rtc_cases::{every, is_copied, is_true};
+//! Values of session descriptions: layers, extensions, and hashes of certificates.
+use rtc_cases::{every, is_true};
 use rtc_fields::push_hex;
-use rtc_sdp_values::{
-    CodecConfig, Extension, ExtensionMap, Fingerprint, PayloadRow, Pt, Rid, Simulcast,
-    SimulcastLayer,
-};
-use rtc_wire::{Seq, Text, TryCopy};
+use rtc_sdp_values::{Extension, ExtensionMap, Fingerprint, Rid, Simulcast, SimulcastLayer};
+use rtc_wire::{Seq, TryCopy};
 use std::alloc::{AllocError, Global};
-
-fn opus(codec: Text, fmtp: Text) -> PayloadRow {
-    PayloadRow {
-        pt: Pt(111),
-        rtx: Some(Pt(112)),
-        red: Some(Pt(63)),
-        codec,
-        clock: 48_000,
-        channels: 2,
-        fmtp,
-    }
-}
-
-// Whether a payload row is copied.
-fn is_payload_copied(alloc: Global) -> Result<bool, AllocError> {
-    let codec = Text::from_str(alloc, "opus")?;
-    let fmtp = Text::from_str(alloc, "minptime=10")?;
-    let row = opus(codec, fmtp);
-    Ok(is_copied(&row))
-}
-
-// Whether a config of codecs is copied.
-fn are_codecs_copied(alloc: Global) -> Result<bool, AllocError> {
-    let mut red_distances = Seq::empty(alloc);
-    red_distances.push(1)?;
-    let codecs = CodecConfig {
-        rows: Seq::empty(alloc),
-        red_distances,
-    };
-    Ok(is_copied(&codecs))
-}
 
 // Whether the standard extensions are copied.
 fn are_extensions_copied(alloc: Global) -> Result<bool, AllocError> {
@@ -97,14 +63,12 @@ fn hashes(alloc: Global) -> bool {
 /// Whether an example of session descriptions as values gives what is expected.
 pub fn does_agree(alloc: Global, example: &str) -> bool {
     match example {
-        "with codecs" => is_true(are_codecs_copied(alloc)),
         "with extensions" => is_true(are_extensions_copied(alloc)),
         "with hashes of certificates" => hashes(alloc),
         "with layers" => match Rid::read("h") {
             Some(rid) => are_layers_inverted(alloc, rid),
             None => false,
         },
-        "with payloads" => is_true(is_payload_copied(alloc)),
         _ => false,
     }
 }

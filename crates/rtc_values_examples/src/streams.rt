@@ -1,7 +1,7 @@
 //! Sources and sinks: pieces, calls that fail, and the limit.
 ghost use Rattle.std.specs.Prelude.{◌<◌, ◌-◌, ◌^◌};
 
-use rtc_cases::{every, is_ok, is_refused, is_true};
+use rtc_cases::{every, is_ok, is_true};
 use rtc_io::{
     INPUT_LIMIT, MemSink, MemSource, ReadError, Sink, Source, StdSink, StdSource, read_all,
     read_input, refuse_input, write_all,
@@ -13,24 +13,6 @@ use std::io::{ErrorKind, Read};
 
 const WORDS: &[u8] = b"L offer";
 
-fn source(
-    alloc: Global,
-    bytes: &[u8],
-    piece: usize,
-    failing: &[u64],
-) -> Result<MemSource, AllocError>
-    requires { 0 < piece }
-{
-    let bytes = Bytes::new(bytes.to_vec(alloc)?);
-    let failing = Seq::new(failing.to_vec(alloc)?);
-    Ok(MemSource::new(bytes, piece, failing))
-}
-
-fn sink(alloc: Global, piece: usize, failing: &[u64]) -> Result<MemSink, AllocError> {
-    let failing = Seq::new(failing.to_vec(alloc)?);
-    Ok(MemSink::new(alloc, piece, failing))
-}
-
 #[derive(Drop)]
 struct Broken;
 
@@ -40,21 +22,35 @@ impl Read for Broken {
     }
 }
 
-// Whether a source gives these bytes.
-fn gives<R: Source>(alloc: Global, input: &mut R, limit: usize, want: &[u8]) -> bool
+// Whether a source gives these bytes, or this error.
+fn reads<R: Source>(
+    alloc: Global,
+    input: &mut R,
+    limit: usize,
+    want: Result<&[u8], ReadError>,
+) -> bool
     requires { limit < 2 ^ 64 - 1 }
 {
     match read_all(alloc, input, limit) {
-        Ok(bytes) => bytes.as_slice() == want,
-        Err(_) => false,
+        Ok(bytes) => want == Ok(bytes.as_slice()),
+        Err(error) => want == Err(error),
     }
 }
 
-// Whether reading a source ends in this error.
-fn fails<R: Source>(alloc: Global, input: &mut R, limit: usize, want: ReadError) -> bool
-    requires { limit < 2 ^ 64 - 1 }
+// Whether a source of bytes in memory, in pieces and with calls that fail, gives these bytes or this error.
+fn reads_from(
+    alloc: Global,
+    bytes: &[u8],
+    piece: usize,
+    failing: &[u64],
+    want: Result<&[u8], ReadError>,
+) -> Result<bool, AllocError>
+    requires { 0 < piece }
 {
-    is_refused(read_all(alloc, input, limit), &want)
+    let bytes = Bytes::new(bytes.to_vec(alloc)?);
+    let failing = Seq::new(failing.to_vec(alloc)?);
+    let mut input = MemSource::new(bytes, piece, failing);
+    Ok(reads(alloc, &mut input, INPUT_LIMIT, want))
 }
 
 // Whether a sink takes the words whole.
@@ -62,15 +58,9 @@ fn takes<W: Sink>(output: &mut W) -> bool {
     write_all(output, WORDS).is_ok()
 }
 
-// Whether pieces of one byte are joined.
-fn are_read(alloc: Global) -> Result<bool, AllocError> {
-    let mut input = source(alloc, WORDS, 1, &[])?;
-    Ok(gives(alloc, &mut input, 7, WORDS))
-}
-
-fn fails_where_listed(alloc: Global, call: u64) -> Result<bool, AllocError> {
-    let mut input = source(alloc, WORDS, 1, &[call])?;
-    Ok(fails(alloc, &mut input, 7, ReadError::Fault))
+fn sink(alloc: Global, piece: usize, failing: &[u64]) -> Result<MemSink, AllocError> {
+    let failing = Seq::new(failing.to_vec(alloc)?);
+    Ok(MemSink::new(alloc, piece, failing))
 }
 
 // Whether a sink that takes so many bytes a call, and fails at these calls, takes the words, and what it has then.
@@ -86,35 +76,25 @@ fn writes(
     Ok((took == taken) & (output.written() == want))
 }
 
-fn reads_at_limit(alloc: Global, bytes: &[u8]) -> Result<bool, AllocError> {
-    let mut input = source(alloc, bytes, 5000, &[])?;
-    Ok(gives(alloc, &mut input, INPUT_LIMIT, bytes))
+// Whether so many bytes are read whole, and one more is too long.
+fn keeps_limit(alloc: Global, bytes: &mut Vec<u8>) -> Result<bool, AllocError> {
+    bytes.resize(1_048_576, b'x')?;
+    let read = is_true(reads_from(alloc, bytes.as_slice(), 5000, &[], Ok(bytes.as_slice())));
+    bytes.push(b'x')?;
+    let past = reads_from(alloc, bytes.as_slice(), 5000, &[], Err(ReadError::TooLong));
+    Ok(read & is_true(past))
 }
 
-fn fails_past_limit(alloc: Global, bytes: &[u8]) -> Result<bool, AllocError> {
-    let mut input = source(alloc, bytes, 5000, &[])?;
-    Ok(fails(alloc, &mut input, INPUT_LIMIT, ReadError::TooLong))
-}
-
-fn grow(bytes: &mut Vec<u8>, length: usize) -> Result<(), AllocError> {
-    bytes.resize(length, b'x')?;
-    Ok(())
-}
-
-fn keeps_limit(alloc: Global) -> bool {
+fn is_limited(alloc: Global) -> bool {
     let mut bytes = Vec::new(alloc);
-    let grown = grow(&mut bytes, 1_048_576).is_ok();
-    let read = is_true(reads_at_limit(alloc, bytes.as_slice()));
-    let past = grow(&mut bytes, 1_048_577).is_ok();
-    let failed = is_true(fails_past_limit(alloc, bytes.as_slice()));
-    every(&[grown, read, past, failed])
+    is_true(keeps_limit(alloc, &mut bytes))
 }
 
 fn reads_by_std(alloc: Global) -> bool {
     let mut input = StdSource::new(WORDS);
     let mut broken = StdSource::new(Broken);
-    let read = gives(alloc, &mut input, 100, WORDS);
-    read & fails(alloc, &mut broken, 100, ReadError::Fault)
+    let read = reads(alloc, &mut input, 100, Ok(WORDS));
+    read & reads(alloc, &mut broken, 100, Err(ReadError::Fault))
 }
 
 fn writes_to_vector(alloc: Global) -> bool {
@@ -132,15 +112,11 @@ fn writes_to_slice() -> bool {
 }
 
 // Whether input that is read leaves a sink as it was.
-fn leaves(alloc: Global, output: &mut MemSink) -> Result<bool, AllocError> {
-    let mut input = source(alloc, WORDS, 3, &[])?;
-    let read = is_ok(read_input(alloc, b"script too long\n", &mut input, output));
-    Ok(read & (output.written() == b"".as_slice()))
-}
-
 fn is_silent(alloc: Global) -> Result<bool, AllocError> {
     let mut output = sink(alloc, 7, &[])?;
-    Ok(is_true(leaves(alloc, &mut output)))
+    let mut input = StdSource::new(WORDS);
+    let read = is_ok(read_input(alloc, b"script too long\n", &mut input, &mut output));
+    Ok(read & (output.written() == b"".as_slice()))
 }
 
 fn tells_line(alloc: Global) -> Result<bool, AllocError> {
@@ -149,18 +125,19 @@ fn tells_line(alloc: Global) -> Result<bool, AllocError> {
     Ok((status == 3) & (output.written() == b"script refused at line 12\n".as_slice()))
 }
 
+// Whether pieces of one byte are joined, as they are read and as they are written.
 fn joins_pieces(alloc: Global) -> bool {
     every(&[
-        is_true(are_read(alloc)),
+        is_true(reads_from(alloc, WORDS, 1, &[], Ok(WORDS))),
         is_true(writes(alloc, 1, &[], true, WORDS)),
     ])
 }
 
 fn fails_at_listed(alloc: Global) -> bool {
     every(&[
-        is_true(fails_where_listed(alloc, 0)),
-        is_true(fails_where_listed(alloc, 3)),
-        is_true(fails_where_listed(alloc, 7)),
+        is_true(reads_from(alloc, WORDS, 1, &[0], Err(ReadError::Fault))),
+        is_true(reads_from(alloc, WORDS, 1, &[3], Err(ReadError::Fault))),
+        is_true(reads_from(alloc, WORDS, 1, &[7], Err(ReadError::Fault))),
         is_true(writes(alloc, 2, &[2], false, b"L of")),
     ])
 }
@@ -171,7 +148,7 @@ pub fn does_agree(alloc: Global, example: &str) -> bool {
         "pieces of one byte are joined" => joins_pieces(alloc),
         "listed calls fail" => fails_at_listed(alloc),
         "a sink that takes no byte fails" => is_true(writes(alloc, 0, &[], false, b"")),
-        "one byte past the limit is too long" => keeps_limit(alloc),
+        "one byte past the limit is too long" => is_limited(alloc),
         "readers of std are sources" => reads_by_std(alloc),
         "vectors are sinks" => writes_to_vector(alloc),
         "slices are sinks that fill up" => writes_to_slice(),
