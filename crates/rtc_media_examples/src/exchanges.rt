@@ -1,6 +1,7 @@
 //! Two media parts in memory that give each other their packets.
-use crate::sessions::{Part, is_silent, settings, shows, tells_rtcp};
+use crate::sessions::{Part, is_silent, settings, shows, tells};
 use rtc_media::{RawPacket, SrtpProfile};
+use rtc_plain_media::PlainMediaEvent;
 use rtc_sdp_values::Ssrc;
 use rtc_wire::{Bytes, Moment};
 use std::alloc::{AllocError, Global};
@@ -25,33 +26,25 @@ fn take_keys<M: Part>(left: &mut M, right: &mut M) -> Result<bool, AllocError> {
     Ok(waits & left_keyed & right_keyed)
 }
 
-// The wish for a picture is told by its length.
-fn wishes<M: Part>(left: &mut M, right: &mut M) -> Result<bool, AllocError> {
-    left.send_pli_feedback(Ssrc(1), Ssrc(2))?;
-    let passed = pass(left, right)?;
-    let told = tells_rtcp(right, 4);
-    Ok(passed & told)
-}
-
-// Feedback of the application that comes back is told by its length, with its header.
+// The wish for a picture is told by its length, and so is feedback of the application that comes back, with its header.
 fn answers<M: Part>(left: &mut M, right: &mut M) -> Result<bool, AllocError> {
+    left.send_pli_feedback(Ssrc(1), Ssrc(2))?;
+    let wished = pass(left, right)?;
+    let told = tells(right, PlainMediaEvent::Rtcp(4));
     right.send_app_specific_feedback(Ssrc(2), Ssrc(1), b"\x05\x06")?;
-    let passed = pass(right, left)?;
-    let told = tells_rtcp(left, 6);
-    Ok(passed & told)
+    let answered = pass(right, left)?;
+    let told_back = tells(left, PlainMediaEvent::Rtcp(6));
+    Ok(wished & told & answered & told_back)
 }
 
 // Where raw packets are on, the packet is told before its length.
-fn wishes_raw<M: Part>(
-    left: &mut M,
-    right: &mut M,
-    packet: &RawPacket,
-) -> Result<bool, AllocError> {
+fn wishes_raw<M: Part>(alloc: Global, left: &mut M, right: &mut M) -> Result<bool, AllocError> {
     right.configure(settings(true));
     left.send_pli_feedback(Ssrc(1), Ssrc(2))?;
     let passed = pass(left, right)?;
-    let shown = shows(right, packet);
-    let told = tells_rtcp(right, 4);
+    let bytes = Vec::from_slice(alloc, b"\x80\xce\0\0")?;
+    let shown = shows(right, RawPacket::RtcpRx(Bytes::new(bytes)));
+    let told = tells(right, PlainMediaEvent::Rtcp(4));
     Ok(passed & shown & told)
 }
 
@@ -60,26 +53,17 @@ fn parts_close<M: Part>(left: &mut M, right: &mut M) -> Result<bool, AllocError>
     left.close_rtp()?;
     right.configure(settings(false));
     let passed = pass(left, right)?;
-    let told = tells_rtcp(right, 4);
+    let told = tells(right, PlainMediaEvent::Rtcp(4));
     let silent = is_silent(left);
     let closed = left.is_rtp_closed() & !right.is_rtp_closed();
-    let last = passed & told & silent;
-    Ok(last & closed)
-}
-
-// What two parts tell of each other's packets.
-fn exchange<M: Part>(left: &mut M, right: &mut M, packet: &RawPacket) -> Result<bool, AllocError> {
-    let keyed = take_keys(left, right)?;
-    let wished = wishes(left, right)?;
-    let answered = answers(left, right)?;
-    let shown = wishes_raw(left, right, packet)?;
-    let closed = parts_close(left, right)?;
-    Ok(keyed & wished & answered & shown & closed)
+    Ok(passed & told & silent & closed)
 }
 
 /// Whether two parts that have keys tell each other's packets, and the goodbye of the one that closes.
 pub fn exchanged<M: Part>(alloc: Global, left: &mut M, right: &mut M) -> Result<bool, AllocError> {
-    let bytes = Vec::from_slice(alloc, b"\x80\xce\0\0")?;
-    let packet = RawPacket::RtcpRx(Bytes::new(bytes));
-    exchange(left, right, &packet)
+    let keyed = take_keys(left, right)?;
+    let answered = answers(left, right)?;
+    let shown = wishes_raw(alloc, left, right)?;
+    let closed = parts_close(left, right)?;
+    Ok(keyed & answered & shown & closed)
 }

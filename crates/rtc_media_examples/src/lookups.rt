@@ -1,5 +1,5 @@
 //! Streams and ssrcs that a media part finds.
-use crate::sessions::{Part, commit, counts, update};
+use crate::sessions::{Part, commit, counts, marks};
 use rtc_sdp_values::{Direction, Mid, Rid, Ssrc};
 use std::alloc::{AllocError, Global};
 
@@ -13,22 +13,16 @@ fn uses<M: Part>(part: &M, ssrcs: &[u32]) -> bool {
     true
 }
 
-// A line with the ssrcs 7 and 8.
-fn comes<M: Part>(part: &mut M, alloc: Global, mid: Mid) -> Result<(), AllocError> {
-    let given = update(alloc, mid, Direction::SendRecv, true, None)?;
-    commit(part, given)
-}
-
-// Two lines have the same ssrcs, which are in use until both are gone.
-fn lines_use<M: Part>(
+/// Whether the ssrcs of two lines that have the same ones are in use until both are gone.
+pub fn lines_use<M: Part>(
     part: &mut M,
     alloc: Global,
     mid: Mid,
     other: Mid,
 ) -> Result<bool, AllocError> {
-    comes(part, alloc, mid)?;
-    comes(part, alloc, other)?;
-    comes(part, alloc, other)?;
+    commit(part, alloc, mid, Direction::SendRecv, true, None)?;
+    commit(part, alloc, other, Direction::SendRecv, true, None)?;
+    commit(part, alloc, other, Direction::SendRecv, true, None)?;
     let used = uses(part, &[7, 8]);
     part.remove_line(mid);
     let still = uses(part, &[7, 8]);
@@ -36,8 +30,8 @@ fn lines_use<M: Part>(
     Ok(used & still & uses(part, &[]))
 }
 
-// Streams have their ssrcs and those of their retransmissions, until they are renumbered or removed.
-fn streams_use<M: Part>(part: &mut M, mid: Mid) -> Result<bool, AllocError> {
+/// Whether the ssrcs of streams and of their retransmissions are in use until they are renumbered or removed.
+pub fn streams_use<M: Part>(part: &mut M, mid: Mid) -> Result<bool, AllocError> {
     let _ = part.declare_stream_tx(Ssrc(1), Some(Ssrc(2)), mid, None)?;
     let _ = part.expect_stream_rx(Ssrc(3), None, mid, None)?;
     let made = uses(part, &[1, 2, 3]);
@@ -54,37 +48,16 @@ fn make_layers<M: Part>(part: &mut M, mid: Mid, low: Rid, high: Rid) -> Result<(
     Ok(())
 }
 
-// Writes the mark of the stream of a layer.
-fn marks<M: Part>(part: &mut M, mid: Mid, rid: Rid, count: u64) -> bool {
-    match part.stream_tx_by_mid(mid, Some(rid)) {
-        Some(mark) => {
-            mark.count = count;
-            true
-        }
-        None => false,
-    }
-}
-
 // Of two streams of a layer the first is found, and the second once the first is gone.
 fn finds_layers<M: Part>(part: &mut M, mid: Mid, high: Rid) -> bool {
-    let first = marks(part, mid, high, 5) & counts(part.stream_tx(Ssrc(2)), 5);
+    let first = marks(part.stream_tx_by_mid(mid, Some(high)), 5);
+    let kept = counts(part.stream_tx(Ssrc(2)), 5);
     let removed = part.remove_stream_tx(Ssrc(2));
-    let second = marks(part, mid, high, 6) & counts(part.stream_tx(Ssrc(3)), 6);
+    let second = marks(part.stream_tx_by_mid(mid, Some(high)), 6);
+    let left = counts(part.stream_tx(Ssrc(3)), 6);
     let other = counts(part.stream_tx(Ssrc(1)), 0);
     let none = part.stream_tx_by_mid(mid, None).is_none();
-    first & removed & second & other & none
-}
-
-/// Whether the ssrcs of streams and lines are in use.
-pub fn sources<M: Part>(
-    part: &mut M,
-    alloc: Global,
-    mid: Mid,
-    other: Mid,
-) -> Result<bool, AllocError> {
-    let of_lines = lines_use(part, alloc, mid, other)?;
-    let of_streams = streams_use(part, mid)?;
-    Ok(of_lines & of_streams)
+    first & kept & removed & second & left & other & none
 }
 
 /// Whether streams are found by their line and layer.

@@ -4,8 +4,9 @@ use rtc_media::{
 };
 use rtc_plain_media::{PlainMark, PlainMedia, PlainMediaEvent};
 use rtc_sdp_values::{Direction, LineRow, MediaKind, Mid, Ssrc};
-use rtc_wire::{Moment, Seq, Span};
+use rtc_wire::{Moment, Seq, Span, release};
 use std::alloc::{AllocError, Global};
+use std::slice;
 
 /// A media part that keeps marks and tells events as that in memory does.
 pub trait Part: MediaSession<
@@ -35,8 +36,8 @@ pub fn settings(raw_packets: bool) -> MediaSettings {
     }
 }
 
-/// An update of an audio line, in place of a line that goes, if one does.
-pub fn update(
+// An update of an audio line that receives the ssrcs 7 and 8, in place of a line that goes, if one does.
+fn update(
     alloc: Global,
     mid: Mid,
     dir: Direction,
@@ -66,10 +67,18 @@ pub fn update(
     })
 }
 
-/// Makes an update ready and applies it.
-pub fn commit<M: Part>(part: &mut M, update: MediaUpdate) -> Result<(), AllocError> {
-    let updates = [update];
-    part.prepare(updates.as_slice())?;
+/// Makes the update of a line ready and applies it.
+pub fn commit<M: Part>(
+    part: &mut M,
+    alloc: Global,
+    mid: Mid,
+    dir: Direction,
+    announce: bool,
+    removed: Option<Mid>,
+) -> Result<(), AllocError> {
+    let update = update(alloc, mid, dir, announce, removed)?;
+    let ready = part.prepare(slice::from_ref(&update));
+    release(update, ready)?;
     part.commit();
     Ok(())
 }
@@ -87,65 +96,10 @@ pub fn is_silent<M: Part>(part: &mut M) -> bool {
     part.poll_datagram(Moment::FAR_PAST).is_none()
 }
 
-// Whether an event is that of an RTP packet of so many bytes.
-fn is_rtp(event: &PlainMediaEvent, length: usize) -> bool {
-    match event {
-        PlainMediaEvent::Rtp(told) => *told == length,
-        _ => false,
-    }
-}
-
-fn is_rtcp(event: &PlainMediaEvent, length: usize) -> bool {
-    match event {
-        PlainMediaEvent::Rtcp(told) => *told == length,
-        _ => false,
-    }
-}
-
-fn is_added(event: &PlainMediaEvent, line: Mid, to: Direction) -> bool {
-    match event {
-        PlainMediaEvent::Added(mid, kind, dir) => {
-            (*mid == line) & (*kind == MediaKind::Audio) & (*dir == to)
-        }
-        _ => false,
-    }
-}
-
-fn is_changed(event: &PlainMediaEvent, line: Mid, to: Direction) -> bool {
-    match event {
-        PlainMediaEvent::Changed(mid, dir) => (*mid == line) & (*dir == to),
-        _ => false,
-    }
-}
-
-/// Whether the next event is that of an RTP packet of so many bytes.
-pub fn tells_rtp<M: Part>(part: &mut M, length: usize) -> bool {
+/// Whether the next event is this one.
+pub fn tells<M: Part>(part: &mut M, expected: PlainMediaEvent) -> bool {
     match part.poll_event() {
-        Some(event) => is_rtp(&event, length),
-        None => false,
-    }
-}
-
-/// Whether the next event is that of an RTCP packet of so many bytes.
-pub fn tells_rtcp<M: Part>(part: &mut M, length: usize) -> bool {
-    match part.poll_event() {
-        Some(event) => is_rtcp(&event, length),
-        None => false,
-    }
-}
-
-/// Whether the next event is that a line came.
-pub fn tells_added<M: Part>(part: &mut M, mid: Mid, dir: Direction) -> bool {
-    match part.poll_event() {
-        Some(event) => is_added(&event, mid, dir),
-        None => false,
-    }
-}
-
-/// Whether the next event is that a line turned.
-pub fn tells_changed<M: Part>(part: &mut M, mid: Mid, dir: Direction) -> bool {
-    match part.poll_event() {
-        Some(event) => is_changed(&event, mid, dir),
+        Some(event) => event == expected,
         None => false,
     }
 }
@@ -158,9 +112,9 @@ fn is_packet(event: &PlainMediaEvent, packet: &RawPacket) -> bool {
 }
 
 /// Whether the next event shows a packet.
-pub fn shows<M: Part>(part: &mut M, packet: &RawPacket) -> bool {
+pub fn shows<M: Part>(part: &mut M, packet: RawPacket) -> bool {
     match part.poll_event() {
-        Some(event) => is_packet(&event, packet),
+        Some(event) => is_packet(&event, &packet),
         None => false,
     }
 }
@@ -169,6 +123,17 @@ pub fn shows<M: Part>(part: &mut M, packet: &RawPacket) -> bool {
 pub fn counts(mark: Option<&mut PlainMark>, count: u64) -> bool {
     match mark {
         Some(mark) => mark.count == count,
+        None => false,
+    }
+}
+
+/// Writes a count to a mark, if there is one.
+pub fn marks(mark: Option<&mut PlainMark>, count: u64) -> bool {
+    match mark {
+        Some(mark) => {
+            mark.count = count;
+            true
+        }
         None => false,
     }
 }
