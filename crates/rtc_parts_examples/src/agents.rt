@@ -1,7 +1,9 @@
-//! What examples ask of an ICE agent.
-use rtc_ice::{IceAgent, IceConnectionState, IceEvent};
+//! Two ICE agents in memory, by steps that are tables of examples.
+use rtc_cases::{gives, is_ok};
+use rtc_ice::{IceAgent, IceEvent};
+use rtc_plain_ice::PlainIce;
 use rtc_sdp_values::{Candidate, IceCreds};
-use rtc_wire::{Addr, Moment, Protocol, StunView, Text};
+use rtc_wire::{Addr, Moment, Protocol, Span, StunView, Text};
 use std::alloc::{AllocError, Global};
 
 /// The address of the left agent.
@@ -16,45 +18,124 @@ pub const RIGHT: Addr = Addr {
     port: 2000,
 };
 
-/// Credentials with this fragment.
-pub fn creds(alloc: Global, ufrag: &str) -> Result<IceCreds, AllocError> {
+/// A call on an agent. Moments are in nanoseconds.
+#[derive(Clone, Copy)]
+pub enum Call {
+    SetLite,
+    /// Sets after how many milliseconds a check is due again.
+    SetRto(u64),
+    /// Gives the agent credentials with this fragment.
+    SetLocal(&'static str),
+    /// Gives the agent credentials of the other side.
+    SetRemote(&'static str),
+    /// Restarts with new credentials, and keeps the local candidates or not.
+    Restart(&'static str, bool),
+    Pass(u64),
+    /// Gives the agent a message from one address to another.
+    Give(u64, Addr, Addr, &'static [u8]),
+}
+
+/// A step of an example at one agent: a call that succeeds, or what the agent answers or shows.
+#[derive(Clone, Copy)]
+pub enum Step {
+    Does(Call),
+    /// Whether a local candidate is taken.
+    TakesLocal(Addr, bool),
+    /// Whether a candidate of the other side is taken.
+    Takes(Addr, Protocol, bool),
+    Withdraws(Addr, Protocol, bool),
+    IsViable(Addr, bool),
+    HasLocal(usize),
+    WakesAt(Option<u64>),
+    Tells(IceEvent),
+    /// The next datagram goes by UDP from one address to another with these bytes.
+    Sends(Addr, Addr, &'static [u8]),
+    /// Neither an event nor a datagram is left.
+    IsQuiet,
+    IsConnected,
+    HasRtt(Option<u64>),
+    HasTotalRtt(u64),
+    HasResponses(u64),
+}
+
+// Credentials with this fragment.
+fn creds(alloc: Global, ufrag: &str) -> Result<IceCreds, AllocError> {
     Ok(IceCreds {
         ufrag: Text::from_str(alloc, ufrag)?,
         pass: Text::from_str(alloc, "pass")?,
     })
 }
 
-fn add_candidates<A: IceAgent>(
-    agent: &mut A,
-    alloc: Global,
-    here: Addr,
-    there: Addr,
-) -> Result<(), AllocError> {
-    let local = Candidate::host(alloc, here, Protocol::Udp)?;
-    let remote = Candidate::host(alloc, there, Protocol::Udp)?;
-    let _ = agent.add_local_candidate(local)?;
-    let _ = agent.add_remote_candidate(remote)?;
+fn set_local<A: IceAgent>(alloc: Global, agent: &mut A, ufrag: &str) -> Result<(), AllocError> {
+    let creds = creds(alloc, ufrag)?;
+    agent.set_local_credentials(creds);
     Ok(())
 }
 
-/// Gives an agent its credentials and candidate, and those of the other side.
-pub fn prepare<A: IceAgent>(
-    agent: &mut A,
-    alloc: Global,
-    own: &str,
-    other: &str,
-    here: Addr,
-    there: Addr,
-) -> Result<(), AllocError> {
-    let local = creds(alloc, own)?;
-    let remote = creds(alloc, other)?;
-    agent.set_local_credentials(local);
-    agent.set_remote_credentials(remote);
-    add_candidates(agent, alloc, here, there)
+fn set_remote<A: IceAgent>(alloc: Global, agent: &mut A, ufrag: &str) -> Result<(), AllocError> {
+    let creds = creds(alloc, ufrag)?;
+    agent.set_remote_credentials(creds);
+    Ok(())
 }
 
-/// Whether the next datagram goes from an address to another with these bytes.
-pub fn sends<A: IceAgent>(agent: &mut A, source: Addr, destination: Addr, bytes: &[u8]) -> bool {
+fn restart<A: IceAgent>(
+    alloc: Global,
+    agent: &mut A,
+    ufrag: &str,
+    keep: bool,
+) -> Result<(), AllocError> {
+    let creds = creds(alloc, ufrag)?;
+    agent.ice_restart(creds, keep)
+}
+
+fn make<A: IceAgent>(alloc: Global, agent: &mut A, call: &Call) -> Result<(), AllocError> {
+    match *call {
+        Call::SetLite => {
+            agent.set_ice_lite(true);
+            Ok(())
+        }
+        Call::SetRto(millis) => {
+            let span = Span::from_millis(millis);
+            agent.set_rto(span, span, 0);
+            Ok(())
+        }
+        Call::SetLocal(ufrag) => set_local(alloc, agent, ufrag),
+        Call::SetRemote(ufrag) => set_remote(alloc, agent, ufrag),
+        Call::Restart(ufrag, keep) => restart(alloc, agent, ufrag, keep),
+        Call::Pass(nanos) => agent.handle_timeout(Moment::from_nanos(nanos)),
+        Call::Give(nanos, from, to, bytes) => {
+            let message = StunView { bytes };
+            agent.handle_packet(Moment::from_nanos(nanos), Protocol::Udp, from, to, &message)
+        }
+    }
+}
+
+fn takes_local<A: IceAgent>(alloc: Global, agent: &mut A, at: Addr) -> Result<bool, AllocError> {
+    let candidate = Candidate::host(alloc, at, Protocol::Udp)?;
+    agent.add_local_candidate(candidate)
+}
+
+fn takes<A: IceAgent>(
+    alloc: Global,
+    agent: &mut A,
+    at: Addr,
+    proto: Protocol,
+) -> Result<bool, AllocError> {
+    let candidate = Candidate::host(alloc, at, proto)?;
+    agent.add_remote_candidate(candidate)
+}
+
+fn withdraws<A: IceAgent>(
+    alloc: Global,
+    agent: &mut A,
+    at: Addr,
+    proto: Protocol,
+) -> Result<bool, AllocError> {
+    let candidate = Candidate::host(alloc, at, proto)?;
+    Ok(agent.invalidate_candidate(&candidate))
+}
+
+fn sends<A: IceAgent>(agent: &mut A, source: Addr, destination: Addr, bytes: &[u8]) -> bool {
     match agent.poll_transmit() {
         None => false,
         Some(sent) => {
@@ -65,74 +146,57 @@ pub fn sends<A: IceAgent>(agent: &mut A, source: Addr, destination: Addr, bytes:
     }
 }
 
-/// Gives an agent a message.
-pub fn give<A: IceAgent>(
-    agent: &mut A,
-    nanos: u64,
-    source: Addr,
-    destination: Addr,
-    bytes: &[u8],
-) -> Result<(), AllocError> {
-    let now = Moment::from_nanos(nanos);
-    let message = StunView { bytes };
-    agent.handle_packet(now, Protocol::Udp, source, destination, &message)
-}
-
-/// Whether a due timer makes an agent check for the first time.
-pub fn makes_check<A: IceAgent>(agent: &mut A) -> Result<bool, AllocError> {
-    agent.handle_timeout(Moment::FAR_PAST)?;
-    Ok(turns_to(agent, IceConnectionState::Checking))
-}
-
-// Whether the next event is that of a state.
-fn turns_to<A: IceAgent>(agent: &mut A, state: IceConnectionState) -> bool {
-    match agent.poll_event() {
-        Some(IceEvent::StateChange(told)) => told == state,
-        _ => false,
-    }
-}
-
-/// Whether the next event is that an address was discovered.
-pub fn discovers<A: IceAgent>(agent: &mut A, from: Addr) -> bool {
-    match agent.poll_event() {
-        Some(IceEvent::DiscoveredRecv { proto, source }) => {
-            (proto == Protocol::Udp) & (source == from)
-        }
-        _ => false,
-    }
-}
-
-fn sends_by<A: IceAgent>(agent: &mut A, from: Addr, to: Addr) -> bool {
-    match agent.poll_event() {
-        Some(
-            IceEvent::NominatedSend {
-                proto,
-                source,
-                destination,
-            },
-        ) => (proto == Protocol::Udp) & (source == from) & (destination == to),
-        _ => false,
-    }
-}
-
-/// Whether the next two events are those of a nomination of this pair.
-pub fn nominates<A: IceAgent>(agent: &mut A, from: Addr, to: Addr) -> bool {
-    let connected = turns_to(agent, IceConnectionState::Connected);
-    let told = sends_by(agent, from, to);
-    connected & told
-}
-
-/// Whether an agent has neither events nor datagrams.
-pub fn is_quiet<A: IceAgent>(agent: &mut A) -> bool {
-    let told = agent.poll_event().is_some();
-    let sent = agent.poll_transmit().is_some();
-    !told & !sent
-}
-
-/// Whether an agent wants to be called at this moment.
-pub fn wakes_at<A: IceAgent>(agent: &A, nanos: u64) -> bool {
+fn wakes_at<A: IceAgent>(agent: &A, at: Option<u64>) -> bool {
     match agent.poll_timeout() {
-        Some(moment) => moment.nanos() == nanos,
-        None => false,
+        Some(moment) => at == Some(moment.nanos()),
+        None => at.is_none(),
     }
+}
+
+fn has_rtt<A: IceAgent>(agent: &A, rtt: Option<u64>) -> bool {
+    match agent.pair_rtt() {
+        Some(span) => rtt == Some(span.nanos()),
+        None => rtt.is_none(),
+    }
+}
+
+fn agrees<A: IceAgent>(alloc: Global, agent: &mut A, step: &Step) -> bool {
+    match *step {
+        Step::Does(call) => is_ok(make(alloc, agent, &call)),
+        Step::TakesLocal(at, taken) => gives(takes_local(alloc, agent, at), &taken),
+        Step::Takes(at, proto, taken) => gives(takes(alloc, agent, at, proto), &taken),
+        Step::Withdraws(at, proto, was) => gives(withdraws(alloc, agent, at, proto), &was),
+        Step::IsViable(at, viable) => agent.has_viable_remote_candidate(at) == viable,
+        Step::HasLocal(count) => agent.local_candidates().len() == count,
+        Step::WakesAt(at) => wakes_at(agent, at),
+        Step::Tells(event) => agent.poll_event() == Some(event),
+        Step::Sends(from, to, bytes) => sends(agent, from, to, bytes),
+        Step::IsQuiet => agent.poll_event().is_none() & agent.poll_transmit().is_none(),
+        Step::IsConnected => agent.state().is_connected(),
+        Step::HasRtt(rtt) => has_rtt(agent, rtt),
+        Step::HasTotalRtt(total) => agent.pair_total_rtt().nanos() == total,
+        Step::HasResponses(count) => agent.pair_responses() == count,
+    }
+}
+
+// Whether two agents do all that the steps say, each a step of the left or of the right one.
+fn plays<A: IceAgent>(alloc: Global, left: &mut A, right: &mut A, steps: &[(bool, Step)]) -> bool {
+    for (at_left, step) in steps {
+        let agreed = if *at_left {
+            agrees(alloc, left, step)
+        } else {
+            agrees(alloc, right, step)
+        };
+        if !agreed {
+            return false;
+        }
+    }
+    true
+}
+
+/// Whether two fresh agents do all that the steps say, each a step of the left or of the right one.
+pub fn is_played(alloc: Global, steps: &[(bool, Step)]) -> bool {
+    let mut left = PlainIce::new(alloc);
+    let mut right = PlainIce::new(alloc);
+    plays(alloc, &mut left, &mut right, steps)
 }

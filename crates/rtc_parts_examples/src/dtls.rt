@@ -1,249 +1,209 @@
 //! Two DTLS connections over plain parts, with packets that are lost, repeated and forged.
-use crate::connections::{
-    SECOND, Seen, buffer, connect, is_empty, sends, shown, shows_cert, shows_finished, waits,
-};
-use crate::limits;
-use rtc_cases::is_true;
-use rtc_dtls::{Dtls, DtlsError, DtlsInstance};
-use rtc_wire::Moment;
-use std::alloc::{AllocError, Global};
+use crate::connections::{Call, L, Output, R, Step, is_played};
+use std::alloc::Global;
 
-// The hello of the active side and the answer of the passive one, and what comes behind them.
-fn hello() -> &'static [u8] {
-    b"\x16\x01abc"
-}
+// A second in nanoseconds.
+const SECOND: u64 = 1_000_000_000;
 
-fn answer() -> &'static [u8] {
-    b"\x16\x02def"
-}
+// The hello of the left side and the answer of the right one, and what comes behind them.
+const HELLO: &[u8] = b"\x16\x01abc";
 
-fn finish() -> &'static [u8] {
-    b"\x16\x03"
-}
+const ANSWER: &[u8] = b"\x16\x02def";
 
-fn close() -> &'static [u8] {
-    b"\x15\x01"
-}
+const FINISH: &[u8] = b"\x16\x03";
 
-// The active side sends its hello where it is given a packet of no bytes.
-fn says_hello<D: DtlsInstance>(left: &mut Dtls<D>, buf: &mut [u8]) -> Result<bool, DtlsError> {
-    left.set_active(true);
-    left.handle_receive(&[])?;
-    let waiting = waits(left, buf, SECOND);
-    let sent = sends(left, hello());
-    Ok(waiting & sent)
-}
+const CLOSE: &[u8] = b"\x15\x01";
 
-// The passive side answers a hello.
-fn answers<D: DtlsInstance>(right: &mut Dtls<D>, buf: &mut [u8]) -> Result<bool, DtlsError> {
-    right.set_active(false);
-    right.handle_receive(hello())?;
-    let told = shows_cert(right, buf, b"abc");
-    let waiting = waits(right, buf, SECOND);
-    let sent = sends(right, answer());
-    Ok(told & waiting & sent)
-}
-
-// The active side is given the answer, is told of the end of the handshake, and sends its finish.
-fn finishes<D: DtlsInstance>(left: &mut Dtls<D>, buf: &mut [u8]) -> Result<bool, DtlsError> {
-    left.handle_receive(answer())?;
-    let told = shows_cert(left, buf, b"def");
-    let finished = shows_finished(left, buf);
-    let resting = waits(left, buf, u64::MAX);
-    let sent = sends(left, finish());
-    Ok(told & finished & resting & sent)
-}
-
-// The passive side is given the finish.
-fn is_finished<D: DtlsInstance>(right: &mut Dtls<D>, buf: &mut [u8]) -> Result<bool, DtlsError> {
-    right.handle_receive(finish())?;
-    let finished = shows_finished(right, buf);
-    let resting = waits(right, buf, u64::MAX);
-    Ok(finished & resting)
-}
-
-fn shake_hands<D: DtlsInstance>(
-    left: &mut Dtls<D>,
-    right: &mut Dtls<D>,
-    buf: &mut [u8],
-) -> Result<bool, DtlsError> {
-    let greeted = says_hello(left, buf)?;
-    let answered = answers(right, buf)?;
-    let ended = finishes(left, buf)?;
-    let ended_too = is_finished(right, buf)?;
-    let begun = greeted & answered;
-    Ok(begun & ended & ended_too)
-}
-
-fn wait_until<D: DtlsInstance>(left: &mut Dtls<D>, seconds: u64) -> Result<(), DtlsError> {
-    left.handle_timeout(Moment::from_nanos(seconds.saturating_mul(SECOND)))
-}
+// The left side sends its hello where it is given a packet of no bytes.
+static HANDSHAKE: [(bool, Step); 19] = [
+    (L, Step::Does(Call::SetActive(true))),
+    (L, Step::Does(Call::Receive(b""))),
+    (L, Step::Shows(Output::Timeout(SECOND))),
+    (L, Step::Sends(HELLO)),
+    (R, Step::Does(Call::SetActive(false))),
+    (R, Step::Does(Call::Receive(HELLO))),
+    (R, Step::Shows(Output::Cert(b"abc"))),
+    (R, Step::Shows(Output::Timeout(SECOND))),
+    (R, Step::Sends(ANSWER)),
+    (L, Step::Does(Call::Receive(ANSWER))),
+    (L, Step::Shows(Output::Cert(b"def"))),
+    (L, Step::Shows(Output::Keys)),
+    (L, Step::Shows(Output::Connected)),
+    (L, Step::Shows(Output::Timeout(u64::MAX))),
+    (L, Step::Sends(FINISH)),
+    (R, Step::Does(Call::Receive(FINISH))),
+    (R, Step::Shows(Output::Keys)),
+    (R, Step::Shows(Output::Connected)),
+    (R, Step::Shows(Output::Timeout(u64::MAX))),
+];
 
 // The hello goes at the first due timer, and again one second later.
-fn repeats_hello<D: DtlsInstance>(left: &mut Dtls<D>, buf: &mut [u8]) -> Result<bool, DtlsError> {
-    left.set_active(true);
-    wait_until(left, 1)?;
-    wait_until(left, 2)?;
-    let waiting = waits(left, buf, 3_000_000_000);
-    let sent = sends(left, hello());
-    let again = sends(left, hello());
-    let rest = is_empty(left);
-    Ok(waiting & sent & again & rest)
-}
+static HELLO_AGAIN: [(bool, Step); 7] = [
+    (L, Step::Does(Call::SetActive(true))),
+    (L, Step::Does(Call::Pass(SECOND))),
+    (L, Step::Does(Call::Pass(2_000_000_000))),
+    (L, Step::Shows(Output::Timeout(3_000_000_000))),
+    (L, Step::Sends(HELLO)),
+    (L, Step::Sends(HELLO)),
+    (L, Step::IsEmpty),
+];
 
-// Data that comes too early is lost, and each hello is taken.
-fn takes_hellos<D: DtlsInstance>(right: &mut Dtls<D>) -> Result<(), DtlsError> {
-    right.set_active(false);
-    right.handle_receive(b"\x17early")?;
-    right.handle_receive(hello())?;
-    right.handle_receive(hello())
-}
+// Data that comes too early is lost. The certificate is told once, and each hello is answered. Data stands in for a finish that was
+// lost.
+static MADE_GOOD: [(bool, Step); 12] = [
+    (R, Step::Does(Call::SetActive(false))),
+    (R, Step::Does(Call::Receive(b"\x17early"))),
+    (R, Step::Does(Call::Receive(HELLO))),
+    (R, Step::Does(Call::Receive(HELLO))),
+    (R, Step::Shows(Output::Cert(b"abc"))),
+    (R, Step::Shows(Output::Timeout(SECOND))),
+    (R, Step::Sends(ANSWER)),
+    (R, Step::Sends(ANSWER)),
+    (R, Step::Does(Call::Receive(b"\x17hi"))),
+    (R, Step::Shows(Output::Keys)),
+    (R, Step::Shows(Output::Connected)),
+    (R, Step::Shows(Output::Data(b"hi"))),
+];
 
-// The certificate is told once, and each hello is answered.
-fn answers_twice<D: DtlsInstance>(right: &mut Dtls<D>, buf: &mut [u8]) -> Result<bool, DtlsError> {
-    takes_hellos(right)?;
-    let told = shows_cert(right, buf, b"abc");
-    let waiting = waits(right, buf, SECOND);
-    let sent = sends(right, answer());
-    let again = sends(right, answer());
-    Ok(told & waiting & sent & again)
-}
+// The first role stays.
+static BLOCKED: [(bool, Step); 6] = [
+    (L, Step::IsBlocked(Call::Send(b"hi"))),
+    (L, Step::Shows(Output::Timeout(u64::MAX))),
+    (L, Step::Does(Call::SetActive(true))),
+    (L, Step::Does(Call::SetActive(false))),
+    (L, Step::IsActive(true)),
+    (L, Step::IsBlocked(Call::Send(b"hi"))),
+];
 
-// Application data stands in for a finish that was lost.
-fn takes_data<D: DtlsInstance>(right: &mut Dtls<D>, buf: &mut [u8]) -> Result<bool, DtlsError> {
-    right.handle_receive(b"\x17hi")?;
-    let finished = shows_finished(right, buf);
-    let got = shown(right, buf, b"hi", 0) == Seen::Data;
-    Ok(finished & got)
-}
+// A side with a finished handshake sends data and a close, and is given the other side's close twice. It is closed once its packets
+// are given out.
+static CLOSED: [(bool, Step); 17] = [
+    (L, Step::Does(Call::SetActive(true))),
+    (L, Step::Does(Call::Receive(ANSWER))),
+    (L, Step::Shows(Output::Cert(b"def"))),
+    (L, Step::Shows(Output::Keys)),
+    (L, Step::Shows(Output::Connected)),
+    (L, Step::Shows(Output::Timeout(u64::MAX))),
+    (L, Step::Sends(FINISH)),
+    (L, Step::Does(Call::Send(b"hi"))),
+    (L, Step::Does(Call::Close)),
+    (L, Step::Does(Call::Receive(CLOSE))),
+    (L, Step::Does(Call::Receive(CLOSE))),
+    (L, Step::Shows(Output::Closed)),
+    (L, Step::Shows(Output::Timeout(u64::MAX))),
+    (L, Step::IsClosed(false)),
+    (L, Step::Sends(b"\x17hi")),
+    (L, Step::Sends(CLOSE)),
+    (L, Step::IsClosed(true)),
+];
 
-fn makes_good<D: DtlsInstance>(right: &mut Dtls<D>, buf: &mut [u8]) -> Result<bool, DtlsError> {
-    let answered = answers_twice(right, buf)?;
-    let got = takes_data(right, buf)?;
-    Ok(answered & got)
-}
+// The right side sends its certificate again one second later. The left side sends its finish again where the certificate comes again,
+// and tells of nothing.
+static AGAIN: [(bool, Step); 20] = [
+    (R, Step::Does(Call::SetActive(false))),
+    (R, Step::Does(Call::Receive(HELLO))),
+    (R, Step::Shows(Output::Cert(b"abc"))),
+    (R, Step::Shows(Output::Timeout(SECOND))),
+    (R, Step::Sends(ANSWER)),
+    (R, Step::Does(Call::Pass(SECOND))),
+    (R, Step::Shows(Output::Timeout(2_000_000_000))),
+    (R, Step::Sends(ANSWER)),
+    (R, Step::IsEmpty),
+    (L, Step::Does(Call::SetActive(true))),
+    (L, Step::Does(Call::Receive(ANSWER))),
+    (L, Step::Shows(Output::Cert(b"def"))),
+    (L, Step::Shows(Output::Keys)),
+    (L, Step::Shows(Output::Connected)),
+    (L, Step::Shows(Output::Timeout(u64::MAX))),
+    (L, Step::Sends(FINISH)),
+    (L, Step::Does(Call::Receive(ANSWER))),
+    (L, Step::Shows(Output::Timeout(u64::MAX))),
+    (L, Step::Sends(FINISH)),
+    (L, Step::IsEmpty),
+];
 
-fn is_blocked<D: DtlsInstance>(end: &mut Dtls<D>) -> bool {
-    match end.handle_input(b"hi") {
-        Err(DtlsError::WouldBlock) => true,
-        _ => false,
-    }
-}
+// A side that waits ignores packets with other marks, one without its second mark, and a close with a byte behind it; packets of the
+// other side, and a finish and data before the handshake began. An active one ignores a hello, and data before the certificate.
+static IGNORED: [(bool, Step); 35] = [
+    (L, Step::Does(Call::SetActive(true))),
+    (L, Step::Does(Call::Receive(b"\x16\x01def"))),
+    (L, Step::Shows(Output::Timeout(SECOND))),
+    (L, Step::IsEmpty),
+    (L, Step::Does(Call::Receive(b"\x17early"))),
+    (L, Step::Shows(Output::Timeout(SECOND))),
+    (L, Step::IsEmpty),
+    (R, Step::Does(Call::SetActive(false))),
+    (R, Step::Does(Call::Receive(b"\x16\x04"))),
+    (R, Step::Shows(Output::Timeout(u64::MAX))),
+    (R, Step::IsEmpty),
+    (R, Step::Does(Call::Receive(b"\x15\x02"))),
+    (R, Step::Shows(Output::Timeout(u64::MAX))),
+    (R, Step::IsEmpty),
+    (R, Step::Does(Call::Receive(b"\x18abc"))),
+    (R, Step::Shows(Output::Timeout(u64::MAX))),
+    (R, Step::IsEmpty),
+    (R, Step::Does(Call::Receive(b"\x16"))),
+    (R, Step::Shows(Output::Timeout(u64::MAX))),
+    (R, Step::IsEmpty),
+    (R, Step::Does(Call::Receive(b"\x15\x01\0"))),
+    (R, Step::Shows(Output::Timeout(u64::MAX))),
+    (R, Step::IsEmpty),
+    (R, Step::Does(Call::Receive(b""))),
+    (R, Step::Shows(Output::Timeout(u64::MAX))),
+    (R, Step::IsEmpty),
+    (R, Step::Does(Call::Receive(b"\x16\x02abc"))),
+    (R, Step::Shows(Output::Timeout(u64::MAX))),
+    (R, Step::IsEmpty),
+    (R, Step::Does(Call::Receive(b"\x16\x03"))),
+    (R, Step::Shows(Output::Timeout(u64::MAX))),
+    (R, Step::IsEmpty),
+    (R, Step::Does(Call::Receive(b"\x17early"))),
+    (R, Step::Shows(Output::Timeout(u64::MAX))),
+    (R, Step::IsEmpty),
+];
 
-// Data waits until the handshake is finished, and the first role stays.
-fn blocks<D: DtlsInstance>(left: &mut Dtls<D>, buf: &mut [u8]) -> bool {
-    let before = is_blocked(left);
-    let resting = waits(left, buf, u64::MAX);
-    left.set_active(true);
-    left.set_active(false);
-    let active = left.is_active() == Some(true);
-    let still = is_blocked(left);
-    before & resting & active & still
-}
+// Packets with at most 1900 bytes behind their marks are taken, and longer ones ignored.
+static LONGEST: [(bool, Step); 15] = [
+    (R, Step::Does(Call::SetActive(false))),
+    (R, Step::Does(Call::ReceiveZeros(b"\x16\x01", 1901))),
+    (R, Step::Shows(Output::Timeout(u64::MAX))),
+    (R, Step::IsEmpty),
+    (R, Step::Does(Call::ReceiveZeros(b"\x16\x01", 1900))),
+    (R, Step::Shows(Output::CertOfZeros(1900))),
+    (R, Step::Shows(Output::Timeout(SECOND))),
+    (R, Step::Sends(ANSWER)),
+    (R, Step::Does(Call::ReceiveZeros(b"\x17", 1901))),
+    (R, Step::Shows(Output::Timeout(SECOND))),
+    (R, Step::IsEmpty),
+    (R, Step::Does(Call::ReceiveZeros(b"\x17", 1900))),
+    (R, Step::Shows(Output::Keys)),
+    (R, Step::Shows(Output::Connected)),
+    (R, Step::Shows(Output::Zeros(1900))),
+];
 
-// A side with a finished handshake sends data and a close, and is given the other side's close twice.
-fn sends_and_closes<D: DtlsInstance>(left: &mut Dtls<D>) -> Result<(), DtlsError> {
-    left.handle_input(b"hi")?;
-    left.close()?;
-    left.handle_receive(close())?;
-    left.handle_receive(close())
-}
-
-fn ends<D: DtlsInstance>(left: &mut Dtls<D>, buf: &mut [u8]) -> Result<bool, DtlsError> {
-    left.set_active(true);
-    let finished = finishes(left, buf)?;
-    sends_and_closes(left)?;
-    let told = shown(left, buf, &[], 0) == Seen::Closed;
-    let resting = waits(left, buf, u64::MAX);
-    Ok(finished & told & resting)
-}
-
-// It is closed once its packets are given out.
-fn gives_out<D: DtlsInstance>(left: &mut Dtls<D>) -> bool {
-    let open = !left.is_closed();
-    let sent = sends(left, b"\x17hi");
-    let closing = sends(left, close());
-    let closed = left.is_closed();
-    open & sent & closing & closed
-}
-
-fn closes<D: DtlsInstance>(left: &mut Dtls<D>, buf: &mut [u8]) -> Result<bool, DtlsError> {
-    let ended = ends(left, buf)?;
-    let given = gives_out(left);
-    Ok(ended & given)
-}
-
-// The passive side sends its certificate again one second later.
-fn repeats_answer<D: DtlsInstance>(right: &mut Dtls<D>, buf: &mut [u8]) -> Result<bool, DtlsError> {
-    let answered = answers(right, buf)?;
-    wait_until(right, 1)?;
-    let waiting = waits(right, buf, 2_000_000_000);
-    let again = sends(right, answer());
-    let rest = is_empty(right);
-    Ok(answered & waiting & again & rest)
-}
-
-// The active side sends its finish again where the certificate comes again, and tells of nothing.
-fn repeats_finish<D: DtlsInstance>(left: &mut Dtls<D>, buf: &mut [u8]) -> Result<bool, DtlsError> {
-    left.set_active(true);
-    let finished = finishes(left, buf)?;
-    left.handle_receive(answer())?;
-    let resting = waits(left, buf, u64::MAX);
-    let again = sends(left, finish());
-    let rest = is_empty(left);
-    Ok(finished & resting & again & rest)
-}
-
-// Whether the certificate of the passive side and the finish are made good where they are lost.
-fn flights<D: DtlsInstance>(
-    left: &mut Dtls<D>,
-    right: &mut Dtls<D>,
-    buf: &mut [u8],
-) -> Result<bool, DtlsError> {
-    let answered = repeats_answer(right, buf)?;
-    let finished = repeats_finish(left, buf)?;
-    Ok(answered & finished)
-}
-
-fn agrees<D: DtlsInstance>(
-    left: &mut Dtls<D>,
-    right: &mut Dtls<D>,
-    buf: &mut [u8],
-    example: &str,
-) -> Result<bool, DtlsError> {
-    match example {
-        "certificate and finish are sent again" => flights(left, right, buf),
-        "close is told once" => closes(left, buf),
-        "data waits for the handshake" => Ok(blocks(left, buf)),
-        "handshake ends on both sides" => shake_hands(left, right, buf),
-        "hello is sent again" => repeats_hello(left, buf),
-        "lost packets are made good" => makes_good(right, buf),
-        "other packets are ignored" => limits::ignored(left, right, buf),
-        "timers end with moments" => limits::waits_to_the_end(left, buf),
-        _ => Ok(false),
-    }
-}
-
-// Whether an example of two connections gives what is expected, where there was memory for them.
-fn agrees_where_made<D: DtlsInstance + Drop>(
-    alloc: Global,
-    left: Result<Dtls<D>, AllocError>,
-    right: Result<Dtls<D>, AllocError>,
-    example: &str,
-) -> Result<bool, AllocError> {
-    let mut left = left?;
-    let mut right = right?;
-    let mut buf = buffer(alloc)?;
-    if example == "longest packets are taken" {
-        limits::longest(alloc, &mut right, &mut buf)
-    } else {
-        Ok(is_true(agrees(&mut left, &mut right, &mut buf, example)))
-    }
-}
+// A hello is sent again one second after the greatest moment, as long as that is before the last of all moments.
+static LAST_MOMENTS: [(bool, Step); 7] = [
+    (L, Step::Does(Call::SetActive(true))),
+    (L, Step::Does(Call::Pass(u64::MAX - 1_000_000_001))),
+    (L, Step::Shows(Output::Timeout(u64::MAX - 1))),
+    (L, Step::Sends(HELLO)),
+    (L, Step::Does(Call::Pass(u64::MAX - 1_000_000_000))),
+    (L, Step::Shows(Output::Timeout(u64::MAX))),
+    (L, Step::IsEmpty),
+];
 
 /// Whether an example of DTLS connections gives what is expected.
 pub fn does_agree(alloc: Global, example: &str) -> bool {
-    let left = connect(alloc, b"abc");
-    let right = connect(alloc, b"def");
-    is_true(agrees_where_made(alloc, left, right, example))
+    match example {
+        "certificate and finish are sent again" => is_played(alloc, &AGAIN),
+        "close is told once" => is_played(alloc, &CLOSED),
+        "data waits for the handshake" => is_played(alloc, &BLOCKED),
+        "handshake ends on both sides" => is_played(alloc, &HANDSHAKE),
+        "hello is sent again" => is_played(alloc, &HELLO_AGAIN),
+        "longest packets are taken" => is_played(alloc, &LONGEST),
+        "lost packets are made good" => is_played(alloc, &MADE_GOOD),
+        "other packets are ignored" => is_played(alloc, &IGNORED),
+        "timers end with moments" => is_played(alloc, &LAST_MOMENTS),
+        _ => false,
+    }
 }

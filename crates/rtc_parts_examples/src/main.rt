@@ -4,12 +4,9 @@
 #![tactic(auto)]
 
 mod agents;
-mod candidates;
 mod connections;
 mod dtls;
 mod ice;
-mod limits;
-mod repeats;
 
 use rtc_cases::{Examples, run};
 use std::io;
