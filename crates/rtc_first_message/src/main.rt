@@ -7,9 +7,7 @@ mod session;
 
 use round::{agree_on_line, describe};
 use rtc_assoc::PlainAssociation;
-use rtc_peer::{
-    Association, Candidate, DtlsInstance, IceAgent, Ids, MediaSession, Rtc, RtcConfig, RtcError,
-};
+use rtc_peer::{Association, Candidate, DtlsInstance, IceAgent, Ids, MediaSession, Rtc, RtcError};
 use rtc_plain::{CountIds, PlainDtls, PlainIce, PlainMedia, PlainMediaEvent};
 use rtc_wire::{Addr, Moment, Protocol};
 use session::{Session, meet};
@@ -20,7 +18,7 @@ use std::io;
 type Peer<N> = Rtc<PlainIce, PlainDtls, PlainAssociation, PlainMedia, N>;
 
 fn build<N: Ids + Drop>(alloc: Global, ids: N) -> Result<Peer<N>, AllocError> {
-    let config = RtcConfig::new(alloc)?;
+    let config = Rtc::<PlainIce, PlainDtls, PlainAssociation, PlainMedia, N>::builder(alloc)?;
     Rtc::build(
         alloc,
         config,
@@ -33,64 +31,12 @@ fn build<N: Ids + Drop>(alloc: Global, ids: N) -> Result<Peer<N>, AllocError> {
     )
 }
 
-fn add_address<
-    I: IceAgent,
-    D: DtlsInstance,
-    S: Association,
-    M: MediaSession<E = PlainMediaEvent>,
-    N: Ids,
->(alloc: Global, peer: &mut Rtc<I, D, S, M, N>, host: u8, port: u16) -> Result<bool, AllocError> {
+fn address(alloc: Global, host: u8, port: u16) -> Result<Candidate, AllocError> {
     let addr = Addr {
         ip: [host, host, host, host],
         port,
     };
-    let candidate = Candidate::host(alloc, addr, Protocol::Udp)?;
-    peer.add_local_candidate(candidate)
-}
-
-// The lines of both peers, once they agreed on one.
-fn show_lines<
-    I: IceAgent,
-    D: DtlsInstance,
-    S: Association,
-    M: MediaSession<E = PlainMediaEvent>,
-    N: Ids,
->(
-    alloc: Global,
-    left: &mut Rtc<I, D, S, M, N>,
-    right: &mut Rtc<I, D, S, M, N>,
-    told: &mut String,
-) -> Result<(), RtcError> {
-    agree_on_line(alloc, left, right)?;
-    describe(told, "left", left.lines())?;
-    describe(told, "right", right.lines())?;
-    Ok(())
-}
-
-// What each peer told is shown by itself.
-fn show(told: &mut String, session: &Session) -> Result<(), AllocError> {
-    told.push_str("left:\n")?;
-    told.push_str(session.left.as_str())?;
-    told.push_str("right:\n")?;
-    told.push_str(session.right.as_str())
-}
-
-fn show_session<
-    I: IceAgent,
-    D: DtlsInstance,
-    S: Association,
-    M: MediaSession<E = PlainMediaEvent>,
-    N: Ids,
->(
-    alloc: Global,
-    left: &mut Rtc<I, D, S, M, N>,
-    right: &mut Rtc<I, D, S, M, N>,
-    told: &mut String,
-) -> Result<(), RtcError> {
-    let mut session = Session::new(alloc);
-    meet(alloc, left, right, &mut session)?;
-    show(told, &session)?;
-    Ok(())
+    Candidate::host(alloc, addr, Protocol::Udp)
 }
 
 fn perform<
@@ -103,12 +49,15 @@ fn perform<
     alloc: Global,
     left: &mut Rtc<I, D, S, M, N>,
     right: &mut Rtc<I, D, S, M, N>,
-    told: &mut String,
+    session: &mut Session,
 ) -> Result<(), RtcError> {
-    add_address(alloc, left, 1, 1000)?;
-    add_address(alloc, right, 2, 2000)?;
-    show_lines(alloc, left, right, told)?;
-    show_session(alloc, left, right, told)
+    left.add_local_candidate(address(alloc, 1, 1000)?)?;
+    right.add_local_candidate(address(alloc, 2, 2000)?)?;
+    agree_on_line(alloc, left, right)?;
+    describe(&mut session.lines, "left", left.lines())?;
+    describe(&mut session.lines, "right", right.lines())?;
+    let label = String::from_str(alloc, "chat")?;
+    meet(alloc, left, right, label, session)
 }
 
 fn run<
@@ -121,20 +70,28 @@ fn run<
     alloc: Global,
     left: Result<Rtc<I, D, S, M, N>, AllocError>,
     right: Result<Rtc<I, D, S, M, N>, AllocError>,
-    told: &mut String,
+    session: &mut Session,
 ) -> Result<(), RtcError> {
     let mut left = left?;
     let mut right = right?;
-    perform(alloc, &mut left, &mut right, told)
+    perform(alloc, &mut left, &mut right, session)
+}
+
+// The lines of both peers, and what each told by itself.
+fn show<R: Print>(rt: &R, session: &Session) -> io::Result<()> {
+    let lines = session.lines.as_str();
+    let left = session.left.as_str();
+    let right = session.right.as_str();
+    print!(rt; "{lines}left:\n{left}right:\n{right}")
 }
 
 fn main(rt: HostRuntime) -> io::Result<()> {
     let alloc = rt.alloc();
-    let mut told = String::new(alloc);
+    let mut session = Session::new(alloc);
     let left = build(alloc, CountIds::starting(1));
     let right = build(alloc, CountIds::starting(1_000_001));
-    match run(alloc, left, right, &mut told) {
-        Ok(()) => print!(rt; "{told}"),
+    match run(alloc, left, right, &mut session) {
+        Ok(()) => show(&rt, &session),
         Err(error) => println!(rt; "{error}"),
     }
 }

@@ -1,12 +1,16 @@
 //! Examples that are run over peers with parts in memory.
 use crate::{PairExamples, Peer, build};
-use rtc_endpoints::{Direct, Endpoint};
+use rtc_endpoints::{Direct, Polled, Signals, Takes};
 use rtc_plain::CountIds;
 use std::alloc::AllocError;
 use std::rt::Files;
 
 // Whether an example gives what is expected, where there was memory for both peers.
-fn agrees_made<E: PairExamples, R: Files + AllocGlobal, P: Endpoint + Direct + Drop>(
+fn agrees_made<
+    E: PairExamples,
+    R: Files + AllocGlobal,
+    P: Signals + Polled + Direct + Takes + Drop,
+>(
     rt: &R,
     left: Result<P, AllocError>,
     right: Result<P, AllocError>,
