@@ -1,6 +1,6 @@
 //! What a peer answers to offers that come as text.
-use crate::case::Case;
 use crate::describing::describe;
+use crate::turn::Turn;
 use rtc_cases::is_text;
 use rtc_endpoints::{Reply, Signals};
 use rtc_peer::{RtcError, SdpAnswer};
@@ -24,12 +24,12 @@ fn is_told(alloc: Global, reply: Reply, expected: &str) -> bool {
 }
 
 /// Whether a peer that is given these offers in turn answers each as is expected.
-pub fn answers<P: Signals>(alloc: Global, peer: &mut P, cases: &[Case]) -> bool {
-    for case in cases {
-        let reply = peer.answer(alloc, case.offer.as_str());
-        if !is_told(alloc, reply, case.told.as_str()) {
+pub fn answers<P: Signals>(alloc: Global, peer: &mut P, turns: &[Turn]) -> bool {
+    for turn in turns {
+        let reply = peer.answer(alloc, turn.offer.as_str());
+        if !is_told(alloc, reply, turn.told.as_str()) {
             return false;
         }
     }
-    !cases.is_empty()
+    !turns.is_empty()
 }

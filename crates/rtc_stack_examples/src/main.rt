@@ -8,7 +8,6 @@
 #![tactic(auto)]
 
 mod answers;
-mod case;
 mod codecs;
 mod configs;
 mod describing;
@@ -18,11 +17,11 @@ mod offers;
 mod read_copies;
 mod reading;
 mod transfer;
+mod turn;
 mod work;
 
-use case::Case;
 use configs::config_for;
-use reading::read_cases;
+use reading::read_turns;
 use rtc_cases::{Examples, is_true, run};
 use rtc_endpoints::{Direct, Polled, Signals, Takes};
 use rtc_peer::RtcConfig;
@@ -31,6 +30,7 @@ use std::alloc::{AllocError, Global};
 use std::io;
 use std::process::ExitCode;
 use std::rt::Files;
+use turn::Turn;
 
 fn ask<P: Signals + Polled>(
     alloc: Global,
@@ -38,15 +38,15 @@ fn ask<P: Signals + Polled>(
     right: &mut P,
     subject: &str,
     name: &str,
-    cases: &[Case],
+    turns: &[Turn],
 ) -> bool {
     match (subject, name) {
-        ("copy", _) => read_copies::are_copied(alloc, cases),
+        ("copy", _) => read_copies::are_copied(alloc, turns),
         ("file", _) => is_true(files::does_come_over(alloc, left, right, name)),
         ("layers", _) => offers::tells_layers(alloc, left, name),
         ("starts", "are told by an offer") => offers::tells_start(alloc, left, right),
         ("work", _) => is_true(work::does_come(alloc, left, right, name)),
-        _ => answers::answers(alloc, left, cases),
+        _ => answers::answers(alloc, left, turns),
     }
 }
 
@@ -72,8 +72,8 @@ impl PairExamples for Stacks {
         subject: &str,
         name: &str,
     ) -> bool {
-        match read_cases(rt, subject, name) {
-            Ok(cases) => ask(rt.alloc(), left, right, subject, name, cases.as_slice()),
+        match read_turns(rt, subject, name) {
+            Ok(turns) => ask(rt.alloc(), left, right, subject, name, turns.as_slice()),
             Err(_) => false,
         }
     }

@@ -1,5 +1,5 @@
 //! Copies of offers that were read.
-use crate::case::Case;
+use crate::turn::Turn;
 use rtc_cases::{is_copied, is_true};
 use rtc_peer::{SdpError, SdpOffer};
 use rtc_wire::release;
@@ -12,11 +12,11 @@ fn is_read_copied(alloc: Global, offer: &str) -> Result<bool, SdpError> {
 }
 
 /// Whether offers that come as text are copied.
-pub fn are_copied(alloc: Global, cases: &[Case]) -> bool {
-    for case in cases {
-        if !is_true(is_read_copied(alloc, case.offer.as_str())) {
+pub fn are_copied(alloc: Global, turns: &[Turn]) -> bool {
+    for turn in turns {
+        if !is_true(is_read_copied(alloc, turn.offer.as_str())) {
             return false;
         }
     }
-    !cases.is_empty()
+    !turns.is_empty()
 }

@@ -1,5 +1,5 @@
 //! The files that examples read.
-use crate::case::Case;
+use crate::turn::Turn;
 use std::rt::Files;
 use std::{fs, io};
 
@@ -8,15 +8,15 @@ fn read<R: Files + AllocGlobal>(rt: &R, path: &str, ending: &str) -> io::Result<
     fs::read_to_string(rt, path.as_str())
 }
 
-fn read_case<R: Files + AllocGlobal>(
+fn read_turn<R: Files + AllocGlobal>(
     rt: &R,
-    cases: &mut Vec<Case>,
+    turns: &mut Vec<Turn>,
     path: &str,
     endings: (&str, &str),
 ) -> io::Result<()> {
     let offer = read(rt, path, endings.0)?;
     let told = read(rt, path, endings.1)?;
-    cases.push(Case { offer, told })?;
+    turns.push(Turn { offer, told })?;
     Ok(())
 }
 
@@ -31,27 +31,27 @@ fn other_offer(example: &str) -> &'static str {
 
 fn read_starts<R: Files + AllocGlobal>(
     rt: &R,
-    cases: &mut Vec<Case>,
+    turns: &mut Vec<Turn>,
     example: &str,
 ) -> io::Result<()> {
-    read_case(rt, cases, "starts/first_chunk", ("text", "told"))?;
-    read_case(rt, cases, other_offer(example), ("text", "told"))?;
-    read_case(rt, cases, "starts/first_chunk", ("text", "told"))
+    read_turn(rt, turns, "starts/first_chunk", ("text", "told"))?;
+    read_turn(rt, turns, other_offer(example), ("text", "told"))?;
+    read_turn(rt, turns, "starts/first_chunk", ("text", "told"))
 }
 
 /// The offers that the peer of an example is given in turn.
-pub fn read_cases<R: Files + AllocGlobal>(
+pub fn read_turns<R: Files + AllocGlobal>(
     rt: &R,
     subject: &str,
     name: &str,
-) -> io::Result<Vec<Case>> {
-    let mut cases = Vec::new(rt.alloc());
+) -> io::Result<Vec<Turn>> {
+    let mut turns = Vec::new(rt.alloc());
     match subject {
-        "answer" => read_case(rt, &mut cases, name, ("offer", "answer"))?,
-        "copy" => read_case(rt, &mut cases, name, ("offer", "answer"))?,
-        "codecs" => read_case(rt, &mut cases, "h264_vp8_vp9", ("text", "told"))?,
-        "starts" => read_starts(rt, &mut cases, name)?,
+        "answer" => read_turn(rt, &mut turns, name, ("offer", "answer"))?,
+        "copy" => read_turn(rt, &mut turns, name, ("offer", "answer"))?,
+        "codecs" => read_turn(rt, &mut turns, "h264_vp8_vp9", ("text", "told"))?,
+        "starts" => read_starts(rt, &mut turns, name)?,
         _ => {}
     }
-    Ok(cases)
+    Ok(turns)
 }

@@ -55,7 +55,7 @@ fn message(alloc: Global, bytes: u32) -> Result<Vec<u8>, AllocError> {
 }
 
 // All happens at moment 0.
-fn open<P: Polled>(left: &mut P, right: &mut P, wire: &mut Wire) {
+fn begin<P: Polled>(left: &mut P, right: &mut P, wire: &mut Wire) {
     for _ in 0..WAKES {
         pass(left, right, wire, Span::from_nanos(0));
     }
@@ -100,7 +100,7 @@ pub fn does_come<P: Signals + Polled>(
     let mut texts = Texts::new(alloc);
     let met = meet(alloc, left, right, work.channels, &mut texts);
     let mut wire = Wire::new(alloc, Way::plain());
-    open(left, right, &mut wire);
+    begin(left, right, &mut wire);
     send(left, right, &mut wire, work, message.as_slice());
     let done = is_done(&wire, work);
     release(wire, Ok(met & done))
