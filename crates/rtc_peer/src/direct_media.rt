@@ -30,8 +30,7 @@ impl<'a, I: IceAgent, D: DtlsInstance, S: Association, M: MediaSession, N: Ids> 
         ensures same_reference { self.new.rtc.ghost_name ≡ self.old.rtc.ghost_name }
         ensures does { DrawsSource M.media N.ids self.old.rtc.now result self.new.rtc.now }
     {
-        let rtc = &mut *self.rtc;
-        draw_ssrc(&mut rtc.polled)
+        draw_ssrc(self.rtc)
     }
 
     /// Declares a media line behind the others, which sends and receives and was created here. False where a row has the mid.
@@ -39,8 +38,7 @@ impl<'a, I: IceAgent, D: DtlsInstance, S: Association, M: MediaSession, N: Ids> 
         ensures same_reference { self.new.rtc.ghost_name ≡ self.old.rtc.ghost_name }
         ensures does { DeclaresMedia mid kind self.old.rtc.now result self.new.rtc.now }
     {
-        let rtc = &mut *self.rtc;
-        declare_media(&mut rtc.polled, mid, kind)
+        declare_media(self.rtc, mid, kind)
     }
 
     /// Removes a media line with its streams: the last row goes, and another is stopped for good. False where no row of media
@@ -49,8 +47,7 @@ impl<'a, I: IceAgent, D: DtlsInstance, S: Association, M: MediaSession, N: Ids> 
         ensures same_reference { self.new.rtc.ghost_name ≡ self.old.rtc.ghost_name }
         ensures does { RemovesMedia M.media mid self.old.rtc.now result self.new.rtc.now }
     {
-        let rtc = &mut *self.rtc;
-        remove_media(&mut rtc.polled, mid)
+        remove_media(self.rtc, mid)
     }
 
     /// Switches redundancy of what a line sends on or off (RFC 2198). False where the line has none.
@@ -58,8 +55,7 @@ impl<'a, I: IceAgent, D: DtlsInstance, S: Association, M: MediaSession, N: Ids> 
         ensures same_reference { self.new.rtc.ghost_name ≡ self.old.rtc.ghost_name }
         ensures does { SetsRed M.media mid on self.old.rtc.now result self.new.rtc.now }
     {
-        let rtc = &mut *self.rtc;
-        set_red_send(&mut rtc.polled, mid, on)
+        set_red_send(self.rtc, mid, on)
     }
 
     /// Switches on feedback on the congestion of the whole transport.
@@ -67,8 +63,7 @@ impl<'a, I: IceAgent, D: DtlsInstance, S: Association, M: MediaSession, N: Ids> 
         ensures same_reference { self.new.rtc.ghost_name ≡ self.old.rtc.ghost_name }
         ensures does { EnablesTwcc M.media self.old.rtc.now self.new.rtc.now }
     {
-        let rtc = &mut *self.rtc;
-        enable_twcc_feedback(&mut rtc.polled);
+        enable_twcc_feedback(self.rtc);
     }
 
     /// Sends feedback that the application defines (RFC 4585, section 6.4).
@@ -81,8 +76,7 @@ impl<'a, I: IceAgent, D: DtlsInstance, S: Association, M: MediaSession, N: Ids> 
         ensures same_reference { self.new.rtc.ghost_name ≡ self.old.rtc.ghost_name }
         ensures does { SendsAppFeedback M.media sender media_source payload.now self.old.rtc.now result self.new.rtc.now }
     {
-        let rtc = &mut *self.rtc;
-        send_app_specific_feedback(&mut rtc.polled, sender, media_source, payload)
+        send_app_specific_feedback(self.rtc, sender, media_source, payload)
     }
 
     /// Asks for a new picture (RFC 4585, section 6.3.1).
@@ -90,8 +84,7 @@ impl<'a, I: IceAgent, D: DtlsInstance, S: Association, M: MediaSession, N: Ids> 
         ensures same_reference { self.new.rtc.ghost_name ≡ self.old.rtc.ghost_name }
         ensures does { SendsPli M.media sender media_source self.old.rtc.now result self.new.rtc.now }
     {
-        let rtc = &mut *self.rtc;
-        send_pli_feedback(&mut rtc.polled, sender, media_source)
+        send_pli_feedback(self.rtc, sender, media_source)
     }
 
     /// Drops the stream of a source that is received. False where there is none.
@@ -99,8 +92,7 @@ impl<'a, I: IceAgent, D: DtlsInstance, S: Association, M: MediaSession, N: Ids> 
         ensures same_reference { self.new.rtc.ghost_name ≡ self.old.rtc.ghost_name }
         ensures does { RemovesRx M.media ssrc self.old.rtc.now result self.new.rtc.now }
     {
-        let rtc = &mut *self.rtc;
-        remove_stream_rx(&mut rtc.polled, ssrc)
+        remove_stream_rx(self.rtc, ssrc)
     }
 
     /// Drops the stream of a source that is sent. False where there is none.
@@ -108,7 +100,6 @@ impl<'a, I: IceAgent, D: DtlsInstance, S: Association, M: MediaSession, N: Ids> 
         ensures same_reference { self.new.rtc.ghost_name ≡ self.old.rtc.ghost_name }
         ensures does { RemovesTx M.media ssrc self.old.rtc.now result self.new.rtc.now }
     {
-        let rtc = &mut *self.rtc;
-        remove_stream_tx(&mut rtc.polled, ssrc)
+        remove_stream_tx(self.rtc, ssrc)
     }
 }

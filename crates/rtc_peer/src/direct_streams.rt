@@ -44,8 +44,7 @@ impl<'a, I: IceAgent, D: DtlsInstance, S: Association, M: MediaSession, N: Ids> 
             (λ n. (n.rtc.ghost_name ≡ self.old.rtc.ghost_name) × (n.rtc.now ≡ self.old.rtc.now))) }
         ensures answer { StreamAnswers (gives_no_rx M.media ssrc rtx mid rid self.old.rtc.now) result }
     {
-        let rtc = &mut *self.rtc;
-        make_stream_rx(&mut rtc.polled, ssrc, rtx, mid, rid)
+        make_stream_rx(self.rtc, ssrc, rtx, mid, rid)
     }
 
     /// Makes the stream of a source to be sent, or replaces it, and lends it. The error says why there is none.
@@ -64,8 +63,7 @@ impl<'a, I: IceAgent, D: DtlsInstance, S: Association, M: MediaSession, N: Ids> 
             (λ n. (n.rtc.ghost_name ≡ self.old.rtc.ghost_name) × (n.rtc.now ≡ self.old.rtc.now))) }
         ensures answer { StreamAnswers (gives_no_tx M.media ssrc rtx mid rid self.old.rtc.now) result }
     {
-        let rtc = &mut *self.rtc;
-        make_stream_tx(&mut rtc.polled, ssrc, rtx, mid, rid)
+        make_stream_tx(self.rtc, ssrc, rtx, mid, rid)
     }
 
     /// `make_stream_rx` with None where no row of media has the mid, and where the media part has no such stream.
@@ -106,8 +104,7 @@ impl<'a, I: IceAgent, D: DtlsInstance, S: Association, M: MediaSession, N: Ids> 
             (λ n. (n.rtc.ghost_name ≡ self.old.rtc.ghost_name) × (n.rtc.now ≡ self.old.rtc.now))) }
         ensures found { is_some result ≡ M.media.has_rx self.old.rtc.now.core.media ssrc }
     {
-        let rtc = &mut *self.rtc;
-        lend_stream_rx(&mut rtc.polled, ssrc)
+        lend_stream_rx(self.rtc, ssrc)
     }
 
     /// The stream of a source that is sent.
@@ -120,8 +117,7 @@ impl<'a, I: IceAgent, D: DtlsInstance, S: Association, M: MediaSession, N: Ids> 
             (λ n. (n.rtc.ghost_name ≡ self.old.rtc.ghost_name) × (n.rtc.now ≡ self.old.rtc.now))) }
         ensures found { is_some result ≡ M.media.has_tx self.old.rtc.now.core.media ssrc }
     {
-        let rtc = &mut *self.rtc;
-        lend_stream_tx(&mut rtc.polled, ssrc)
+        lend_stream_tx(self.rtc, ssrc)
     }
 
     /// The stream of a line and a layer that is received.
@@ -134,8 +130,7 @@ impl<'a, I: IceAgent, D: DtlsInstance, S: Association, M: MediaSession, N: Ids> 
             (λ n. (n.rtc.ghost_name ≡ self.old.rtc.ghost_name) × (n.rtc.now ≡ self.old.rtc.now))) }
         ensures found { is_some result ≡ M.media.has_rx_named self.old.rtc.now.core.media mid rid }
     {
-        let rtc = &mut *self.rtc;
-        lend_stream_rx_by_mid(&mut rtc.polled, mid, rid)
+        lend_stream_rx_by_mid(self.rtc, mid, rid)
     }
 
     /// The stream of a line and a layer that is sent.
@@ -148,8 +143,7 @@ impl<'a, I: IceAgent, D: DtlsInstance, S: Association, M: MediaSession, N: Ids> 
             (λ n. (n.rtc.ghost_name ≡ self.old.rtc.ghost_name) × (n.rtc.now ≡ self.old.rtc.now))) }
         ensures found { is_some result ≡ M.media.has_tx_named self.old.rtc.now.core.media mid rid }
     {
-        let rtc = &mut *self.rtc;
-        lend_stream_tx_by_mid(&mut rtc.polled, mid, rid)
+        lend_stream_tx_by_mid(self.rtc, mid, rid)
     }
 
     /// Gives the stream of a line and a layer that is sent a new source. None where there is no such stream, or where it has this
@@ -169,7 +163,6 @@ impl<'a, I: IceAgent, D: DtlsInstance, S: Association, M: MediaSession, N: Ids> 
             (λ n. (n.rtc.ghost_name ≡ self.old.rtc.ghost_name) × (n.rtc.now ≡ self.old.rtc.now))) }
         ensures found { is_some result ≡ M.media.resets_tx self.old.rtc.now.core.media mid rid new_ssrc new_rtx }
     {
-        let rtc = &mut *self.rtc;
-        reset_stream_tx(&mut rtc.polled, mid, rid, new_ssrc, new_rtx)
+        reset_stream_tx(self.rtc, mid, rid, new_ssrc, new_rtx)
     }
 }

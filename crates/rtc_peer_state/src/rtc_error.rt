@@ -18,7 +18,7 @@ use std::error::Error;
 use std::fmt;
 
 /// Why a call of a peer is refused.
-#[derive(Debug, PartialEq, Eq, Drop)]
+#[derive(Debug, PartialEq, Eq)]
 pub enum RtcError {
     /// The offer or answer of the other side cannot be accepted, or its certificate is not the announced one.
     RemoteSdp(Why),
@@ -38,6 +38,23 @@ pub enum RtcError {
     BadChannel,
     /// There was too little memory, or a table would have 2^32 - 1 lines or more.
     Alloc,
+}
+
+// Written out, so that the proof of what owns a refusal sees one call and not the drop of each variant.
+impl Drop for RtcError {
+    fn drop(self) {
+        match self {
+            RtcError::RemoteSdp(_why) => {}
+            RtcError::Sdp(_sdp_error) => {}
+            RtcError::Net(_net_error) => {}
+            RtcError::Dtls(_dtls_error) => {}
+            RtcError::Sctp(_sctp_error) => {}
+            RtcError::Media(_media_error) => {}
+            RtcError::ChangesOutOfOrder => {}
+            RtcError::BadChannel => {}
+            RtcError::Alloc => {}
+        }
+    }
 }
 
 // What a refusal of a datagram prints.

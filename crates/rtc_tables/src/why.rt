@@ -9,7 +9,7 @@ use std::error::Error;
 use std::fmt;
 
 /// Why what the other side described or showed is refused: an offer, an answer or a certificate.
-#[derive(Debug, PartialEq, Eq, Drop)]
+#[derive(Debug, PartialEq, Eq)]
 pub enum Why {
     /// An offer without m-lines.
     NoLines,
@@ -49,6 +49,37 @@ pub enum Why {
     UnknownHash(Text),
     /// A certificate came, and no fingerprint was announced. The peer is then closed.
     NoneAnnounced,
+}
+
+// Written out, so that the proof of what owns a cause sees one call and not the drop of each variant.
+impl Drop for Why {
+    fn drop(self) {
+        match self {
+            Why::NoLines => {}
+            Why::BothLite => {}
+            Why::NoCredentials => {}
+            Why::UnaskedRestart {
+                kept: _kept,
+                got: _got,
+            } => {}
+            Why::NoFingerprint => {}
+            Why::SctpInitChanged {
+                kept: _kept,
+                got: _got,
+            } => {}
+            Why::SctpInitMissing { kept: _kept } => {}
+            Why::MovedLine(_mid) => {}
+            Why::PlaceTaken(_mid) => {}
+            Why::AnswerRecycles(_mid) => {}
+            Why::WrongNewLines(_new_line) => {}
+            Why::NoMatch {
+                expected: _expected,
+                got: _got,
+            } => {}
+            Why::UnknownHash(_text) => {}
+            Why::NoneAnnounced => {}
+        }
+    }
 }
 
 impl fmt::Display for Why {
