@@ -14,22 +14,7 @@ use session::{Session, meet};
 use std::alloc::{AllocError, Global};
 use std::io;
 
-// A peer over parts in memory.
-type Peer<N> = Rtc<PlainIce, PlainDtls, PlainAssociation, PlainMedia, N>;
-
-fn build<N: Ids + Drop>(alloc: Global, ids: N) -> Result<Peer<N>, AllocError> {
-    let config = Rtc::<PlainIce, PlainDtls, PlainAssociation, PlainMedia, N>::builder(alloc)?;
-    Rtc::build(
-        alloc,
-        config,
-        Moment::FAR_PAST,
-        PlainIce::new(alloc),
-        PlainDtls::new(alloc),
-        PlainAssociation::new(alloc),
-        PlainMedia::new(alloc),
-        ids,
-    )
-}
+type Peer = Rtc<PlainIce, PlainDtls, PlainAssociation, PlainMedia, CountIds>;
 
 fn address(alloc: Global, host: u8, port: u16) -> Result<Candidate, AllocError> {
     let addr = Addr {
@@ -77,6 +62,33 @@ fn run<
     perform(alloc, &mut left, &mut right, session)
 }
 
+// The two peers are over parts in memory, which no other function names.
+fn begin(alloc: Global, session: &mut Session) -> Result<(), RtcError> {
+    let config = Peer::builder(alloc)?;
+    let other = Peer::builder(alloc)?;
+    let left = Rtc::build(
+        alloc,
+        config,
+        Moment::FAR_PAST,
+        PlainIce::new(alloc),
+        PlainDtls::new(alloc),
+        PlainAssociation::new(alloc),
+        PlainMedia::new(alloc),
+        CountIds::starting(1),
+    );
+    let right = Rtc::build(
+        alloc,
+        other,
+        Moment::FAR_PAST,
+        PlainIce::new(alloc),
+        PlainDtls::new(alloc),
+        PlainAssociation::new(alloc),
+        PlainMedia::new(alloc),
+        CountIds::starting(1_000_001),
+    );
+    run(alloc, left, right, session)
+}
+
 // The lines of both peers, and what each told by itself.
 fn show<R: Print>(rt: &R, session: &Session) -> io::Result<()> {
     let lines = session.lines.as_str();
@@ -88,9 +100,7 @@ fn show<R: Print>(rt: &R, session: &Session) -> io::Result<()> {
 fn main(rt: HostRuntime) -> io::Result<()> {
     let alloc = rt.alloc();
     let mut session = Session::new(alloc);
-    let left = build(alloc, CountIds::starting(1));
-    let right = build(alloc, CountIds::starting(1_000_001));
-    match run(alloc, left, right, &mut session) {
+    match begin(alloc, &mut session) {
         Ok(()) => show(&rt, &session),
         Err(error) => println!(rt; "{error}"),
     }
