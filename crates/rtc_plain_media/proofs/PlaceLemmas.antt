@@ -178,9 +178,15 @@ finds_same old new rows places names numbers held = record {
   numbers = λ n. rw numbers (held.numbers n);
 }
 
-pub filter_most : (keeps : StreamRow → Bool) (rows : Streams) → length (filter keeps rows) ≤ length rows
+filter_most : (keeps : StreamRow → Bool) (rows : Streams) → length (filter keeps rows) ≤ length rows
 filter_most keeps [] = omega arith
 filter_most keeps (x ∷ xs) = grind (arith, common_steps, filter_most keeps xs)
+
+-- rows some of which went are no more than there were
+pub rows_fewer : (keeps : StreamRow → Bool) (before rows : Streams) (count : ℕ) → rows ≡ filter keeps before → count ≡ length before → length rows ≤ count
+rows_fewer keeps before rows count is counted =
+    let left : length rows ≡ length (filter keeps before) = ap (λ (l : Streams). length l) is in
+    omega (arith, left, counted, filter_most keeps before)
 
 -- where as many rows are kept, all are
 pub kept_all : (keeps : StreamRow → Bool) (rows : Streams) → length (filter keeps rows) ≡ length rows → filter keeps rows ≡ rows

@@ -1,23 +1,27 @@
-//! What the calls of the part do to it.
-ghost use Rattle.std.specs.Prelude.{◌≡◌, IfOk, OnOk, OnErr};
+//! What the calls of the part queue and make ready.
+ghost use Rattle.std.specs.Prelude.{◌≡◌, ◌≤◌, ◌<◌, ◌+◌, ◌^◌, ◌++◌, ◌∷◌, [], length, IfOk, OnOk, OnErr};
+ghost use Rattle.std.specs.VecDeque.{deque_len, deque_capacity};
+ghost use Rattle.indexmap.specs.IndexMap.{spare};
+ghost use Rattle.rtc_media.specs.declared.raw_packet.RawPacket.TheVariants.{RtpRx, RtcpRx};
 ghost use Rattle.rtc_plain_media.specs.Feedback.{datagram_of};
-ghost use Rattle.rtc_plain_media.specs.MediaCalls as call;
-ghost use Rattle.rtc_plain_media.specs.PlainMediaMeaning.{TellsNext, GivesNext, MediaLeaves};
+ghost use Rattle.rtc_plain_media.specs.MediaCalls.{if_raw};
+ghost use Rattle.rtc_plain_media.specs.SourceCounts.{updates_numbers};
 
 use crate::PlainMediaEvent;
 use crate::datagram::datagram;
-use crate::event_queue::{make_room, queue_packet};
-use crate::lines::{apply_all, drop_line, drop_removed};
-use crate::plain_media::PlainMedia;
-use crate::source_counts::{self, numbers_in};
+use crate::event_queue::make_room;
+use crate::lines::Lines;
+use crate::source_counts::{self, SourceCounts, numbers_in};
 use rtc_media::{MediaUpdate, RawPacket};
-use rtc_sdp_values::Mid;
 use rtc_wire::{Bytes, DatagramSend, TryCopy};
 use std::alloc::{AllocError, Global};
 use std::collections::VecDeque;
 
 /// A copy of each update, in order.
-fn copy_updates(alloc: Global, updates: &[MediaUpdate]) -> Result<VecDeque<MediaUpdate>, AllocError>
+pub fn copy_updates(
+    alloc: Global,
+    updates: &[MediaUpdate],
+) -> Result<VecDeque<MediaUpdate>, AllocError>
     ensures { IfOk result (λ copies. copies.items ≡ updates.now) }
 {
     let mut copies = VecDeque::new(alloc);
@@ -28,7 +32,39 @@ fn copy_updates(alloc: Global, updates: &[MediaUpdate]) -> Result<VecDeque<Media
     Ok(copies)
 }
 
-/// A copy of a packet, where packets are told.
+/// Makes room for the lines, the ssrcs and the events of some updates, beside so many events for which room is kept. It answers how many
+/// ssrcs the updates so far, which could have so many at most, can have with them.
+pub fn make_ready(
+    lines: &mut Lines,
+    counts: &mut SourceCounts,
+    events: &mut VecDeque<PlainMediaEvent>,
+    kept: usize,
+    most: usize,
+    updates: &[MediaUpdate],
+) -> Result<usize, AllocError>
+    ensures lines { lines.new.entries ≡ lines.old.entries }
+    ensures counts { counts.new.entries ≡ counts.old.entries }
+    ensures events { events.new.items ≡ events.old.items }
+    ensures len { deque_len events.new ≡ deque_len events.old }
+    ensures lines_spare { spare lines.old ≤ spare lines.new }
+    ensures counts_spare { spare counts.old ≤ spare counts.new }
+    ensures capacity { deque_capacity events.old ≤ deque_capacity events.new }
+    ensures lines_room { OnOk result (length updates.now ≤ spare lines.new) }
+    ensures counts_room { OnOk result (updates_numbers updates.now ≤ spare counts.new) }
+    ensures events_room { OnOk result (deque_len events.new + kept + length updates.now ≤ deque_capacity events.new) }
+    ensures most { IfOk result (λ more. more ≡ most + updates_numbers updates.now) }
+    ensures fits { IfOk result (λ more. more < 2 ^ 64) }
+{
+    let count = updates.len();
+    let coming = numbers_in(updates)?;
+    let more = source_counts::add(most, coming)?;
+    counts.reserve(coming)?;
+    lines.reserve(count)?;
+    make_room(events, kept, count)?;
+    Ok(more)
+}
+
+/// A copy of a packet.
 fn copied(alloc: Global, packet: &[u8]) -> Result<Bytes, AllocError>
     ensures { IfOk result (λ copied. copied ≡ packet.now) }
 {
@@ -36,109 +72,47 @@ fn copied(alloc: Global, packet: &[u8]) -> Result<Bytes, AllocError>
     Ok(Bytes::new(bytes))
 }
 
-impl PlainMedia {
-    /// Makes copies of updates ready, and room for what their commit adds.
-    pub(crate) fn make_ready(&mut self, updates: &[MediaUpdate]) -> Result<(), AllocError>
-        ensures { MediaLeaves self.old (record self.old { pending = updates.now }) result self.new }
-    {
-        let count = updates.len();
-        let coming = numbers_in(updates)?;
-        let most = source_counts::add(self.most, coming)?;
-        self.counts.reserve(coming)?;
-        self.lines.reserve(count)?;
-        make_room(&mut self.events, self.pending.len(), count)?;
-        let copies = copy_updates(self.alloc, updates)?;
-        self.pending = copies;
-        self.most = most;
-        Ok(())
+/// A copy of an RTP packet that came, where packets are told.
+pub fn raw_rtp(
+    alloc: Global,
+    raw_packets: bool,
+    packet: &[u8],
+) -> Result<Option<RawPacket>, AllocError>
+    ensures { IfOk result (λ raw. raw ≡ if_raw raw_packets (RtpRx packet.now)) }
+{
+    if !raw_packets {
+        return Ok(None);
     }
+    let bytes = copied(alloc, packet)?;
+    Ok(Some(RawPacket::RtpRx(bytes)))
+}
 
-    /// Applies what was made ready.
-    pub(crate) fn apply(&mut self)
-        ensures { self.new ≡ call.applied self.old }
-    {
-        drop_removed(&mut self.lines, &mut self.counts, &self.pending);
-        self.rx.drop_removed(&self.pending);
-        self.tx.drop_removed(&self.pending);
-        apply_all(
-            &mut self.lines,
-            &mut self.counts,
-            &mut self.events,
-            &mut self.pending,
-        );
+/// A copy of an RTCP packet that came, where packets are told.
+pub fn raw_rtcp(
+    alloc: Global,
+    raw_packets: bool,
+    packet: &[u8],
+) -> Result<Option<RawPacket>, AllocError>
+    ensures { IfOk result (λ raw. raw ≡ if_raw raw_packets (RtcpRx packet.now)) }
+{
+    if !raw_packets {
+        return Ok(None);
     }
+    let bytes = copied(alloc, packet)?;
+    Ok(Some(RawPacket::RtcpRx(bytes)))
+}
 
-    /// Drops a line and its streams.
-    pub(crate) fn drop_line(&mut self, mid: Mid)
-        ensures { self.new ≡ call.line_dropped mid self.old }
-    {
-        drop_line(&mut self.lines, &mut self.counts, mid);
-        self.rx.drop_line(mid);
-        self.tx.drop_line(mid);
-    }
-
-    pub(crate) fn take_rtp(&mut self, packet: &[u8]) -> Result<(), AllocError>
-        ensures { MediaLeaves self.old (call.rtp_taken packet.now self.old) result self.new }
-    {
-        let kept = self.pending.len();
-        let event = PlainMediaEvent::Rtp(packet.len());
-        if self.raw_packets {
-            let bytes = copied(self.alloc, packet)?;
-            let raw = Some(RawPacket::RtpRx(bytes));
-            queue_packet(&mut self.events, kept, raw, event)?;
-            Ok(())
-        } else {
-            queue_packet(&mut self.events, kept, None, event)?;
-            Ok(())
-        }
-    }
-
-    pub(crate) fn take_rtcp(&mut self, packet: &[u8]) -> Result<(), AllocError>
-        ensures { MediaLeaves self.old (call.rtcp_taken packet.now self.old) result self.new }
-    {
-        let kept = self.pending.len();
-        let event = PlainMediaEvent::Rtcp(packet.len());
-        if self.raw_packets {
-            let bytes = copied(self.alloc, packet)?;
-            let raw = Some(RawPacket::RtcpRx(bytes));
-            queue_packet(&mut self.events, kept, raw, event)?;
-            Ok(())
-        } else {
-            queue_packet(&mut self.events, kept, None, event)?;
-            Ok(())
-        }
-    }
-
-    pub(crate) fn next_event(&mut self) -> Option<PlainMediaEvent>
-        ensures { TellsNext self.old.events self.old result self.new }
-    {
-        self.events.pop_front()
-    }
-
-    pub(crate) fn next_datagram(&mut self) -> Option<DatagramSend>
-        ensures { GivesNext self.old.datagrams self.old result self.new }
-    {
-        self.datagrams.pop_front()
-    }
-
-    /// Queues a datagram of a type, with these bytes behind its header.
-    pub(crate) fn send(&mut self, packet_type: u8, payload: &[u8]) -> Result<(), AllocError>
-        ensures { MediaLeaves self.old (call.sent_more (datagram_of packet_type payload.now) self.old) result self.new }
-    {
-        let made = datagram(self.alloc, packet_type, payload)?;
-        self.datagrams.push_back(made)?;
-        Ok(())
-    }
-
-    /// Says goodbye, once.
-    pub(crate) fn say_goodbye(&mut self) -> Result<(), AllocError>
-        ensures { MediaLeaves self.old (call.said_goodbye self.old) result self.new }
-    {
-        if self.is_shut {
-            return Ok(());
-        }
-        self.send(203, &[])?;
-        self.is_shut = true;
-        Ok(())
-    }
+/// Queues a datagram of a type, with these bytes behind its header.
+pub fn send(
+    alloc: Global,
+    datagrams: &mut VecDeque<DatagramSend>,
+    packet_type: u8,
+    payload: &[u8],
+) -> Result<(), AllocError>
+    ensures ok { OnOk result (datagrams.new.items ≡ datagrams.old.items ++ datagram_of packet_type payload.now ∷ []) }
+    ensures err { OnErr result (datagrams.new.items ≡ datagrams.old.items) }
+{
+    let made = datagram(alloc, packet_type, payload)?;
+    datagrams.push_back(made)?;
+    Ok(())
 }

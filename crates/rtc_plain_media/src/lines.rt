@@ -253,7 +253,23 @@ fn drop_sources_of(counts: &mut SourceCounts, lines: &Lines, mid: Mid)
     }
 }
 
-/// Drops the lines that some updates remove. The lines are looked through only where one does.
+/// Drops the lines that some updates remove.
+fn retain_lines(lines: &mut Lines, updates: &VecDeque<MediaUpdate>)
+    ensures lines { lines.new.entries ≡ without_lines (removed_by updates.now.items) lines.old.entries }
+    ensures spare { spare lines.old ≤ spare lines.new }
+{
+    lines.retain(|key, _line| !is_removed(updates, key.mid));
+}
+
+/// Drops the line of a mid.
+fn retain_others(lines: &mut Lines, mid: Mid)
+    ensures lines { lines.new.entries ≡ without_lines (λ other. same_mid other mid) lines.old.entries }
+    ensures spare { spare lines.old ≤ spare lines.new }
+{
+    lines.retain(|key, _line| key.mid != mid);
+}
+
+/// Drops the lines that some updates remove, and counts their sources no more. The lines are looked through only where one does.
 pub fn drop_removed(lines: &mut Lines, counts: &mut SourceCounts, updates: &VecDeque<MediaUpdate>)
     ensures lines { lines.new.entries ≡ without_lines (removed_by updates.now.items) lines.old.entries }
     ensures spare { spare lines.old ≤ spare lines.new }
@@ -265,10 +281,10 @@ pub fn drop_removed(lines: &mut Lines, counts: &mut SourceCounts, updates: &VecD
         return;
     }
     drop_removed_sources(counts, lines, updates);
-    lines.retain(|key, _line| !is_removed(updates, key.mid));
+    retain_lines(lines, updates);
 }
 
-/// Drops a line.
+/// Drops a line, and counts its sources no more.
 pub fn drop_line(lines: &mut Lines, counts: &mut SourceCounts, mid: Mid)
     ensures lines { lines.new.entries ≡ without_lines (λ other. same_mid other mid) lines.old.entries }
     ensures spare { spare lines.old ≤ spare lines.new }
@@ -277,5 +293,5 @@ pub fn drop_line(lines: &mut Lines, counts: &mut SourceCounts, mid: Mid)
     ensures room { spare counts.old ≤ spare counts.new }
 {
     drop_sources_of(counts, lines, mid);
-    lines.retain(|key, _line| key.mid != mid);
+    retain_others(lines, mid);
 }

@@ -1,5 +1,9 @@
 //! The plain media part as a part.
+use crate::calls::{copy_updates, make_ready, raw_rtcp, raw_rtp, send};
+use crate::event_queue::queue_packet;
 use crate::line_key::LineKey;
+use crate::lines::{apply_all, drop_line, drop_removed};
+use crate::readings::{has_red, lines_use};
 use crate::{PlainMark, PlainMedia, PlainMediaEvent};
 use rtc_media::{
     MediaError, MediaSession, MediaSettings, MediaUpdate, NoStream, Reason, SrtpProfile,
@@ -31,23 +35,47 @@ impl MediaSession for PlainMedia {
     }
 
     fn prepare(&mut self, updates: &[MediaUpdate]) -> Result<(), AllocError> {
-        self.make_ready(updates)
+        let most = make_ready(
+            &mut self.lines,
+            &mut self.counts,
+            &mut self.events,
+            self.pending.len(),
+            self.most,
+            updates,
+        )?;
+        let copies = copy_updates(self.alloc, updates)?;
+        self.pending = copies;
+        self.most = most;
+        Ok(())
     }
 
     fn commit(&mut self) {
-        self.apply();
+        drop_removed(&mut self.lines, &mut self.counts, &self.pending);
+        self.rx.drop_removed(&self.pending);
+        self.tx.drop_removed(&self.pending);
+        apply_all(
+            &mut self.lines,
+            &mut self.counts,
+            &mut self.events,
+            &mut self.pending,
+        );
     }
 
     fn line(&self, mid: Mid) -> Option<&MediaUpdate> {
-        self.update_of(mid)
+        match self.lines.get(&LineKey { mid }) {
+            Some(line) => Some(&line.update),
+            None => None,
+        }
     }
 
     fn ssrc_used(&self, ssrc: Ssrc) -> bool {
-        self.uses(ssrc)
+        self.rx.uses(ssrc) || self.tx.uses(ssrc) || lines_use(&self.counts, ssrc)
     }
 
     fn remove_line(&mut self, mid: Mid) {
-        self.drop_line(mid);
+        drop_line(&mut self.lines, &mut self.counts, mid);
+        self.rx.drop_line(mid);
+        self.tx.drop_line(mid);
     }
 
     /// The keys are not kept.
@@ -66,11 +94,17 @@ impl MediaSession for PlainMedia {
     }
 
     fn handle_rtp(&mut self, _now: Moment, packet: &[u8]) -> Result<(), AllocError> {
-        self.take_rtp(packet)
+        let raw = raw_rtp(self.alloc, self.raw_packets, packet)?;
+        let event = PlainMediaEvent::Rtp(packet.len());
+        queue_packet(&mut self.events, self.pending.len(), raw, event)?;
+        Ok(())
     }
 
     fn handle_rtcp(&mut self, _now: Moment, packet: &[u8]) -> Result<(), AllocError> {
-        self.take_rtcp(packet)
+        let raw = raw_rtcp(self.alloc, self.raw_packets, packet)?;
+        let event = PlainMediaEvent::Rtcp(packet.len());
+        queue_packet(&mut self.events, self.pending.len(), raw, event)?;
+        Ok(())
     }
 
     /// It has no timers.
@@ -79,7 +113,7 @@ impl MediaSession for PlainMedia {
     }
 
     fn poll_event(&mut self) -> Option<PlainMediaEvent> {
-        self.next_event()
+        self.events.pop_front()
     }
 
     fn poll_event_fallible(&mut self, _now: Moment) -> Result<Option<PlainMediaEvent>, MediaError> {
@@ -87,7 +121,7 @@ impl MediaSession for PlainMedia {
     }
 
     fn poll_datagram(&mut self, _now: Moment) -> Option<DatagramSend> {
-        self.next_datagram()
+        self.datagrams.pop_front()
     }
 
     fn poll_timeout(&self) -> Option<(Moment, Reason)> {
@@ -99,11 +133,16 @@ impl MediaSession for PlainMedia {
     }
 
     fn close_rtp(&mut self) -> Result<(), AllocError> {
-        self.say_goodbye()
+        if self.is_shut {
+            return Ok(());
+        }
+        send(self.alloc, &mut self.datagrams, 203, &[])?;
+        self.is_shut = true;
+        Ok(())
     }
 
     fn is_rtp_closed(&self) -> bool {
-        self.is_closed()
+        self.is_shut && self.datagrams.is_empty()
     }
 
     /// It has no statistics.
@@ -116,12 +155,15 @@ impl MediaSession for PlainMedia {
     }
 
     fn writer(&mut self, mid: Mid) -> Option<&mut PlainMark> {
-        self.writer_of(mid)
+        match self.lines.get_mut(&LineKey { mid }) {
+            Some(line) => Some(&mut line.mark),
+            None => None,
+        }
     }
 
     /// Nothing is switched; the answer says whether the line has redundancy.
     fn set_red_send(&mut self, mid: Mid, _on: bool) -> bool {
-        self.has_red(mid)
+        has_red(&self.lines, mid)
     }
 
     /// Nothing is switched.
@@ -133,11 +175,13 @@ impl MediaSession for PlainMedia {
         _media_source: Ssrc,
         payload: &[u8],
     ) -> Result<(), AllocError> {
-        self.send(204, payload)
+        send(self.alloc, &mut self.datagrams, 204, payload)?;
+        Ok(())
     }
 
     fn send_pli_feedback(&mut self, _sender: Ssrc, _media_source: Ssrc) -> Result<(), AllocError> {
-        self.send(206, &[])
+        send(self.alloc, &mut self.datagrams, 206, &[])?;
+        Ok(())
     }
 
     fn make_stream_rx(
@@ -192,28 +236,5 @@ impl MediaSession for PlainMedia {
         new_rtx: Option<Ssrc>,
     ) -> Option<&mut PlainMark> {
         self.tx.reset(mid, rid, new_ssrc, new_rtx)
-    }
-}
-
-impl PlainMedia {
-    ghost use Rattle.std.specs.Prelude.{◌≡◌, IfSome, is_some};
-    ghost use Rattle.std.specs.Borrow.{LendsSo, sem};
-    ghost use Rattle.rtc_plain_media.specs.Lines.{held_line, writer_mark};
-    ghost use Rattle.rtc_plain_media.specs.MediaCalls.{writer_marked};
-    ghost use Rattle.rtc_plain_media.specs.contracts.plain_mark.PlainMark.{the_row as mark_row};
-    ghost use Rattle.rtc_plain_media.specs.contracts.plain_media.PlainMedia.{the_row};
-
-    /// The mark of the writer of a line.
-    fn writer_of(&mut self, mid: Mid) -> Option<&mut PlainMark>
-        ensures* leaves { sem 𝓛 (LendsSo the_row mark_row self.entry result (λ n x. IfSome result (λ lent.
-            (lent.now ≡ writer_mark (held_line mid self.old.lines))
-            × (n ≡ record self.old { lines = writer_marked mid x self.old.lines }))) (λ n. n ≡ self.old)) }
-        ensures found { is_some result ≡ is_some (held_line mid self.old.lines) }
-    {
-        let key = LineKey { mid };
-        match self.lines.get_mut(&key) {
-            Some(line) => Some(&mut line.mark),
-            None => None,
-        }
     }
 }

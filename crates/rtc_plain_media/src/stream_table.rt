@@ -76,6 +76,27 @@ impl Drop for StreamTable {
     }
 }
 
+/// Drops the rows of an ssrc.
+fn drop_ssrc(rows: &mut Vec<StreamRow>, ssrc: Ssrc)
+    ensures { rows.new.items ≡ filter (λ row. not (has_ssrc ssrc row)) rows.old.items }
+{
+    rows.retain(|row| !(row.ssrc.0 == ssrc.0));
+}
+
+/// Drops the rows of a line.
+fn drop_mid(rows: &mut Vec<StreamRow>, mid: Mid)
+    ensures { rows.new.items ≡ filter (λ row. not (is_of_line mid row)) rows.old.items }
+{
+    rows.retain(|row| row.mid != mid);
+}
+
+/// Drops the rows of lines that some updates remove.
+fn drop_removed(rows: &mut Vec<StreamRow>, updates: &VecDeque<MediaUpdate>)
+    ensures { rows.new.items ≡ without_streams (removed_by updates.now.items) rows.old.items }
+{
+    rows.retain(|row| !is_removed(updates, row.mid));
+}
+
 impl StreamTable {
     ghost use Rattle.rtc_plain_media.specs.contracts.plain_mark.PlainMark.{the_row as mark_row};
     ghost use Rattle.rtc_plain_media.specs.contracts.stream_table.StreamTable.{the_row};
@@ -190,7 +211,7 @@ impl StreamTable {
     {
         let there = self.place_of(ssrc).is_some();
         let count = self.rows.len();
-        self.rows.retain(|row| !(row.ssrc.0 == ssrc.0));
+        drop_ssrc(&mut self.rows, ssrc);
         self.index.refresh(self.rows.as_slice(), count);
         there
     }
@@ -200,7 +221,7 @@ impl StreamTable {
         ensures { self.new ≡ filter (λ row. not (is_of_line mid row)) self.old }
     {
         let count = self.rows.len();
-        self.rows.retain(|row| row.mid != mid);
+        drop_mid(&mut self.rows, mid);
         self.index.refresh(self.rows.as_slice(), count);
     }
 
@@ -212,7 +233,7 @@ impl StreamTable {
             return;
         }
         let count = self.rows.len();
-        self.rows.retain(|row| !is_removed(updates, row.mid));
+        drop_removed(&mut self.rows, updates);
         self.index.refresh(self.rows.as_slice(), count);
     }
 

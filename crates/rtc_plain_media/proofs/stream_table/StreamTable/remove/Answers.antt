@@ -1,20 +1,16 @@
-use Rattle.std.proofs.Common.{◌≡◌, Bool, not, filter, rules, ap, is_some, ◌∙◌, length, sym, subst, arith, ℕ}
-use Rattle.std.proofs.lemmas.Fn.{filter_same}
+use Rattle.std.proofs.Common.{◌≡◌, Bool, not, filter, ap, ◌∙◌, length, sym, subst, arith, ℕ, is_some}
 use Rattle.rtc_plain_media.specs.declared.stream_row.StreamRow.{StreamRow}
 use Rattle.rtc_plain_media.specs.StreamIndex.{FitsStreams, IndexesStreams}
 use Rattle.rtc_plain_media.specs.Streams.{Streams, has_ssrc}
 use Rattle.rtc_plain_media.proofs.StreamLemmas.{any-position}
-use Rattle.rtc_plain_media.proofs.PlaceLemmas.{filter_most}
+use Rattle.rtc_plain_media.proofs.PlaceLemmas.{rows_fewer}
 use Rattle.rtc_plain_media.proofs.stream_table.StreamTable.remove.Goals as goal
 
 pub returns-clause-answer : goal.returns-clause-answer
 returns-clause-answer c = c.is_some-there.ensures ∙ ap is_some c.place_of.ensures ∙ any-position (has_ssrc c.args.ssrc) _
 
 pub returns-clause-rest : goal.returns-clause-rest
-returns-clause-rest c =
-    let keeps : StreamRow → Bool = λ row. not (has_ssrc c.args.ssrc row) in
-    let kept : c.retain.new.self.items ≡ filter keeps c.self.inside.rows.items = filter_same _ _ _ (λ x b f' k. search rules) _ _ c.retain.ensures.filtered in
-    kept ∙ ap (filter keeps) c.self.view_is
+returns-clause-rest c = c.drop_ssrc.ensures ∙ ap (filter (λ (row : StreamRow). not (has_ssrc c.args.ssrc row))) c.self.view_is
 
 pub refresh-requires-clause-fits : goal.refresh-requires-clause-fits
 refresh-requires-clause-fits c =
@@ -23,16 +19,11 @@ refresh-requires-clause-fits c =
 
 pub refresh-requires-clause-fewer : goal.refresh-requires-clause-fewer
 refresh-requires-clause-fewer c =
-    let keeps : StreamRow → Bool = λ row. not (has_ssrc c.args.ssrc row) in
-    let kept : c.retain.new.self.items ≡ filter keeps c.self.inside.rows.items = filter_same _ _ _ (λ x b f' k. search rules) _ _ c.retain.ensures.filtered in
-    let count : c.len-count.result ≡ length c.self.inside.rows.items = omega (arith, c.len-count.ensures) in
-    let left = ap (λ (l : Streams). length l) (c.as_slice.ensures.value ∙ kept) in
-    omega (arith, left, count, filter_most keeps c.self.inside.rows.items)
+    rows_fewer (λ (row : StreamRow). not (has_ssrc c.args.ssrc row)) c.self.inside.rows.items _ _ (c.as_slice.ensures.value ∙ c.drop_ssrc.ensures) (omega (arith, c.len-count.ensures))
 
 pub invariant_of-self : goal.invariant_of-self
 invariant_of-self c =
     let keeps : StreamRow → Bool = λ row. not (has_ssrc c.args.ssrc row) in
-    let kept : c.retain.new.self.items ≡ filter keeps c.self.inside.rows.items = filter_same _ _ _ (λ x b f' k. search rules) _ _ c.retain.ensures.filtered in
     let count : c.len-count.result ≡ length c.self.inside.rows.items = omega (arith, c.len-count.ensures) in
     subst (λ (l : Streams). IndexesStreams c.refresh.new.self l) c.as_slice.ensures.value
-    (c.refresh.ensures c.self.inside.rows.items keeps (c.as_slice.ensures.value ∙ kept) count c.self.invariant.0)
+    (c.refresh.ensures c.self.inside.rows.items keeps (c.as_slice.ensures.value ∙ c.drop_ssrc.ensures) count c.self.invariant.0)

@@ -1,6 +1,6 @@
 use Rattle.std.proofs.Common.{arith}
 use Rattle.rtc_plain_media.proofs.CountLemmas.{keeps_dropped, keeps_applied}
-use Rattle.rtc_plain_media.proofs.plain_media.PlainMedia.apply.Goals as goal
+use Rattle.rtc_plain_media.proofs.part.PlainMediaMediaSession.commit.Goals as goal
 
 pub apply_all-requires-clause-counts : goal.apply_all-requires-clause-counts
 apply_all-requires-clause-counts c = omega (arith, c.self.invariant.2.room, c.drop_removed.ensures.room)

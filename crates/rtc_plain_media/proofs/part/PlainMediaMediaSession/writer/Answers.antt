@@ -3,7 +3,7 @@ use Rattle.rtc_plain_media.specs.Lines.{held_line, writer_mark, same_key, key_of
 use Rattle.rtc_plain_media.specs.MediaContents.{MediaContents}
 use Rattle.rtc_plain_media.proofs.CountLemmas.{keeps_marked}
 use Rattle.rtc_plain_media.proofs.LendLemmas.{line_left}
-use Rattle.rtc_plain_media.proofs.plain_media.PlainMedia.writer_of.Goals as goal
+use Rattle.rtc_plain_media.proofs.part.PlainMediaMediaSession.writer.Goals as goal
 
 pub returns-in-Some : goal.returns-in-Some
 returns-in-Some c =

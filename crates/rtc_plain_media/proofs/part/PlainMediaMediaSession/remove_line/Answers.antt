@@ -1,6 +1,6 @@
 use Rattle.std.proofs.Common.{arith}
 use Rattle.rtc_plain_media.proofs.CountLemmas.{keeps_dropped}
-use Rattle.rtc_plain_media.proofs.plain_media.PlainMedia.drop_line.Goals as goal
+use Rattle.rtc_plain_media.proofs.part.PlainMediaMediaSession.remove_line.Goals as goal
 
 pub invariant_of-self : goal.invariant_of-self
 invariant_of-self c =
