@@ -1,8 +1,5 @@
 //! The handle by which a user drives a peer without session descriptions.
 ghost use Rattle.std.specs.Prelude.{◌≡◌, IfOk, MatchOption, None, Some, map};
-ghost use Rattle.std.specs.Borrow.{Lends, sem};
-ghost use Rattle.rtc_peer.specs.contracts.rtc.Rtc.{the_row as rtc_row};
-ghost use Rattle.rtc_connection.specs.contracts.polled_peer.PolledPeer.{the_row as polled_row};
 ghost use Rattle.rtc_channels.specs.Channels.{channel_of_stream, numbered_stream};
 ghost use Rattle.rtc_peer_state.specs.Meanings.{meanings};
 ghost use Rattle.rtc_connection.specs.ChannelCalls.{ClosesDataChannel, stream_under};
@@ -12,7 +9,6 @@ ghost use Rattle.rtc_direct.specs.ChannelMaking.{StartsStreams, CreatesChannel};
 
 use crate::Rtc;
 use rtc_association::Association;
-use rtc_connection::PolledPeer;
 use rtc_direct::{
     copy_local_credentials, create_data_channel, invalidate_candidate, set_ice_controlling,
     set_ice_lite, set_local_credentials, set_remote_credentials, set_remote_fingerprint,
@@ -32,7 +28,7 @@ use std::alloc::AllocError;
 ///
 /// Its calls act at once, also on a peer that is closing or closed.
 pub struct DirectApi<'a, I, D, S, M, N> {
-    pub(crate) rtc: &'a mut PolledPeer<I, D, S, M, N>,
+    pub(crate) rtc: &'a mut Rtc<I, D, S, M, N>,
 }
 
 impl<I, D, S, M, N> Drop for DirectApi<'_, I, D, S, M, N> {
@@ -43,29 +39,30 @@ impl<I, D, S, M, N> Drop for DirectApi<'_, I, D, S, M, N> {
     }
 }
 
-impl<I, D, S, M, N> Rtc<I, D, S, M, N> {
+impl<I: IceAgent, D: DtlsInstance, S: Association, M: MediaSession, N: Ids> Rtc<I, D, S, M, N> {
     /// A handle by which a user drives the peer without session descriptions.
     pub fn direct_api(&mut self) -> DirectApi<'_, I, D, S, M, N>
-        ensures* leaves { sem 𝓛 (Lends (rtc_row I.row D.row S.row M.row N.row)
-            (polled_row I.row D.row S.row M.row N.row) self.entry result.rtc (λ polled. polled)) }
+        ensures same_reference { result.rtc.ghost_name ≡ self.entry.ghost_name }
         ensures peer { result.rtc.now ≡ self.old }
     {
-        DirectApi {
-            rtc: &mut self.polled,
-        }
+        DirectApi { rtc: self }
     }
 }
 
-impl<'a, I, D, S, M, N> DirectApi<'a, I, D, S, M, N> {
+impl<'a, I: IceAgent, D: DtlsInstance, S: Association, M: MediaSession, N: Ids> DirectApi<
+    'a,
+    I,
+    D,
+    S,
+    M,
+    N,
+> {
     /// A handle on a peer, which is as before.
     pub fn new(rtc: &'a mut Rtc<I, D, S, M, N>) -> DirectApi<'a, I, D, S, M, N>
-        ensures* leaves { sem 𝓛 (Lends (rtc_row I.row D.row S.row M.row N.row)
-            (polled_row I.row D.row S.row M.row N.row) rtc.entry result.rtc (λ polled. polled)) }
+        ensures same_reference { result.rtc.ghost_name ≡ rtc.entry.ghost_name }
         ensures peer { result.rtc.now ≡ rtc.old }
     {
-        DirectApi {
-            rtc: &mut rtc.polled,
-        }
+        DirectApi { rtc }
     }
 }
 
@@ -82,7 +79,8 @@ impl<'a, I: IceAgent, D: DtlsInstance, S: Association, M: MediaSession, N: Ids> 
         ensures same_reference { self.new.rtc.ghost_name ≡ self.old.rtc.ghost_name }
         ensures does { SetsControlling I.ice on self.old.rtc.now self.new.rtc.now }
     {
-        set_ice_controlling(self.rtc, on);
+        let rtc = &mut *self.rtc;
+        set_ice_controlling(&mut rtc.polled, on);
     }
 
     /// Sets whether this side only answers checks (RFC 8445, section 2.5).
@@ -90,7 +88,8 @@ impl<'a, I: IceAgent, D: DtlsInstance, S: Association, M: MediaSession, N: Ids> 
         ensures same_reference { self.new.rtc.ghost_name ≡ self.old.rtc.ghost_name }
         ensures does { SetsLite I.ice on self.old.rtc.now self.new.rtc.now }
     {
-        set_ice_lite(self.rtc, on);
+        let rtc = &mut *self.rtc;
+        set_ice_lite(&mut rtc.polled, on);
     }
 
     /// Sets the credentials of this side.
@@ -98,7 +97,8 @@ impl<'a, I: IceAgent, D: DtlsInstance, S: Association, M: MediaSession, N: Ids> 
         ensures same_reference { self.new.rtc.ghost_name ≡ self.old.rtc.ghost_name }
         ensures does { SetsLocalCreds I.ice creds self.old.rtc.now self.new.rtc.now }
     {
-        set_local_credentials(self.rtc, creds);
+        let rtc = &mut *self.rtc;
+        set_local_credentials(&mut rtc.polled, creds);
     }
 
     /// Sets the credentials of the other side.
@@ -106,7 +106,8 @@ impl<'a, I: IceAgent, D: DtlsInstance, S: Association, M: MediaSession, N: Ids> 
         ensures same_reference { self.new.rtc.ghost_name ≡ self.old.rtc.ghost_name }
         ensures does { SetsRemoteCreds I.ice creds self.old.rtc.now self.new.rtc.now }
     {
-        set_remote_credentials(self.rtc, creds);
+        let rtc = &mut *self.rtc;
+        set_remote_credentials(&mut rtc.polled, creds);
     }
 
     /// Stops using a candidate. Answers whether it was there.
@@ -114,14 +115,16 @@ impl<'a, I: IceAgent, D: DtlsInstance, S: Association, M: MediaSession, N: Ids> 
         ensures same_reference { self.new.rtc.ghost_name ≡ self.old.rtc.ghost_name }
         ensures does { InvalidatesCandidate I.ice candidate.now result self.old.rtc.now self.new.rtc.now }
     {
-        invalidate_candidate(self.rtc, candidate)
+        let rtc = &mut *self.rtc;
+        invalidate_candidate(&mut rtc.polled, candidate)
     }
 
     /// The credentials of this side, copied.
     pub fn local_ice_credentials(&self) -> Result<IceCreds, AllocError>
         ensures { IfOk result (λ creds. creds ≡ (I.ice.settings self.now.rtc.now.core.ice).local) }
     {
-        copy_local_credentials(&*self.rtc)
+        let rtc = &*self.rtc;
+        copy_local_credentials(&rtc.polled)
     }
 
     /// Sets the fingerprint that the certificate of the other side has to match (RFC 8122, section 5).
@@ -129,7 +132,8 @@ impl<'a, I: IceAgent, D: DtlsInstance, S: Association, M: MediaSession, N: Ids> 
         ensures same_reference { self.new.rtc.ghost_name ≡ self.old.rtc.ghost_name }
         ensures does { self.new.rtc.now ≡ with_fingerprint fingerprint self.old.rtc.now }
     {
-        set_remote_fingerprint(self.rtc, fingerprint);
+        let rtc = &mut *self.rtc;
+        set_remote_fingerprint(&mut rtc.polled, fingerprint);
     }
 
     /// Takes a DTLS role, where there is none: an active side begins the handshake. Ok, and nothing happens, where there is
@@ -138,7 +142,8 @@ impl<'a, I: IceAgent, D: DtlsInstance, S: Association, M: MediaSession, N: Ids> 
         ensures same_reference { self.new.rtc.ghost_name ≡ self.old.rtc.ghost_name }
         ensures does { TakesDtlsRole D.dtls active self.old.rtc.now result self.new.rtc.now }
     {
-        start_dtls(self.rtc, active)
+        let rtc = &mut *self.rtc;
+        start_dtls(&mut rtc.polled, active)
     }
 
     /// The SHA-256 fingerprint of the certificate of this side (RFC 8122, section 5).
@@ -146,7 +151,7 @@ impl<'a, I: IceAgent, D: DtlsInstance, S: Association, M: MediaSession, N: Ids> 
         ensures { result.now ≡ self.now.rtc.now.core.dtls.local }
     {
         let rtc = &*self.rtc;
-        rtc.core.dtls.local_fingerprint()
+        rtc.polled.core.dtls.local_fingerprint()
     }
 
     /// The fingerprint of the certificate that the other side showed.
@@ -155,7 +160,7 @@ impl<'a, I: IceAgent, D: DtlsInstance, S: Association, M: MediaSession, N: Ids> 
             (λ f. self.now.rtc.now.core.dtls.remote ≡ Some f.now) }
     {
         let rtc = &*self.rtc;
-        rtc.core.dtls.remote_fingerprint()
+        rtc.polled.core.dtls.remote_fingerprint()
     }
 
     /// The version that the handshake gave; None before.
@@ -163,7 +168,7 @@ impl<'a, I: IceAgent, D: DtlsInstance, S: Association, M: MediaSession, N: Ids> 
         ensures { result ≡ D.dtls.version self.now.rtc.now.core.dtls.instance }
     {
         let rtc = &*self.rtc;
-        rtc.core.dtls.protocol_version()
+        rtc.polled.core.dtls.protocol_version()
     }
 
     /// Starts the association as client or as server. Ok, and nothing happens, where it was started before.
@@ -171,7 +176,8 @@ impl<'a, I: IceAgent, D: DtlsInstance, S: Association, M: MediaSession, N: Ids> 
         ensures same_reference { self.new.rtc.ghost_name ≡ self.old.rtc.ghost_name }
         ensures does { StartsStreams S.association client None self.old.rtc.now result self.new.rtc.now }
     {
-        start_sctp(self.rtc, client)
+        let rtc = &mut *self.rtc;
+        start_sctp(&mut rtc.polled, client)
     }
 
     /// Starts the association by the halves of both sides (draft-hancke-tsvwg-snap): it is established at once, and session
@@ -185,7 +191,8 @@ impl<'a, I: IceAgent, D: DtlsInstance, S: Association, M: MediaSession, N: Ids> 
         ensures same_reference { self.new.rtc.ghost_name ≡ self.old.rtc.ghost_name }
         ensures does { StartsStreams S.association client (Some halves) self.old.rtc.now result self.new.rtc.now }
     {
-        start_sctp_with_snap(self.rtc, client, halves)
+        let rtc = &mut *self.rtc;
+        start_sctp_with_snap(&mut rtc.polled, client, halves)
     }
 
     /// Makes a channel, and answers its number: it is opened once the association is started and it has a stream.
@@ -193,7 +200,8 @@ impl<'a, I: IceAgent, D: DtlsInstance, S: Association, M: MediaSession, N: Ids> 
         ensures same_reference { self.new.rtc.ghost_name ≡ self.old.rtc.ghost_name }
         ensures does { CreatesChannel config self.old.rtc.now result self.new.rtc.now }
     {
-        create_data_channel(self.rtc, config)
+        let rtc = &mut *self.rtc;
+        create_data_channel(&mut rtc.polled, config)
     }
 
     /// Closes a data channel: its stream is reset, if it has one (RFC 8831, section 6.7). Nothing happens where there is no such
@@ -203,7 +211,7 @@ impl<'a, I: IceAgent, D: DtlsInstance, S: Association, M: MediaSession, N: Ids> 
         ensures does { ClosesDataChannel (meanings I.ice D.dtls S.association M.media N.ids) id self.old.rtc.now result self.new.rtc.now }
     {
         let rtc = &mut *self.rtc;
-        rtc.close_data_channel(id)
+        rtc.polled.close_data_channel(id)
     }
 
     /// The channel that a stream was given to.
@@ -211,7 +219,7 @@ impl<'a, I: IceAgent, D: DtlsInstance, S: Association, M: MediaSession, N: Ids> 
         ensures { result ≡ channel_of_stream s (map numbered_stream self.now.rtc.now.core.channels.rows) }
     {
         let rtc = &*self.rtc;
-        rtc.core.channels.channel_id_by_stream_id(s)
+        rtc.polled.core.channels.channel_id_by_stream_id(s)
     }
 
     /// The stream that a channel was given.
@@ -219,6 +227,6 @@ impl<'a, I: IceAgent, D: DtlsInstance, S: Association, M: MediaSession, N: Ids> 
         ensures { result ≡ stream_under id self.now.rtc.now.core.channels }
     {
         let rtc = &*self.rtc;
-        rtc.core.channels.stream_id_by_channel_id(id)
+        rtc.polled.core.channels.stream_id_by_channel_id(id)
     }
 }

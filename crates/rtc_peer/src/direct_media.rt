@@ -30,7 +30,8 @@ impl<'a, I: IceAgent, D: DtlsInstance, S: Association, M: MediaSession, N: Ids> 
         ensures same_reference { self.new.rtc.ghost_name ≡ self.old.rtc.ghost_name }
         ensures does { DrawsSource M.media N.ids self.old.rtc.now result self.new.rtc.now }
     {
-        draw_ssrc(self.rtc)
+        let rtc = &mut *self.rtc;
+        draw_ssrc(&mut rtc.polled)
     }
 
     /// Declares a media line behind the others, which sends and receives and was created here. False where a row has the mid.
@@ -38,7 +39,8 @@ impl<'a, I: IceAgent, D: DtlsInstance, S: Association, M: MediaSession, N: Ids> 
         ensures same_reference { self.new.rtc.ghost_name ≡ self.old.rtc.ghost_name }
         ensures does { DeclaresMedia mid kind self.old.rtc.now result self.new.rtc.now }
     {
-        declare_media(self.rtc, mid, kind)
+        let rtc = &mut *self.rtc;
+        declare_media(&mut rtc.polled, mid, kind)
     }
 
     /// Removes a media line with its streams: the last row goes, and another is stopped for good. False where no row of media
@@ -47,7 +49,8 @@ impl<'a, I: IceAgent, D: DtlsInstance, S: Association, M: MediaSession, N: Ids> 
         ensures same_reference { self.new.rtc.ghost_name ≡ self.old.rtc.ghost_name }
         ensures does { RemovesMedia M.media mid self.old.rtc.now result self.new.rtc.now }
     {
-        remove_media(self.rtc, mid)
+        let rtc = &mut *self.rtc;
+        remove_media(&mut rtc.polled, mid)
     }
 
     /// Switches redundancy of what a line sends on or off (RFC 2198). False where the line has none.
@@ -55,7 +58,8 @@ impl<'a, I: IceAgent, D: DtlsInstance, S: Association, M: MediaSession, N: Ids> 
         ensures same_reference { self.new.rtc.ghost_name ≡ self.old.rtc.ghost_name }
         ensures does { SetsRed M.media mid on self.old.rtc.now result self.new.rtc.now }
     {
-        set_red_send(self.rtc, mid, on)
+        let rtc = &mut *self.rtc;
+        set_red_send(&mut rtc.polled, mid, on)
     }
 
     /// Switches on feedback on the congestion of the whole transport.
@@ -63,7 +67,8 @@ impl<'a, I: IceAgent, D: DtlsInstance, S: Association, M: MediaSession, N: Ids> 
         ensures same_reference { self.new.rtc.ghost_name ≡ self.old.rtc.ghost_name }
         ensures does { EnablesTwcc M.media self.old.rtc.now self.new.rtc.now }
     {
-        enable_twcc_feedback(self.rtc);
+        let rtc = &mut *self.rtc;
+        enable_twcc_feedback(&mut rtc.polled);
     }
 
     /// Sends feedback that the application defines (RFC 4585, section 6.4).
@@ -76,7 +81,8 @@ impl<'a, I: IceAgent, D: DtlsInstance, S: Association, M: MediaSession, N: Ids> 
         ensures same_reference { self.new.rtc.ghost_name ≡ self.old.rtc.ghost_name }
         ensures does { SendsAppFeedback M.media sender media_source payload.now self.old.rtc.now result self.new.rtc.now }
     {
-        send_app_specific_feedback(self.rtc, sender, media_source, payload)
+        let rtc = &mut *self.rtc;
+        send_app_specific_feedback(&mut rtc.polled, sender, media_source, payload)
     }
 
     /// Asks for a new picture (RFC 4585, section 6.3.1).
@@ -84,7 +90,8 @@ impl<'a, I: IceAgent, D: DtlsInstance, S: Association, M: MediaSession, N: Ids> 
         ensures same_reference { self.new.rtc.ghost_name ≡ self.old.rtc.ghost_name }
         ensures does { SendsPli M.media sender media_source self.old.rtc.now result self.new.rtc.now }
     {
-        send_pli_feedback(self.rtc, sender, media_source)
+        let rtc = &mut *self.rtc;
+        send_pli_feedback(&mut rtc.polled, sender, media_source)
     }
 
     /// Drops the stream of a source that is received. False where there is none.
@@ -92,7 +99,8 @@ impl<'a, I: IceAgent, D: DtlsInstance, S: Association, M: MediaSession, N: Ids> 
         ensures same_reference { self.new.rtc.ghost_name ≡ self.old.rtc.ghost_name }
         ensures does { RemovesRx M.media ssrc self.old.rtc.now result self.new.rtc.now }
     {
-        remove_stream_rx(self.rtc, ssrc)
+        let rtc = &mut *self.rtc;
+        remove_stream_rx(&mut rtc.polled, ssrc)
     }
 
     /// Drops the stream of a source that is sent. False where there is none.
@@ -100,6 +108,7 @@ impl<'a, I: IceAgent, D: DtlsInstance, S: Association, M: MediaSession, N: Ids> 
         ensures same_reference { self.new.rtc.ghost_name ≡ self.old.rtc.ghost_name }
         ensures does { RemovesTx M.media ssrc self.old.rtc.now result self.new.rtc.now }
     {
-        remove_stream_tx(self.rtc, ssrc)
+        let rtc = &mut *self.rtc;
+        remove_stream_tx(&mut rtc.polled, ssrc)
     }
 }

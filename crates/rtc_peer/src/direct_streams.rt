@@ -44,7 +44,8 @@ impl<'a, I: IceAgent, D: DtlsInstance, S: Association, M: MediaSession, N: Ids> 
             (λ n. (n.rtc.ghost_name ≡ self.old.rtc.ghost_name) × (n.rtc.now ≡ self.old.rtc.now))) }
         ensures answer { StreamAnswers (gives_no_rx M.media ssrc rtx mid rid self.old.rtc.now) result }
     {
-        make_stream_rx(self.rtc, ssrc, rtx, mid, rid)
+        let rtc = &mut *self.rtc;
+        make_stream_rx(&mut rtc.polled, ssrc, rtx, mid, rid)
     }
 
     /// Makes the stream of a source to be sent, or replaces it, and lends it. The error says why there is none.
@@ -63,7 +64,8 @@ impl<'a, I: IceAgent, D: DtlsInstance, S: Association, M: MediaSession, N: Ids> 
             (λ n. (n.rtc.ghost_name ≡ self.old.rtc.ghost_name) × (n.rtc.now ≡ self.old.rtc.now))) }
         ensures answer { StreamAnswers (gives_no_tx M.media ssrc rtx mid rid self.old.rtc.now) result }
     {
-        make_stream_tx(self.rtc, ssrc, rtx, mid, rid)
+        let rtc = &mut *self.rtc;
+        make_stream_tx(&mut rtc.polled, ssrc, rtx, mid, rid)
     }
 
     /// `make_stream_rx` with None where no row of media has the mid, and where the media part has no such stream.
@@ -104,7 +106,8 @@ impl<'a, I: IceAgent, D: DtlsInstance, S: Association, M: MediaSession, N: Ids> 
             (λ n. (n.rtc.ghost_name ≡ self.old.rtc.ghost_name) × (n.rtc.now ≡ self.old.rtc.now))) }
         ensures found { is_some result ≡ M.media.has_rx self.old.rtc.now.core.media ssrc }
     {
-        lend_stream_rx(self.rtc, ssrc)
+        let rtc = &mut *self.rtc;
+        lend_stream_rx(&mut rtc.polled, ssrc)
     }
 
     /// The stream of a source that is sent.
@@ -117,7 +120,8 @@ impl<'a, I: IceAgent, D: DtlsInstance, S: Association, M: MediaSession, N: Ids> 
             (λ n. (n.rtc.ghost_name ≡ self.old.rtc.ghost_name) × (n.rtc.now ≡ self.old.rtc.now))) }
         ensures found { is_some result ≡ M.media.has_tx self.old.rtc.now.core.media ssrc }
     {
-        lend_stream_tx(self.rtc, ssrc)
+        let rtc = &mut *self.rtc;
+        lend_stream_tx(&mut rtc.polled, ssrc)
     }
 
     /// The stream of a line and a layer that is received.
@@ -130,7 +134,8 @@ impl<'a, I: IceAgent, D: DtlsInstance, S: Association, M: MediaSession, N: Ids> 
             (λ n. (n.rtc.ghost_name ≡ self.old.rtc.ghost_name) × (n.rtc.now ≡ self.old.rtc.now))) }
         ensures found { is_some result ≡ M.media.has_rx_named self.old.rtc.now.core.media mid rid }
     {
-        lend_stream_rx_by_mid(self.rtc, mid, rid)
+        let rtc = &mut *self.rtc;
+        lend_stream_rx_by_mid(&mut rtc.polled, mid, rid)
     }
 
     /// The stream of a line and a layer that is sent.
@@ -143,7 +148,8 @@ impl<'a, I: IceAgent, D: DtlsInstance, S: Association, M: MediaSession, N: Ids> 
             (λ n. (n.rtc.ghost_name ≡ self.old.rtc.ghost_name) × (n.rtc.now ≡ self.old.rtc.now))) }
         ensures found { is_some result ≡ M.media.has_tx_named self.old.rtc.now.core.media mid rid }
     {
-        lend_stream_tx_by_mid(self.rtc, mid, rid)
+        let rtc = &mut *self.rtc;
+        lend_stream_tx_by_mid(&mut rtc.polled, mid, rid)
     }
 
     /// Gives the stream of a line and a layer that is sent a new source. None where there is no such stream, or where it has this
@@ -163,6 +169,7 @@ impl<'a, I: IceAgent, D: DtlsInstance, S: Association, M: MediaSession, N: Ids> 
             (λ n. (n.rtc.ghost_name ≡ self.old.rtc.ghost_name) × (n.rtc.now ≡ self.old.rtc.now))) }
         ensures found { is_some result ≡ M.media.resets_tx self.old.rtc.now.core.media mid rid new_ssrc new_rtx }
     {
-        reset_stream_tx(self.rtc, mid, rid, new_ssrc, new_rtx)
+        let rtc = &mut *self.rtc;
+        reset_stream_tx(&mut rtc.polled, mid, rid, new_ssrc, new_rtx)
     }
 }

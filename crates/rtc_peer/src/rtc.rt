@@ -1,6 +1,5 @@
 //! The peer that callers hold.
 ghost use Rattle.std.specs.Prelude.{◌≡◌, [], IfOk, IfSome, slice_get, true};
-ghost use Rattle.std.specs.Borrow.{Lends, sem};
 ghost use Rattle.std.specs.Option.{option_copied};
 ghost use Rattle.rtc_peer_state.specs.declared.phase.Phase.TheVariants.{Closed};
 ghost use Rattle.rtc_peer_state.specs.ChannelRows.{channel_rows};
@@ -10,8 +9,6 @@ ghost use Rattle.rtc_peer_state.specs.Formed.{AreSdpCreds, IsFormed};
 ghost use Rattle.rtc_peer_state.specs.Meanings.{meanings};
 ghost use Rattle.rtc_peer_state.specs.Stance.{stance_of};
 ghost use Rattle.rtc_connection.specs.Connection.{no_transport};
-ghost use Rattle.rtc_connection.specs.contracts.polled_peer.PolledPeer.{the_row as polled_row};
-ghost use Rattle.rtc_peer.specs.contracts.rtc.Rtc.{the_row as rtc_row};
 ghost use Rattle.rtc_peer.specs.Readings.{media_row_of, is_alive_phase, AddsRemote};
 
 use crate::SdpApi;
@@ -101,22 +98,17 @@ impl<
     }
 }
 
-impl<I, D, S, M, N> Rtc<I, D, S, M, N> {
+impl<I: IceAgent, D: DtlsInstance, S: Association, M: MediaSession, N: Ids> Rtc<I, D, S, M, N> {
     /// A handle on the negotiation. What was staged before and not applied is dropped.
     pub fn sdp_api(&mut self) -> SdpApi<'_, I, D, S, M, N>
-        ensures* leaves { sem 𝓛 (Lends (rtc_row I.row D.row S.row M.row N.row)
-            (polled_row I.row D.row S.row M.row N.row) self.entry result.rtc (λ polled. polled)) }
+        ensures same_reference { result.rtc.ghost_name ≡ self.entry.ghost_name }
         ensures peer { result.rtc.now.core ≡ record self.old.core { staged = [] } }
         ensures connection { result.rtc.now.transport ≡ self.old.transport }
     {
         self.polled.core.staged.clear();
-        SdpApi {
-            rtc: &mut self.polled,
-        }
+        SdpApi { rtc: self }
     }
-}
 
-impl<I: IceAgent, D: DtlsInstance, S: Association, M: MediaSession, N: Ids> Rtc<I, D, S, M, N> {
     /// The rows, by place; they are a table.
     pub fn lines(&self) -> &Lines
         ensures { result.now ≡ self.now.core.lines }

@@ -7,9 +7,9 @@ ghost use Rattle.rtc_peer.specs.Described.{sdp_of_answer, sdp_of_offer};
 ghost use Rattle.rtc_peer.specs.Labelled.{labelled_config};
 ghost use Rattle.rtc_peer.specs.WantedLine.{wanted_line};
 
+use crate::Rtc;
 use rtc_association::Association;
 use rtc_change::{Lines, SdpPendingOffer};
-use rtc_connection::PolledPeer;
 use rtc_dtls::DtlsInstance;
 use rtc_ice::IceAgent;
 use rtc_ids::Ids;
@@ -27,7 +27,7 @@ use std::alloc::AllocError;
 /// stopped stays so.
 #[derive(Drop)]
 pub struct SdpApi<'a, I, D, S, M, N> {
-    pub(crate) rtc: &'a mut PolledPeer<I, D, S, M, N>,
+    pub(crate) rtc: &'a mut Rtc<I, D, S, M, N>,
 }
 
 impl<'a, I: IceAgent, D: DtlsInstance, S: Association, M: MediaSession, N: Ids> SdpApi<
@@ -47,7 +47,7 @@ impl<'a, I: IceAgent, D: DtlsInstance, S: Association, M: MediaSession, N: Ids> 
         ensures connection { self.exit.0.now.transport ≡ self.entry.rtc.now.transport }
     {
         let rtc = &mut *self.rtc;
-        match accept_offer(&mut rtc.core, offer.0) {
+        match accept_offer(&mut rtc.polled.core, offer.0) {
             Ok(answer) => Ok(SdpAnswer(answer)),
             Err(error) => Err(error),
         }
@@ -61,7 +61,7 @@ impl<'a, I: IceAgent, D: DtlsInstance, S: Association, M: MediaSession, N: Ids> 
         ensures connection { self.exit.0.now.transport ≡ self.entry.rtc.now.transport }
     {
         let rtc = &mut *self.rtc;
-        accept_answer(&mut rtc.core, pending, answer.0)
+        accept_answer(&mut rtc.polled.core, pending, answer.0)
     }
 
     /// Whether something is staged.
@@ -69,15 +69,14 @@ impl<'a, I: IceAgent, D: DtlsInstance, S: Association, M: MediaSession, N: Ids> 
         ensures { IsTrue result ↔ (self.now.rtc.now.core.staged ≢ []) }
     {
         let rtc = &*self.rtc;
-        !rtc.core.staged.is_empty()
+        !rtc.polled.core.staged.is_empty()
     }
 
     /// The peer's rows as they are now.
     pub fn lines(&self) -> &Lines
         ensures { result.now ≡ self.now.rtc.now.core.lines }
     {
-        let rtc = &*self.rtc;
-        &rtc.core.lines
+        self.rtc.lines()
     }
 
     /// Stages a media line, and answers its mid, which no row and no staged line has.
@@ -98,7 +97,14 @@ impl<'a, I: IceAgent, D: DtlsInstance, S: Association, M: MediaSession, N: Ids> 
         ensures connection { self.new.rtc.now.transport ≡ self.old.rtc.now.transport }
     {
         let rtc = &mut *self.rtc;
-        stage_media(&mut rtc.core, kind, dir, stream_id, track_id, simulcast)
+        stage_media(
+            &mut rtc.polled.core,
+            kind,
+            dir,
+            stream_id,
+            track_id,
+            simulcast,
+        )
     }
 
     /// Stages a data channel with a label, and answers its number: ordered, reliable, announced by an open message.
@@ -109,9 +115,9 @@ impl<'a, I: IceAgent, D: DtlsInstance, S: Association, M: MediaSession, N: Ids> 
         ensures connection { self.new.rtc.now.transport ≡ self.old.rtc.now.transport }
     {
         let rtc = &mut *self.rtc;
-        let mut config = ChannelConfig::new(rtc.core.alloc);
+        let mut config = ChannelConfig::new(rtc.polled.core.alloc);
         config.label = Text::new(label);
-        stage_channel(&mut rtc.core, config)
+        stage_channel(&mut rtc.polled.core, config)
     }
 
     /// Stages a data channel, and answers its number, which no channel of the peer had before (RFC 8831, section 6.4).
@@ -125,7 +131,7 @@ impl<'a, I: IceAgent, D: DtlsInstance, S: Association, M: MediaSession, N: Ids> 
         ensures connection { self.new.rtc.now.transport ≡ self.old.rtc.now.transport }
     {
         let rtc = &mut *self.rtc;
-        stage_channel(&mut rtc.core, config)
+        stage_channel(&mut rtc.polled.core, config)
     }
 
     /// Sets the direction of a live media line, and stages it (RFC 8829, section 4.2.3).
@@ -138,7 +144,7 @@ impl<'a, I: IceAgent, D: DtlsInstance, S: Association, M: MediaSession, N: Ids> 
         ensures connection { self.new.rtc.now.transport ≡ self.old.rtc.now.transport }
     {
         let rtc = &mut *self.rtc;
-        set_direction(&mut rtc.core, mid, dir)
+        set_direction(&mut rtc.polled.core, mid, dir)
     }
 
     /// Stops a live media line for good, and stages it (RFC 8829, section 4.2.1).
@@ -152,7 +158,7 @@ impl<'a, I: IceAgent, D: DtlsInstance, S: Association, M: MediaSession, N: Ids> 
         ensures connection { self.new.rtc.now.transport ≡ self.old.rtc.now.transport }
     {
         let rtc = &mut *self.rtc;
-        stop_media(&mut rtc.core, mid)
+        stop_media(&mut rtc.polled.core, mid)
     }
 
     /// Stages a restart of ICE with new credentials, which are drawn and answered, in place of one that was staged
@@ -164,7 +170,7 @@ impl<'a, I: IceAgent, D: DtlsInstance, S: Association, M: MediaSession, N: Ids> 
         ensures connection { self.new.rtc.now.transport ≡ self.old.rtc.now.transport }
     {
         let rtc = &mut *self.rtc;
-        stage_restart(&mut rtc.core, keep_local_candidates)
+        stage_restart(&mut rtc.polled.core, keep_local_candidates)
     }
 
     /// Makes the offer of what is staged, with the token that `accept_answer` takes with its answer.
@@ -177,7 +183,7 @@ impl<'a, I: IceAgent, D: DtlsInstance, S: Association, M: MediaSession, N: Ids> 
         ensures connection { self.exit.0.now.transport ≡ self.entry.rtc.now.transport }
     {
         let rtc = &mut *self.rtc;
-        match apply_staged(&mut rtc.core)? {
+        match apply_staged(&mut rtc.polled.core)? {
             Some((offer, token)) => Ok(Some((SdpOffer(offer), token))),
             None => Ok(None),
         }
