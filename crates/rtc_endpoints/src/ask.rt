@@ -1,24 +1,10 @@
-//! Calls whose answer is a bool.
-use rtc_peer::{Direction, Mid};
-use rtc_wire::ChannelId;
+//! What a peer is asked that polls bring about.
 
-/// A call of a peer. What each is asked for holds where the call succeeds, and answers true.
+/// A question to a peer. Hosts are given by their numbers.
 #[derive(Clone, Copy)]
 pub enum Ask {
-    /// Datagrams, messages and media can go both ways.
-    BeConnected,
-    /// The peer begins to close.
-    Close,
-    /// A channel is closed.
-    CloseChannel(ChannelId),
-    /// The channels are listed.
-    ListChannels,
-    /// A media line has another direction.
-    SetLine(Mid, Direction),
-    /// A media line is stopped for good.
-    StopLine(Mid),
-    /// A line of audio is staged.
-    StageLine,
-    /// A restart of ICE is staged.
-    StageRestart,
+    /// Whether datagrams, messages and media can go both ways.
+    IsConnected,
+    /// Whether a DTLS packet from the first host to the second one is for the peer.
+    Accepts(u8, u8),
 }

@@ -7,6 +7,8 @@ use rtc_wire::ChannelId;
 pub enum AskDirect {
     /// The ICE agent is the controlling one, and is not lite.
     TakeControl,
+    /// The credentials of this side have the user fragment `own`.
+    HaveOwnCreds,
     /// The other side's certificate and the version of DTLS are not known.
     KnowNothing,
     /// DTLS starts as the active side, or as the passive one.

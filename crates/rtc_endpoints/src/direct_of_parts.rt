@@ -1,13 +1,16 @@
 //! Peers that are driven without session descriptions.
 use crate::{AskDirect, AskStreams, Direct};
 use rtc_cases::{is_ok, is_true};
-use rtc_peer::{
-    Association, DtlsInstance, IceAgent, IceCreds, Ids, MediaSession, Rtc, RtcError, SctpInitData,
-    Ssrc,
-};
+use rtc_peer::{Association, DtlsInstance, IceAgent, IceCreds, Ids, MediaSession, Rtc, Ssrc};
 use rtc_plain::PlainMark;
-use rtc_wire::{ChannelConfig, ChannelId};
 use std::alloc::AllocError;
+
+fn has_ufrag(creds: Result<IceCreds, AllocError>, ufrag: &str) -> bool {
+    match creds {
+        Ok(creds) => creds.ufrag.as_str() == ufrag,
+        Err(_) => false,
+    }
+}
 
 // Whether there is a stream, which is marked.
 fn marks(mark: Option<&mut PlainMark>, count: u64) -> bool {
@@ -50,6 +53,7 @@ impl<
                 api.set_ice_lite(false);
                 true
             }
+            AskDirect::HaveOwnCreds => has_ufrag(api.local_ice_credentials(), "own"),
             AskDirect::KnowNothing => {
                 api.remote_dtls_fingerprint().is_none() & api.dtls_protocol_version().is_none()
             }
@@ -108,17 +112,5 @@ impl<
             AskStreams::DropReceived(ssrc) => api.remove_stream_rx(Ssrc(ssrc)),
             AskStreams::DropSent(ssrc) => api.remove_stream_tx(Ssrc(ssrc)),
         }
-    }
-
-    fn own_creds(&mut self) -> Result<IceCreds, AllocError> {
-        self.direct_api().local_ice_credentials()
-    }
-
-    fn start_by_halves(&mut self, client: bool, halves: SctpInitData) -> Result<(), RtcError> {
-        self.direct_api().start_sctp_with_snap(client, halves)
-    }
-
-    fn make_channel(&mut self, config: ChannelConfig) -> Result<ChannelId, RtcError> {
-        self.direct_api().create_data_channel(config)
     }
 }

@@ -1,60 +1,88 @@
-//! Datagrams between two peers.
-use crate::{Endpoint, deliver};
-use rtc_peer::{Input, Output, RtcError};
-use rtc_plain::PlainMediaEvent;
-use rtc_wire::{Moment, Span, release};
+//! Two peers that agree on channels, and the datagrams between them.
+use crate::{Outputs, Polled, Signals, Texts, Way, Wire};
+use rtc_wire::{Moment, Span, Transmit};
+use std::alloc::Global;
 
-// Enough for a handshake and an opening.
-const ROUNDS: usize = 8;
+// Polls a peer up to a timeout or an error.
+fn drain<P: Polled>(peer: &mut P, outputs: &mut Outputs) {
+    for _ in 0..u32::MAX {
+        if !peer.give_next(outputs) {
+            return;
+        }
+    }
+}
 
-// More than a peer has to give at once in these rounds.
-const OUTPUTS: usize = 1000;
-
-// Hands a datagram on. It answers whether more may come.
-fn hand_on<P: Endpoint>(
-    to: &mut P,
+// A datagram comes so often, and the peer is polled after each.
+fn arrive<P: Polled>(
+    peer: &mut P,
     now: Moment,
-    output: &Output<PlainMediaEvent>,
-) -> Result<bool, RtcError> {
-    match output {
-        Output::Timeout(_) => Ok(false),
-        Output::Transmit(transmit) => {
-            deliver(to, now, transmit)?;
-            Ok(true)
+    transmit: &Transmit,
+    arrivals: u32,
+    outputs: &mut Outputs,
+) {
+    for _ in 0..arrivals {
+        peer.hear(now, Some(transmit), outputs);
+        drain(peer, outputs);
+    }
+}
+
+// Gives a peer what comes of the datagrams that the other one sent.
+fn hear<P: Polled>(
+    peer: &mut P,
+    now: Moment,
+    way: &mut Way,
+    sent: &[Transmit],
+    outputs: &mut Outputs,
+) {
+    for transmit in sent {
+        arrive(peer, now, transmit, way.arrivals(), outputs);
+    }
+}
+
+/// Polls both peers, and hands on what comes of their datagrams, until neither has one to send.
+pub fn settle<P: Polled>(left: &mut P, right: &mut P, wire: &mut Wire) {
+    drain(left, &mut wire.left);
+    drain(right, &mut wire.right);
+    for _ in 0..u32::MAX {
+        if wire.left.sent.is_empty() && wire.right.sent.is_empty() {
+            return;
         }
-        Output::Event(_) => Ok(true),
+        hear(
+            right,
+            wire.now,
+            &mut wire.way,
+            wire.left.sent.as_slice(),
+            &mut wire.right,
+        );
+        wire.left.sent.clear();
+        hear(
+            left,
+            wire.now,
+            &mut wire.way,
+            wire.right.sent.as_slice(),
+            &mut wire.left,
+        );
+        wire.right.sent.clear();
     }
 }
 
-fn relay_one<P: Endpoint>(from: &mut P, to: &mut P, now: Moment) -> Result<bool, RtcError> {
-    let output = from.give_output()?;
-    let more = hand_on(to, now, &output);
-    release(output, more)
+/// Time passes, both peers are given the moment, and their datagrams go on.
+pub fn pass<P: Polled>(left: &mut P, right: &mut P, wire: &mut Wire, span: Span) {
+    wire.now = wire.now.plus(span);
+    left.hear(wire.now, None, &mut wire.left);
+    right.hear(wire.now, None, &mut wire.right);
+    settle(left, right, wire);
 }
 
-// The datagrams of a peer go to the other one.
-fn relay<P: Endpoint>(from: &mut P, to: &mut P, now: Moment) -> Result<(), RtcError> {
-    for _ in 0..OUTPUTS {
-        if !relay_one(from, to, now)? {
-            return Ok(());
-        }
-    }
-    Ok(())
-}
-
-// Gives a peer the moment, and its datagrams to the other one.
-fn wake<P: Endpoint>(from: &mut P, to: &mut P, now: Moment) -> Result<(), RtcError> {
-    from.take_input(&Input::Timeout(now))?;
-    relay(from, to, now)
-}
-
-/// Exchanges datagrams, from moment 0 on; twenty milliseconds pass before each round. What peers tell is dropped.
-pub fn exchange<P: Endpoint>(left: &mut P, right: &mut P) -> Result<(), RtcError> {
-    let mut now = Moment::FAR_PAST;
-    for _ in 0..ROUNDS {
-        now = now.plus(Span::from_millis(20));
-        wake(left, right, now)?;
-        wake(right, left, now)?;
-    }
-    Ok(())
+/// Gives two peers the addresses of the hosts 1 and 2, and has them agree on so many channels without a label. It answers whether they do.
+pub fn meet<P: Signals>(
+    alloc: Global,
+    left: &mut P,
+    right: &mut P,
+    channels: u32,
+    texts: &mut Texts,
+) -> bool {
+    let near = left.add_host(alloc, 1);
+    let far = right.add_host(alloc, 2);
+    near & far & left.agree(right, alloc, channels, texts)
 }

@@ -1,30 +1,44 @@
-//! What programs ask of peers and of two of them: calls, rounds of an offer and an answer, and datagrams between both.
+//! What programs ask of peers and of two of them: rounds of an offer and an answer over their texts, and datagrams between both.
 #![tactic(auto)]
 
-mod agreeing;
 mod ask;
 mod ask_direct;
 mod ask_streams;
-mod connecting;
-mod delivering;
+mod counting;
 mod direct;
 mod direct_of_parts;
-mod endpoint;
-mod endpoint_of_parts;
 mod exchanging;
-mod finishing;
+mod fault;
 mod given;
 mod hosts;
+mod layers;
+mod outputs;
+mod polled;
+mod polled_of_parts;
+mod reply;
+mod signals;
+mod signals_of_parts;
+mod takes;
+mod takes_of_parts;
+mod texts;
+mod way;
+mod wire;
 
-pub use agreeing::agree_on_channel;
 pub use ask::Ask;
 pub use ask_direct::AskDirect;
 pub use ask_streams::AskStreams;
-pub use connecting::connect;
-pub use delivering::deliver;
+pub use counting::has_lines;
 pub use direct::Direct;
-pub use endpoint::Endpoint;
-pub use exchanging::exchange;
-pub use finishing::finish;
+pub use exchanging::{meet, pass, settle};
+pub use fault::Fault;
 pub use given::Given;
-pub use hosts::{add_host, add_hosts, candidate, host};
+pub use hosts::{candidate, host};
+pub use layers::Layers;
+pub use outputs::Outputs;
+pub use polled::Polled;
+pub use reply::Reply;
+pub use signals::Signals;
+pub use takes::Takes;
+pub use texts::Texts;
+pub use way::Way;
+pub use wire::Wire;

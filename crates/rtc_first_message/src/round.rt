@@ -3,62 +3,49 @@ use rtc_peer::{
     Association, Direction, DtlsInstance, IceAgent, Ids, Lines, MediaKind, MediaSession, Rtc,
     RtcError, SdpAnswer, SdpOffer, SdpPendingOffer,
 };
-use rtc_wire::{ChannelId, Text};
+use rtc_wire::{ChannelId, release};
 use std::alloc::{AllocError, Global};
 
-fn offer_line<I: IceAgent, D: DtlsInstance, S: Association, M: MediaSession, N: Ids>(
-    left: &mut Rtc<I, D, S, M, N>,
-    kind: MediaKind,
-    dir: Direction,
-) -> Result<Option<(SdpOffer, SdpPendingOffer)>, AllocError> {
-    let mut api = left.sdp_api();
-    api.add_media(kind, dir, None, None, None)?;
-    api.apply()
+// Signalling would carry the text of the offer. It is read at the other side.
+fn deliver_offer(alloc: Global, offer: SdpOffer) -> Result<SdpOffer, RtcError> {
+    let text = offer.to_sdp_string();
+    let text = release(offer, text)?;
+    let read = SdpOffer::from_sdp_string(alloc, text.as_str());
+    Ok(release(text, read)?)
 }
 
-fn offer_channel<I: IceAgent, D: DtlsInstance, S: Association, M: MediaSession, N: Ids>(
-    left: &mut Rtc<I, D, S, M, N>,
-    label: String,
-) -> Result<(ChannelId, Option<(SdpOffer, SdpPendingOffer)>), RtcError> {
-    let mut api = left.sdp_api();
-    let channel = api.add_channel(label)?;
-    let made = api.apply()?;
-    Ok((channel, made))
+fn deliver_answer(alloc: Global, answer: SdpAnswer) -> Result<SdpAnswer, RtcError> {
+    let text = answer.to_sdp_string();
+    let text = release(answer, text)?;
+    let read = SdpAnswer::from_sdp_string(alloc, text.as_str());
+    Ok(release(text, read)?)
 }
 
+// What the left side reads of the answer.
 fn answer<I: IceAgent, D: DtlsInstance, S: Association, M: MediaSession, N: Ids>(
     alloc: Global,
     right: &mut Rtc<I, D, S, M, N>,
-    text: &str,
-) -> Result<Text, RtcError> {
-    let offer = SdpOffer::from_sdp_string(alloc, text)?;
+    offer: SdpOffer,
+) -> Result<SdpAnswer, RtcError> {
+    let offer = deliver_offer(alloc, offer)?;
     let answer = right.sdp_api().accept_offer(offer)?;
-    Ok(answer.to_sdp_string()?)
+    deliver_answer(alloc, answer)
 }
 
-fn finish<I: IceAgent, D: DtlsInstance, S: Association, M: MediaSession, N: Ids>(
-    alloc: Global,
-    left: &mut Rtc<I, D, S, M, N>,
-    token: SdpPendingOffer,
-    text: &str,
-) -> Result<(), RtcError> {
-    let answer = SdpAnswer::from_sdp_string(alloc, text)?;
-    left.sdp_api().accept_answer(token, answer)
-}
-
-// The text of each goes to the other side.
+// The token stays with the side that made the offer.
 fn negotiate<I: IceAgent, D: DtlsInstance, S: Association, M: MediaSession, N: Ids>(
     alloc: Global,
     left: &mut Rtc<I, D, S, M, N>,
     right: &mut Rtc<I, D, S, M, N>,
     made: Option<(SdpOffer, SdpPendingOffer)>,
 ) -> Result<(), RtcError> {
-    let Some((offer, token)) = made else {
-        return Ok(());
-    };
-    let text = offer.to_sdp_string()?;
-    let text = answer(alloc, right, text.as_str())?;
-    finish(alloc, left, token, text.as_str())
+    match made {
+        Some((offer, token)) => match answer(alloc, right, offer) {
+            Ok(answer) => left.sdp_api().accept_answer(token, answer),
+            Err(error) => release(token, Err(error)),
+        },
+        None => Ok(()),
+    }
 }
 
 /// Two peers agree on an audio line that the left one sends.
@@ -67,7 +54,9 @@ pub fn agree_on_line<I: IceAgent, D: DtlsInstance, S: Association, M: MediaSessi
     left: &mut Rtc<I, D, S, M, N>,
     right: &mut Rtc<I, D, S, M, N>,
 ) -> Result<(), RtcError> {
-    let made = offer_line(left, MediaKind::Audio, Direction::SendOnly)?;
+    let mut api = left.sdp_api();
+    api.add_media(MediaKind::Audio, Direction::SendOnly, None, None, None)?;
+    let made = api.apply()?;
     negotiate(alloc, left, right, made)
 }
 
@@ -76,9 +65,11 @@ pub fn agree_on_channel<I: IceAgent, D: DtlsInstance, S: Association, M: MediaSe
     alloc: Global,
     left: &mut Rtc<I, D, S, M, N>,
     right: &mut Rtc<I, D, S, M, N>,
+    label: String,
 ) -> Result<ChannelId, RtcError> {
-    let label = String::from_str(alloc, "chat")?;
-    let (channel, made) = offer_channel(left, label)?;
+    let mut api = left.sdp_api();
+    let channel = api.add_channel(label)?;
+    let made = api.apply()?;
     negotiate(alloc, left, right, made)?;
     Ok(channel)
 }

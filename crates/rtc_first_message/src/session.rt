@@ -5,7 +5,7 @@ use rtc_peer::{
     RtcError,
 };
 use rtc_plain::PlainMediaEvent;
-use rtc_wire::{ChannelId, Moment, Receive, Span, Transmit};
+use rtc_wire::{ChannelId, Moment, Receive, Span, release};
 use std::alloc::{AllocError, Global};
 
 // Enough for a handshake, for an opening, and for a message of this size.
@@ -14,10 +14,11 @@ const ROUNDS: usize = 8;
 // More than a peer of this program has to give at once.
 const OUTPUTS: usize = 1000;
 
-/// The moment that it is, and what each peer told so far.
+/// The moment that it is, and what is to be printed: the lines of both peers, and what each told so far.
 #[derive(Drop)]
 pub struct Session {
     pub now: Moment,
+    pub lines: String,
     pub left: String,
     pub right: String,
 }
@@ -27,25 +28,38 @@ impl Session {
     pub fn new(alloc: Global) -> Session {
         Session {
             now: Moment::FAR_PAST,
+            lines: String::new(alloc),
             left: String::new(alloc),
             right: String::new(alloc),
         }
     }
 }
 
-// A socket would carry the datagram.
-fn deliver<
+// A datagram goes to the other peer, where a socket would carry it, and an event is told. It answers whether more may come.
+fn hand_on<
     I: IceAgent,
     D: DtlsInstance,
     S: Association,
     M: MediaSession<E = PlainMediaEvent>,
     N: Ids,
->(to: &mut Rtc<I, D, S, M, N>, now: Moment, transmit: &Transmit) -> Result<(), RtcError> {
-    let received = Receive::from_transmit::<I>(transmit)?;
-    to.handle_input(&Input::Receive(now, received))
+>(
+    to: &mut Rtc<I, D, S, M, N>,
+    now: Moment,
+    output: &Output<PlainMediaEvent>,
+    told: &mut String,
+) -> Result<bool, RtcError> {
+    match output {
+        Output::Timeout(_) => return Ok(false),
+        Output::Transmit(transmit) => {
+            let received = Receive::from_transmit::<I>(transmit)?;
+            to.handle_input(&Input::Receive(now, received))?;
+        }
+        Output::Event(event) => tell(told, event)?,
+    }
+    Ok(true)
 }
 
-// All that a peer has to give: its datagrams go to the other one, and its events are told.
+// Gives a peer the moment, and hands on all that it has to give then.
 fn relay<
     I: IceAgent,
     D: DtlsInstance,
@@ -58,11 +72,12 @@ fn relay<
     now: Moment,
     told: &mut String,
 ) -> Result<(), RtcError> {
+    from.handle_input(&Input::Timeout(now))?;
     for _ in 0..OUTPUTS {
-        match from.poll_output()? {
-            Output::Timeout(_) => return Ok(()),
-            Output::Transmit(transmit) => deliver(to, now, &transmit)?,
-            Output::Event(event) => tell(told, &event)?,
+        let output = from.poll_output()?;
+        let more = hand_on(to, now, &output, told);
+        if !release(output, more)? {
+            return Ok(());
         }
     }
     Ok(())
@@ -82,10 +97,7 @@ fn exchange<
 ) -> Result<(), RtcError> {
     for _ in 0..ROUNDS {
         session.now = session.now.plus(Span::from_millis(20));
-        let timeout = Input::Timeout(session.now);
-        left.handle_input(&timeout)?;
         relay(left, right, session.now, &mut session.left)?;
-        right.handle_input(&timeout)?;
         relay(right, left, session.now, &mut session.right)?;
     }
     Ok(())
@@ -134,7 +146,7 @@ fn tell(told: &mut String, event: &Event<PlainMediaEvent>) -> Result<(), AllocEr
     }
 }
 
-/// The left peer opens a channel, writes `hello` and closes the channel and itself.
+/// The left peer opens a channel with a label, writes `hello` and closes the channel and itself.
 pub fn meet<
     I: IceAgent,
     D: DtlsInstance,
@@ -145,9 +157,10 @@ pub fn meet<
     alloc: Global,
     left: &mut Rtc<I, D, S, M, N>,
     right: &mut Rtc<I, D, S, M, N>,
+    label: String,
     session: &mut Session,
 ) -> Result<(), RtcError> {
-    let channel = agree_on_channel(alloc, left, right)?;
+    let channel = agree_on_channel(alloc, left, right, label)?;
     exchange(left, right, session)?;
     send(left, channel, "hello")?;
     exchange(left, right, session)?;

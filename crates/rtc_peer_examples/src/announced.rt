@@ -1,69 +1,50 @@
 //! Rounds whose answer announces a fingerprint that the certificate of its side has not (RFC 8122, section 6.2).
-use rtc_endpoints::{Ask, Endpoint, add_hosts, exchange, finish};
-use rtc_peer::{Fingerprint, RtcError, SdpAnswer, SdpOffer, Why};
-use rtc_wire::{Text, release};
+use crate::connected::exchange;
+use rtc_endpoints::{Ask, Fault, Polled, Signals, Texts, Way, Wire, meet};
 use std::alloc::{AllocError, Global};
 
-// The fingerprint of another certificate, or one by a function that peers do not know.
-fn other_fingerprint(alloc: Global, call: &str) -> Result<Option<Fingerprint>, AllocError> {
-    let mut announced = Fingerprint::of_certificate(alloc, b"abc", "sha-256")?;
-    if call == "unknown_hash_function" {
-        if let Some(fingerprint) = &mut announced {
-            fingerprint.hash_func = Text::from_str(alloc, "md5")?;
-        }
-    }
-    Ok(announced)
-}
+// The hash of the certificate `abc` (FIPS 180-2, appendix B.1), which is that of neither side.
+const OTHER_CERTIFICATE: &str =
+    "sha-256 BA:78:16:BF:8F:01:CF:EA:41:41:40:DE:5D:AE:22:23:B0:03:61:A3:96:17:7A:9C:B4:10:FF:61:F2:00:15:AD";
 
-// What a session announces counts for its lines.
-fn answer<P: Endpoint>(
-    right: &mut P,
-    offer: SdpOffer,
-    announced: Option<Fingerprint>,
-) -> Result<SdpAnswer, RtcError> {
-    let mut answer = right.accept_offer(offer)?;
-    answer.0.fingerprint = announced;
-    Ok(answer)
-}
+// One by a function that peers do not know.
+const UNKNOWN_HASH: &str = "md5 90:01:50:98:3C:D2:4F:B0:D6:96:3F:7D:28:E1:7F:72";
 
-fn agree<P: Endpoint>(
+// Whether two peers do not connect, and the one that was answered tells this cause.
+fn is_refused<P: Signals + Polled>(
+    alloc: Global,
     left: &mut P,
     right: &mut P,
-    label: String,
-    announced: Option<Fingerprint>,
-) -> Result<(), RtcError> {
-    let (_channel, made) = left.offer_channel(label)?;
-    match made {
-        Some((offer, token)) => finish(left, token, answer(right, offer, announced)),
-        None => Ok(()),
-    }
+    announced: &str,
+    fault: Fault,
+) -> Result<bool, AllocError> {
+    let mut texts = Texts::new(alloc);
+    texts.announce(announced)?;
+    let mut wire = Wire::new(alloc, Way::plain());
+    let met = meet(alloc, left, right, 1, &mut texts);
+    exchange(left, right, &mut wire);
+    let connected = left.holds(Ask::IsConnected) | right.holds(Ask::IsConnected);
+    Ok(met & !connected & (wire.left.fault == Some(fault)))
 }
 
-fn meet<P: Endpoint>(
+/// Whether two peers do not connect, and one of them tells why.
+pub fn does_refuse<P: Signals + Polled>(
     alloc: Global,
     left: &mut P,
     right: &mut P,
     call: &str,
-) -> Result<(), RtcError> {
-    add_hosts(alloc, left, right)?;
-    let announced = other_fingerprint(alloc, call)?;
-    agree(left, right, String::new(alloc), announced)?;
-    exchange(left, right)
-}
-
-// Whether a handshake was refused for the fingerprint.
-fn is_refused(call: &str, met: &Result<(), RtcError>) -> bool {
-    match met {
-        Err(RtcError::RemoteSdp(Why::NoMatch { .. })) => call == "another_certificate",
-        Err(RtcError::RemoteSdp(Why::UnknownHash(_))) => call == "unknown_hash_function",
-        _ => false,
+) -> Result<bool, AllocError> {
+    match call {
+        "another_certificate" => {
+            is_refused(
+                alloc,
+                left,
+                right,
+                OTHER_CERTIFICATE,
+                Fault::OtherCertificate,
+            )
+        }
+        "unknown_hash_function" => is_refused(alloc, left, right, UNKNOWN_HASH, Fault::UnknownHash),
+        _ => Ok(false),
     }
-}
-
-/// Whether two peers do not connect, and one of them tells why.
-pub fn does_refuse<P: Endpoint>(alloc: Global, left: &mut P, right: &mut P, call: &str) -> bool {
-    let met = meet(alloc, left, right, call);
-    let refused = is_refused(call, &met);
-    let connected = left.does(Ask::BeConnected) | right.does(Ask::BeConnected);
-    release(met, refused & !connected)
 }

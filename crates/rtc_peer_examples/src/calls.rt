@@ -1,29 +1,18 @@
 //! The examples by their names.
-use crate::{
-    announced, changes, channels, connected, copies, lines, parts, rounds, starts, streams,
-};
-use rtc_cases::{is_ok, is_true};
-use rtc_endpoints::{Ask, AskDirect, Direct, Endpoint, Given, candidate};
-use rtc_peer::{Input, MediaKind, Mid, RtcConfig};
+use crate::giving::takes;
+use crate::{announced, changes, channels, connected, copies, halves, lines, parts, streams};
+use rtc_cases::is_true;
+use rtc_endpoints::{Direct, Polled, Signals, Takes};
+use rtc_peer::{Mid, RtcConfig};
 use rtc_plain_peers::PairExamples;
-use rtc_wire::{ChannelConfig, Moment};
 use std::alloc::{AllocError, Global};
 use std::rt::Files;
 
-// What a peer without session descriptions does.
-fn drive<P: Direct + Endpoint>(
-    alloc: Global,
-    peer: &mut P,
-    mids: (Mid, Mid),
-    example: &str,
-) -> bool {
+// What is done on the lines and streams of a peer without session descriptions.
+fn do_agree_on_lines<P: Direct>(peer: &mut P, mids: (Mid, Mid), example: &str) -> bool {
     let (mid, other) = mids;
     match example {
-        "parts are set" => parts::set_parts(alloc, peer),
         "first role stays" => parts::keep_role(peer),
-        "association starts by both halves" => starts::start_by_halves(alloc, peer),
-        "halves are told by descriptions" => starts::tell_halves(alloc, peer),
-        "channels are made" => channels::make_channels(alloc, peer),
         "sources in use are passed over" => lines::pass_over_sources(peer, mid),
         "streams keep their marks" => streams::keep_marks(peer, mid),
         "streams go with their line" => streams::remove_streams(peer, mid),
@@ -33,91 +22,50 @@ fn drive<P: Direct + Endpoint>(
     }
 }
 
-fn adds_remote<P: Endpoint>(alloc: Global, peer: &mut P) -> Result<bool, AllocError> {
-    let remote = candidate(alloc, 2)?;
-    Ok(peer.takes(Given::Remote(remote)))
-}
-
-fn adds_local<P: Endpoint>(alloc: Global, peer: &mut P) -> Result<bool, AllocError> {
-    let local = candidate(alloc, 1)?;
-    Ok(peer.takes(Given::Local(local)))
-}
-
-// Both peers are built before. The left one is built of a config where the call is `build`, and the right one by `new`.
-fn is_built<P: Endpoint>(alloc: Global, call: &str) -> bool {
-    match call {
-        "new" => true,
-        "build" => true,
-        "builder" => is_ok(P::default_config(alloc)),
-        _ => false,
+// What a peer without session descriptions does.
+fn drive<P: Signals + Direct + Takes>(
+    alloc: Global,
+    left: &mut P,
+    right: &mut P,
+    mids: (Mid, Mid),
+    example: &str,
+) -> bool {
+    match example {
+        "parts are set" => parts::set_parts(alloc, left),
+        "association starts by both halves" => halves::start_by_halves(alloc, left),
+        "halves are told by descriptions" => halves::tell_halves(alloc, left, right),
+        "channels are made" => channels::make_channels(alloc, left),
+        _ => do_agree_on_lines(left, mids, example),
     }
 }
 
-fn is_called<P: Endpoint>(alloc: Global, peer: &mut P, call: &str) -> bool {
-    match call {
-        "add_local_candidate" => is_true(adds_local(alloc, peer)),
-        "add_remote_candidate" => is_true(adds_remote(alloc, peer)),
-        "channels" => peer.does(Ask::ListChannels),
-        "handle_input" => is_ok(peer.take_input(&Input::Timeout(Moment::FAR_PAST))),
-        "poll_output" => is_ok(peer.give_output()),
-        "close" => peer.does(Ask::Close),
-        _ => false,
-    }
-}
-
-fn stages_channel<P: Endpoint>(alloc: Global, peer: &mut P) -> Result<bool, AllocError> {
-    let label = String::from_str(alloc, "chat")?;
-    Ok(peer.takes(Given::Label(label)))
-}
-
-fn is_staged<P: Endpoint>(alloc: Global, peer: &mut P, call: &str) -> bool {
-    match call {
-        "add_media" => peer.does(Ask::StageLine),
-        "add_channel" => is_true(stages_channel(alloc, peer)),
-        "add_channel_with_config" => peer.takes(Given::Channel(ChannelConfig::new(alloc))),
-        "ice_restart" => peer.does(Ask::StageRestart),
-        _ => false,
-    }
-}
-
-fn is_direct<P: Direct>(alloc: Global, peer: &mut P, mid: Mid, call: &str) -> bool {
-    match call {
-        "local_ice_credentials" => is_ok(peer.own_creds()),
-        "start_dtls" => peer.does_directly(AskDirect::StartDtls(true)),
-        "start_sctp" => peer.does_directly(AskDirect::StartSctp(true)),
-        "start_sctp_with_snap" => is_true(starts::starts(alloc, peer)),
-        "create_data_channel" => is_ok(peer.make_channel(ChannelConfig::new(alloc))),
-        "close_data_channel" => channels::close_channel(alloc, peer),
-        "declare_media" => peer.does_directly(AskDirect::Declare(mid, MediaKind::Audio)),
-        "send_app_specific_feedback" => peer.does_directly(AskDirect::SendFeedback),
-        "send_pli_feedback" => peer.does_directly(AskDirect::WishPicture),
-        _ => false,
-    }
-}
-
-// Whether a call on one peer succeeds: it stands behind its subject.
-fn does_succeed<P: Direct + Endpoint>(alloc: Global, peer: &mut P, mid: Mid, name: &str) -> bool {
+// Whether a call on one peer succeeds: it stands behind its subject. Both peers are built before: the left one of a config where the call
+// is `build`, and the right one by `new`.
+fn does_succeed<P: Signals + Direct + Takes>(
+    alloc: Global,
+    peer: &mut P,
+    mid: Mid,
+    name: &str,
+) -> bool {
     match name.split_once(' ') {
-        Some(("Built", call)) => is_built::<P>(alloc, call),
-        Some(("Rtc", call)) => is_called(alloc, peer, call),
-        Some(("SdpApi", call)) => is_staged(alloc, peer, call),
-        Some(("DirectApi", call)) => is_direct(alloc, peer, mid, call),
+        Some(("Built", call)) => (call == "new") | (call == "build"),
+        Some(("Rtc", "add_local_candidate")) => peer.add_host(alloc, 1),
+        Some(("Rtc", "add_remote_candidate")) => takes(peer, parts::remote(alloc)),
         Some(("Streams", call)) => streams::does_succeed(peer, mid, call),
         _ => false,
     }
 }
 
 // Whether a call on two peers succeeds: it stands behind its subject.
-fn do_succeed<P: Endpoint>(alloc: Global, left: &mut P, right: &mut P, name: &str) -> bool {
+fn do_succeed<P: Signals + Polled>(alloc: Global, left: &mut P, right: &mut P, name: &str) -> bool {
     match name.split_once(' ') {
-        Some(("Rounds", call)) => rounds::does_succeed(left, right, call),
         Some(("Connected", call)) => connected::does_succeed(alloc, left, right, call),
-        Some(("Announced", call)) => announced::does_refuse(alloc, left, right, call),
+        Some(("Announced", call)) => is_true(announced::does_refuse(alloc, left, right, call)),
         _ => false,
     }
 }
 
-fn ask<P: Direct + Endpoint>(
+fn ask<P: Signals + Polled + Direct + Takes>(
     alloc: Global,
     left: &mut P,
     right: &mut P,
@@ -126,7 +74,7 @@ fn ask<P: Direct + Endpoint>(
     name: &str,
 ) -> bool {
     match subject {
-        "direct" => drive(alloc, left, mids, name),
+        "direct" => drive(alloc, left, right, mids, name),
         "memory" => does_succeed(alloc, left, mids.0, name),
         "call" => do_succeed(alloc, left, right, name),
         "changes" => changes::does_agree(alloc, left, right, mids, name),
@@ -155,7 +103,7 @@ impl PairExamples for Calls {
         Ok(None)
     }
 
-    fn does_agree<R: Files + AllocGlobal, P: Endpoint + Direct>(
+    fn does_agree<R: Files + AllocGlobal, P: Signals + Polled + Direct + Takes>(
         rt: &R,
         left: &mut P,
         right: &mut P,

@@ -1,12 +1,11 @@
 //! Staged changes: channels that are taken out of them, the lines that they add, and what peers tell of them.
 use crate::copies::media;
 use rtc_cases::{is_ok, is_true};
-use rtc_change::{Change, Changes, Lines, SdpPendingOffer, count_added};
-use rtc_delivery::{deliver_answer, deliver_offer};
-use rtc_endpoints::{Endpoint, add_host, finish};
-use rtc_lines::{Direction, LineRow, MediaKind, MediaLine, Mid, SdpAnswer, SdpOffer, Setup};
-use rtc_peer::{RtcConfig, RtcError};
-use rtc_wire::{ChannelConfig, ChannelId, Seq, release};
+use rtc_change::{Change, Changes, Lines, count_added};
+use rtc_endpoints::{Layers, Signals, Texts, has_lines};
+use rtc_lines::{Direction, LineRow, MediaKind, Mid};
+use rtc_peer::RtcConfig;
+use rtc_wire::{ChannelConfig, ChannelId, Seq, Text};
 use std::alloc::{AllocError, Global};
 
 // The offer of a peer whose numbers count up from 1, with the certificate "abc" (its hash is in FIPS 180-2, appendix B.1), one host
@@ -103,36 +102,16 @@ fn are_places_given(alloc: Global, mid: Mid, other: Mid) -> bool {
 }
 
 // Whether the offer of a first channel is written as it is to be.
-fn is_written(
-    made: &(ChannelId, Option<(SdpOffer, SdpPendingOffer)>),
-    expected: &str,
-) -> Result<bool, AllocError> {
-    let (id, Some((offer, _))) = made else {
-        return Ok(false);
-    };
-    let written = offer.to_sdp_string()?;
-    Ok((id.number() == 0) & (written.as_str() == expected))
-}
-
-fn writes_channel<P: Endpoint>(
+fn is_channel_offered<P: Signals>(
     alloc: Global,
     left: &mut P,
-    label: String,
+    right: &mut P,
     expected: &str,
-) -> Result<bool, RtcError> {
-    add_host(alloc, left, 1)?;
-    let made = left.offer_channel(label)?;
-    let written = is_written(&made, expected);
-    Ok(release(made, written)?)
-}
-
-fn is_channel_offered<P: Endpoint>(
-    alloc: Global,
-    left: &mut P,
-    expected: &str,
-) -> Result<bool, RtcError> {
-    let label = String::from_str(alloc, "ch1")?;
-    writes_channel(alloc, left, label, expected)
+) -> bool {
+    let mut texts = Texts::new(alloc);
+    let near = left.add_host(alloc, 1);
+    let agreed = left.agree(right, alloc, 1, &mut texts);
+    near & agreed & (texts.offer.as_str() == expected)
 }
 
 /// The config of a peer with the certificate `abc`.
@@ -142,103 +121,31 @@ pub fn certified(alloc: Global) -> Result<Option<RtcConfig>, AllocError> {
     Ok(Some(config.set_dtls_cert(cert)))
 }
 
-// Whether there are m-lines, and each has this setup.
-fn all_have_setup(lines: &[MediaLine], setup: Setup) -> bool {
-    for line in lines {
-        if line.setup != Some(setup) {
-            return false;
-        }
-    }
-    !lines.is_empty()
+// Whether a text has so many lines that leave the role in DTLS to the other side (RFC 8842, section 5.2).
+fn leaves_role(alloc: Global, text: &str, count: usize) -> bool {
+    is_true(has_lines(alloc, text, "a=setup:actpass", count))
 }
 
-// Whether the lines of an offer, as the other side reads it, leave the role in DTLS to that side (RFC 8842, section 5.2).
-fn leaves_role(offer: &SdpOffer, count: usize) -> bool {
-    let lines = offer.0.lines.as_slice();
-    (lines.len() == count) & all_have_setup(lines, Setup::ActPass)
-}
-
-// An offer as the other side reads it.
-fn read_offer(alloc: Global, offer: SdpOffer) -> Result<SdpOffer, RtcError> {
-    let delivered = deliver_offer(alloc, &offer);
-    Ok(release(offer, delivered)?)
-}
-
-// The answer to an offer, as the other side reads it.
-fn read_answer<P: Endpoint>(
-    alloc: Global,
-    right: &mut P,
-    offer: SdpOffer,
-) -> Result<SdpAnswer, RtcError> {
-    let answer = right.accept_offer(offer)?;
-    let delivered = deliver_answer(alloc, &answer);
-    Ok(release(answer, delivered)?)
-}
-
-// Whether an answer takes a role (RFC 8842, section 5.3).
-fn takes_role(answered: &Result<SdpAnswer, RtcError>) -> bool {
-    match answered {
-        Ok(answer) => all_have_setup(answer.0.lines.as_slice(), Setup::Passive),
+// Whether the offer of one more line leaves the role open again (RFC 8842, section 5.5).
+fn leaves_later_role(alloc: Global, text: Result<Text, AllocError>) -> bool {
+    match text {
+        Ok(text) => leaves_role(alloc, text.as_str(), 2),
         Err(_) => false,
     }
 }
 
-// Whether an offer leaves the role to the other side, and its answer takes one. The answer is accepted.
-fn agree<P: Endpoint>(
-    alloc: Global,
-    left: &mut P,
-    right: &mut P,
-    offer: SdpOffer,
-    token: SdpPendingOffer,
-) -> Result<bool, RtcError> {
-    let offered = leaves_role(&offer, 1);
-    let answered = read_answer(alloc, right, offer);
-    let taken = takes_role(&answered);
-    finish(left, token, answered)?;
-    Ok(offered & taken)
-}
-
-fn tell_first_roles<P: Endpoint>(
-    alloc: Global,
-    left: &mut P,
-    right: &mut P,
-    kind: MediaKind,
-) -> Result<bool, RtcError> {
-    let (_mid, made) = left.offer_media(kind, Direction::SendRecv, None)?;
-    match made {
-        Some((offer, token)) => match read_offer(alloc, offer) {
-            Ok(offer) => agree(alloc, left, right, offer, token),
-            Err(error) => release(token, Err(error)),
-        },
-        None => Ok(false),
-    }
-}
-
-// Whether the offer of one more line leaves the role open again (RFC 8842, section 5.5).
-fn tells_later_role<P: Endpoint>(
-    alloc: Global,
-    left: &mut P,
-    kind: MediaKind,
-) -> Result<bool, RtcError> {
-    let (_mid, made) = left.offer_media(kind, Direction::SendRecv, None)?;
-    let Some((offer, token)) = made else {
-        return Ok(false);
-    };
-    let offer = release(token, read_offer(alloc, offer))?;
-    let left_open = leaves_role(&offer, 2);
-    release(offer, Ok(left_open))
-}
-
-fn tell_roles<P: Endpoint>(alloc: Global, left: &mut P, right: &mut P) -> Result<bool, RtcError> {
-    if tell_first_roles(alloc, left, right, MediaKind::Audio)? {
-        tells_later_role(alloc, left, MediaKind::Video)
-    } else {
-        Ok(false)
-    }
+// Whether an offer leaves the role to the other side, whose answer takes one (RFC 8842, section 5.3), and a later one leaves it again.
+fn tell_roles<P: Signals>(alloc: Global, left: &mut P, right: &mut P) -> bool {
+    let mut texts = Texts::new(alloc);
+    let agreed = left.agree(right, alloc, 1, &mut texts);
+    let left_open = leaves_role(alloc, texts.offer.as_str(), 1);
+    let taken = is_true(has_lines(alloc, texts.answer.as_str(), "a=setup:passive", 1));
+    let later = leaves_later_role(alloc, left.offer_line(alloc, Layers::Three));
+    agreed & left_open & taken & later
 }
 
 /// Whether an example of changes gives what is expected.
-pub fn does_agree<P: Endpoint>(
+pub fn does_agree<P: Signals>(
     alloc: Global,
     left: &mut P,
     right: &mut P,
@@ -247,12 +154,10 @@ pub fn does_agree<P: Endpoint>(
 ) -> bool {
     let (mid, other) = mids;
     match example {
-        "are offered for either role and answered with one" => {
-            is_true(tell_roles(alloc, left, right))
-        }
+        "are offered for either role and answered with one" => tell_roles(alloc, left, right),
         "give places to the lines that they add" => are_places_given(alloc, mid, other),
         "of a channel are written in an offer" => {
-            is_true(is_channel_offered(alloc, left, CHANNEL_OFFER))
+            is_channel_offered(alloc, left, right, CHANNEL_OFFER)
         }
         "take their channels the last first" => are_channels_taken(alloc, mid),
         "to a table declare a line" => is_line_declared(alloc, mid),

@@ -1,5 +1,5 @@
-//! Runs stored examples of peers: of one that is driven without session descriptions, and calls that allocate, on one peer, in a round of
-//! two, and on two that are connected.
+//! Runs stored examples of peers: of one that is driven without session descriptions, of changes of lines, and of two that are connected,
+//! or are not since one announces another fingerprint.
 //!
 //! Each line of the input names a subject and an example of it. It is printed again behind `agrees`, or behind `differs` where a call
 //! answered anything but what is due, as want of memory.
@@ -11,10 +11,10 @@ mod changes;
 mod channels;
 mod connected;
 mod copies;
+mod giving;
+mod halves;
 mod lines;
 mod parts;
-mod rounds;
-mod starts;
 mod streams;
 
 use calls::Calls;

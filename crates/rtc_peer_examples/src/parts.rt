@@ -1,6 +1,6 @@
 //! What is set at the ICE agent and the DTLS part.
-use rtc_cases::is_true;
-use rtc_endpoints::{AskDirect, Direct, Endpoint, Given, candidate};
+use crate::giving::{refuses, takes};
+use rtc_endpoints::{AskDirect, Direct, Given, Takes, candidate};
 use rtc_peer::{Fingerprint, IceCreds};
 use rtc_wire::Text;
 use std::alloc::{AllocError, Global};
@@ -11,43 +11,45 @@ fn creds(alloc: Global, ufrag: &str, pass: &str) -> Result<IceCreds, AllocError>
     Ok(IceCreds { ufrag, pass })
 }
 
-fn has_own_creds<P: Direct>(peer: &mut P) -> Result<bool, AllocError> {
-    let creds = peer.own_creds()?;
-    Ok(creds.ufrag.as_str() == "own")
-}
-
-fn set_creds<P: Endpoint>(alloc: Global, peer: &mut P) -> Result<bool, AllocError> {
+fn own_creds(alloc: Global) -> Result<Given, AllocError> {
     let own = creds(alloc, "own", "ownpassword")?;
-    let other = creds(alloc, "other", "otherpassword")?;
-    let set = peer.takes(Given::OwnCreds(own));
-    Ok(set & peer.takes(Given::OtherCreds(other)))
+    Ok(Given::OwnCreds(own))
 }
 
-fn set_fingerprint<P: Endpoint>(alloc: Global, peer: &mut P) -> Result<bool, AllocError> {
+fn other_creds(alloc: Global) -> Result<Given, AllocError> {
+    let other = creds(alloc, "other", "otherpassword")?;
+    Ok(Given::OtherCreds(other))
+}
+
+fn announced(alloc: Global) -> Result<Given, AllocError> {
     match Fingerprint::of_certificate(alloc, b"abc", "sha-256")? {
-        Some(announced) => Ok(peer.takes(Given::Announced(announced))),
-        None => Ok(false),
+        Some(announced) => Ok(Given::Announced(announced)),
+        None => Err(AllocError),
     }
 }
 
-// Whether a candidate that was not added is none to invalidate.
-fn is_strange<P: Endpoint>(alloc: Global, peer: &mut P) -> Result<bool, AllocError> {
+fn withdrawn(alloc: Global) -> Result<Given, AllocError> {
     let strange = candidate(alloc, 1)?;
-    Ok(!peer.takes(Given::Withdrawn(strange)))
+    Ok(Given::Withdrawn(strange))
 }
 
-fn sets_creds<P: Direct + Endpoint>(alloc: Global, peer: &mut P) -> bool {
-    let set = is_true(set_creds(alloc, peer));
-    set & is_true(has_own_creds(peer))
+/// An address of the other side.
+pub fn remote(alloc: Global) -> Result<Given, AllocError> {
+    let remote = candidate(alloc, 2)?;
+    Ok(Given::Remote(remote))
 }
 
-/// The credentials that are set are those of this side; no certificate of the other side and no version is known yet.
-pub fn set_parts<P: Direct + Endpoint>(alloc: Global, peer: &mut P) -> bool {
+/// The credentials that are set are those of this side; a candidate that was not added is none to invalidate; no certificate of the other
+/// side and no version is known yet.
+pub fn set_parts<P: Direct + Takes>(alloc: Global, peer: &mut P) -> bool {
     let controls = peer.does_directly(AskDirect::TakeControl);
-    let set = sets_creds(alloc, peer);
-    let announced = is_true(set_fingerprint(alloc, peer));
-    let strange = is_true(is_strange(alloc, peer));
-    controls & set & announced & strange & peer.does_directly(AskDirect::KnowNothing)
+    let own = takes(peer, own_creds(alloc));
+    let other = takes(peer, other_creds(alloc));
+    let announced = takes(peer, announced(alloc));
+    let strange = refuses(peer, withdrawn(alloc));
+    let kept = peer.does_directly(AskDirect::HaveOwnCreds);
+    let set = controls & own & other & announced & strange & kept;
+    set & peer.does_directly(AskDirect::KnowNothing)
 }
 
 /// A second role is Ok, and so is a second start.

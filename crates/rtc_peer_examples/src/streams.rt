@@ -50,8 +50,6 @@ pub fn send_feedback<P: Direct>(peer: &mut P, mid: Mid) -> bool {
 pub fn does_succeed<P: Direct>(peer: &mut P, mid: Mid, call: &str) -> bool {
     let declared = peer.does_directly(AskDirect::Declare(mid, MediaKind::Video));
     let made = match call {
-        "expect_stream_rx" => peer.does_on_streams(AskStreams::Expect(mid, 7, 0)),
-        "declare_stream_tx" => peer.does_on_streams(AskStreams::Declare(mid, 8, None, 0)),
         "make_stream_rx" => peer.does_on_streams(AskStreams::MakeReceived(mid, 9)),
         "make_stream_tx" => peer.does_on_streams(AskStreams::MakeSent(mid, 10)),
         _ => false,

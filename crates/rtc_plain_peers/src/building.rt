@@ -1,36 +1,41 @@
 //! Fresh peers.
-use crate::Peer;
-use rtc_assoc_end::PlainAssociation;
-use rtc_peer::{Ids, Rtc, RtcConfig};
-use rtc_plain::{PlainDtls, PlainIce, PlainMedia};
+ghost use Rattle.rtc_peer_state.specs.Built.{AreFresh};
+ghost use Rattle.rtc_peer_state.specs.Meanings.{meanings};
+
+use rtc_peer::{Association, DtlsInstance, IceAgent, Ids, MediaSession, Rtc, RtcConfig};
 use rtc_wire::Moment;
 use std::alloc::{AllocError, Global};
 
-/// A peer of a config, or of the default one, at moment 0, where there was memory for the config.
-pub fn build<N: Ids + Drop>(
+/// A peer of a config, or of the default one, at moment 0 over these parts, where there was memory for the config. It is over any parts,
+/// so that its check does not go through what those in memory consist of.
+pub fn build<
+    I: IceAgent + Drop,
+    D: DtlsInstance + Drop,
+    S: Association + Drop,
+    M: MediaSession + Drop,
+    N: Ids + Drop,
+>(
     alloc: Global,
     config: Result<Option<RtcConfig>, AllocError>,
+    ice: I,
+    dtls: D,
+    association: S,
+    media: M,
     ids: N,
-) -> Result<Peer<N>, AllocError> {
+) -> Result<Rtc<I, D, S, M, N>, AllocError>
+    requires fresh { AreFresh (meanings I.ice D.dtls S.association M.media N.ids) ice dtls association media }
+{
     match config? {
         Some(config) => Rtc::build(
             alloc,
             config,
             Moment::FAR_PAST,
-            PlainIce::new(alloc),
-            PlainDtls::new(alloc),
-            PlainAssociation::new(alloc),
-            PlainMedia::new(alloc),
+            ice,
+            dtls,
+            association,
+            media,
             ids,
         ),
-        None => Rtc::new(
-            alloc,
-            Moment::FAR_PAST,
-            PlainIce::new(alloc),
-            PlainDtls::new(alloc),
-            PlainAssociation::new(alloc),
-            PlainMedia::new(alloc),
-            ids,
-        ),
+        None => Rtc::new(alloc, Moment::FAR_PAST, ice, dtls, association, media, ids),
     }
 }

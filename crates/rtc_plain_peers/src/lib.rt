@@ -3,10 +3,7 @@
 
 mod building;
 mod pair_examples;
-mod peer;
 mod running;
 
-pub use building::build;
 pub use pair_examples::PairExamples;
-pub use peer::Peer;
 pub use running::does_agree;

@@ -1,5 +1,5 @@
 //! Examples of two peers.
-use rtc_endpoints::{Direct, Endpoint};
+use rtc_endpoints::{Direct, Polled, Signals, Takes};
 use rtc_peer::RtcConfig;
 use std::alloc::{AllocError, Global};
 use std::rt::Files;
@@ -18,7 +18,7 @@ pub trait PairExamples {
     fn right_config(alloc: Global, subject: &str) -> Result<Option<RtcConfig>, AllocError>;
 
     /// Whether an example gives what is expected.
-    fn does_agree<R: Files + AllocGlobal, P: Endpoint + Direct>(
+    fn does_agree<R: Files + AllocGlobal, P: Signals + Polled + Direct + Takes>(
         rt: &R,
         left: &mut P,
         right: &mut P,

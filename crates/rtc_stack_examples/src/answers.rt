@@ -1,21 +1,11 @@
-//! What a fresh peer answers to an offer that comes as text.
-use crate::lines::describe;
-use rtc_endpoints::Endpoint;
-use rtc_peer::{RtcError, SdpAnswer, SdpOffer};
-use rtc_wire::{Text, release};
-use std::alloc::{AllocError, Global};
-
-fn write(answer: SdpAnswer) -> Result<Text, AllocError> {
-    let text = answer.to_sdp_string();
-    release(answer, text)
-}
-
-/// The text of the answer of a peer to the text of an offer.
-pub fn accept<P: Endpoint>(alloc: Global, peer: &mut P, offer: &str) -> Result<Text, RtcError> {
-    let offer = SdpOffer::from_sdp_string(alloc, offer)?;
-    let answer = peer.accept_offer(offer)?;
-    Ok(write(answer)?)
-}
+//! What a peer answers to offers that come as text.
+use crate::describing::describe;
+use crate::turn::Turn;
+use rtc_cases::is_text;
+use rtc_endpoints::{Reply, Signals};
+use rtc_peer::{RtcError, SdpAnswer};
+use rtc_wire::release;
+use std::alloc::Global;
 
 // What the other side reads in the text of an answer.
 fn describe_answer(alloc: Global, text: &str) -> Result<String, RtcError> {
@@ -24,33 +14,22 @@ fn describe_answer(alloc: Global, text: &str) -> Result<String, RtcError> {
     Ok(release(answer, told)?)
 }
 
-fn reply<P: Endpoint>(alloc: Global, peer: &mut P, offer: &str) -> Result<String, RtcError> {
-    let text = accept(alloc, peer, offer)?;
-    describe_answer(alloc, text.as_str())
-}
-
-fn tell_refusal(alloc: Global, error: &RtcError) -> Result<String, AllocError> {
-    match error {
-        RtcError::Alloc => Err(AllocError),
-        _ => format!(in alloc; "refused {error}\n"),
+// Whether this is told of the lines of an answer, or why the offer is refused.
+fn is_told(alloc: Global, reply: Reply, expected: &str) -> bool {
+    match reply {
+        Reply::Answer(text) => is_text(describe_answer(alloc, text.as_str()), expected),
+        Reply::Refusal(why) => is_text(format!(in alloc; "refused {why}\n"), expected),
+        Reply::Alloc => false,
     }
 }
 
-fn tell(alloc: Global, reply: Result<String, RtcError>) -> Result<String, AllocError> {
-    match reply {
-        Ok(told) => Ok(told),
-        Err(error) => {
-            let told = tell_refusal(alloc, &error);
-            release(error, told)
+/// Whether a peer that is given these offers in turn answers each as is expected.
+pub fn answers<P: Signals>(alloc: Global, peer: &mut P, turns: &[Turn]) -> bool {
+    for turn in turns {
+        let reply = peer.answer(alloc, turn.offer.as_str());
+        if !is_told(alloc, reply, turn.told.as_str()) {
+            return false;
         }
     }
-}
-
-/// What is told of the lines of a peer's answer, or why the offer is refused.
-pub fn answer_to<P: Endpoint>(
-    alloc: Global,
-    peer: &mut P,
-    offer: &str,
-) -> Result<String, AllocError> {
-    tell(alloc, reply(alloc, peer, offer))
+    !turns.is_empty()
 }

@@ -1,95 +1,96 @@
-//! A file from one peer to another.
-use crate::link::Link;
-use crate::sending::Sending;
-use crate::way::Way;
-use rtc_endpoints::{Endpoint, add_hosts, agree_on_channel};
-use rtc_peer::RtcError;
-use rtc_wire::{ChannelId, release};
+//! A file that is sent, and what comes of it.
+use rtc_endpoints::{Outputs, Polled};
+use rtc_file_records::{FileReceiver, FileSender};
+use rtc_wire::{Bytes, ChannelId};
 use std::alloc::{AllocError, Global};
 
-// The rounds in which each file of a stored example comes over.
-const ROUNDS: usize = 1000;
+// No file of a stored example has so many records.
+const RECORDS: usize = 1000;
 
-// The file whose bytes are their places modulo 251.
-fn make_file(alloc: Global, size: u32) -> Result<Vec<u8>, AllocError> {
-    let mut file = Vec::new(alloc);
-    for place in 0..size {
-        file.push((place % 251) as u8)?;
-    }
-    Ok(file)
+/// A file that goes over the first channel of two peers, the record that it did not take, and what takes the records at the other side.
+#[derive(Drop)]
+pub struct Transfer<'a> {
+    alloc: Global,
+    sender: FileSender<'a>,
+    waiting: Option<Bytes>,
+    receiver: FileReceiver,
+    is_faulty: bool,
 }
 
-fn send_all<P: Endpoint>(
-    left: &mut P,
-    right: &mut P,
-    channel: ChannelId,
-    link: &mut Link,
-    sending: &mut Sending<'_>,
-) -> Result<(), RtcError> {
-    for _ in 0..ROUNDS {
-        if !link.is_whole() {
-            sending.write_on(left, channel)?;
-            link.pass(left, right)?;
+impl<'a> Transfer<'a> {
+    /// Nothing was sent of a file.
+    pub fn new(alloc: Global, file: &'a [u8]) -> Result<Transfer<'a>, AllocError> {
+        let sender = FileSender::new(alloc, "file", file)?;
+        Ok(Transfer {
+            alloc,
+            sender,
+            waiting: None,
+            receiver: FileReceiver::new(alloc),
+            is_faulty: false,
+        })
+    }
+
+    /// Whether the End of the file came.
+    pub fn is_whole(&self) -> bool {
+        self.receiver.is_whole()
+    }
+
+    /// Whether a file came whole, and each message was a record of it.
+    pub fn has(&self, file: &[u8]) -> bool {
+        self.receiver.is_whole() & !self.is_faulty & (self.receiver.held() == file)
+    }
+
+    fn make_next(&mut self) -> Result<Option<Bytes>, AllocError> {
+        match self.sender.next()? {
+            Some(record) => {
+                let bytes = record.write(self.alloc)?;
+                Ok(Some(bytes))
+            }
+            None => Ok(None),
         }
     }
-    Ok(())
-}
 
-// Sends a file over a channel, and answers whether it came over whole.
-fn send<P: Endpoint>(
-    alloc: Global,
-    left: &mut P,
-    right: &mut P,
-    channel: ChannelId,
-    way: Way,
-    file: &[u8],
-) -> Result<bool, RtcError> {
-    let mut sending = Sending::new(alloc, file)?;
-    let mut link = Link::new(alloc, way);
-    let sent = send_all(left, right, channel, &mut link, &mut sending);
-    let whole = link.has(file);
-    let sent = release(link, release(sending, sent));
-    sent?;
-    Ok(whole)
-}
-
-fn carry<P: Endpoint>(
-    alloc: Global,
-    left: &mut P,
-    right: &mut P,
-    way: Way,
-    file: &[u8],
-) -> Result<bool, RtcError> {
-    add_hosts(alloc, left, right)?;
-    let channel = agree_on_channel(left, right, String::new(alloc))?;
-    send(alloc, left, right, channel, way, file)
-}
-
-fn number(word: Option<&str>) -> u32 {
-    match word {
-        Some(word) => word.parse::<u32>().unwrap_or(0),
-        None => 0,
+    fn next(&mut self) -> Option<Bytes> {
+        if let Some(record) = self.waiting.take() {
+            return Some(record);
+        }
+        match self.make_next() {
+            Ok(made) => made,
+            Err(_) => {
+                self.is_faulty = true;
+                None
+            }
+        }
     }
-}
 
-/// Whether a file of a size comes over whole on a way of a seed, by the four numbers of a line.
-pub fn does_come_over<P: Endpoint>(
-    alloc: Global,
-    left: &mut P,
-    right: &mut P,
-    case: &str,
-) -> Result<bool, RtcError> {
-    let mut words = case.split(' ');
-    let size = number(words.next());
-    let seed = number(words.next());
-    let lost = number(words.next());
-    let twice = number(words.next());
-    let file = make_file(alloc, size)?;
-    carry(
-        alloc,
-        left,
-        right,
-        Way { seed, lost, twice },
-        file.as_slice(),
-    )
+    // A record that was not taken waits.
+    fn keep(&mut self, record: Bytes, taken: bool) -> bool {
+        if !taken {
+            self.waiting = Some(record);
+        }
+        taken
+    }
+
+    /// Writes records to the channel, until it takes none or none is left.
+    pub fn write_on<P: Polled>(&mut self, peer: &mut P) {
+        for _ in 0..RECORDS {
+            let Some(record) = self.next() else {
+                return;
+            };
+            let taken = peer.write(ChannelId::new(0), record.as_slice());
+            if !self.keep(record, taken) {
+                return;
+            }
+        }
+    }
+
+    /// Takes the messages that came.
+    pub fn take(&mut self, outputs: &mut Outputs) {
+        for message in outputs.messages.as_slice() {
+            if self.receiver.take(message.as_slice()).is_err() {
+                self.is_faulty = true;
+            }
+        }
+        outputs.messages.clear();
+    }
 }

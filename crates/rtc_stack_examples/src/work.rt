@@ -1,11 +1,7 @@
 //! Amounts of work.
-use crate::exchanging::{exchange, wake};
-use crate::negotiating::negotiate;
-use crate::told::Told;
-use crate::wire::Wire;
-use rtc_endpoints::{Endpoint, add_hosts};
-use rtc_peer::RtcError;
-use rtc_wire::{ChannelId, release};
+use crate::numbers::number;
+use rtc_endpoints::{Polled, Signals, Texts, Way, Wire, meet, pass, settle};
+use rtc_wire::{Bytes, ChannelId, Span, release};
 use std::alloc::{AllocError, Global};
 
 // Checks, the handshake and the openings of channels come one after another.
@@ -23,6 +19,21 @@ pub struct Work {
 }
 
 impl Work {
+    // By the words of a line.
+    fn read(line: &str) -> Work {
+        let mut words = line.split(' ');
+        let in_turn = words.next() == Some("turn");
+        let channels = number(words.next());
+        let messages = number(words.next());
+        let bytes = number(words.next());
+        Work {
+            channels,
+            messages,
+            bytes,
+            in_turn,
+        }
+    }
+
     // The channel of a message.
     fn channel(self, message: u32) -> ChannelId {
         if self.channels == 0 {
@@ -43,91 +54,54 @@ fn message(alloc: Global, bytes: u32) -> Result<Vec<u8>, AllocError> {
     Ok(message)
 }
 
-fn connect<P: Endpoint>(left: &mut P, right: &mut P, wire: &mut Wire) -> Result<(), RtcError> {
+// All happens at moment 0.
+fn begin<P: Polled>(left: &mut P, right: &mut P, wire: &mut Wire) {
     for _ in 0..WAKES {
-        wake(left)?;
-        wake(right)?;
-        exchange(left, right, wire)?;
+        pass(left, right, wire, Span::from_nanos(0));
     }
-    Ok(())
 }
 
 // Sends messages from left to right, each once the one before was read and acknowledged.
-fn send<P: Endpoint>(
-    left: &mut P,
-    right: &mut P,
-    wire: &mut Wire,
-    work: Work,
-    message: &[u8],
-) -> Result<(), RtcError> {
+fn send<P: Polled>(left: &mut P, right: &mut P, wire: &mut Wire, work: Work, message: &[u8]) {
     for number in 0..work.messages {
-        left.write(work.channel(number), true, message)?;
-        exchange(left, right, wire)?;
-    }
-    Ok(())
-}
-
-fn perform<P: Endpoint>(
-    left: &mut P,
-    right: &mut P,
-    wire: &mut Wire,
-    work: Work,
-    message: &[u8],
-) -> Result<(), RtcError> {
-    connect(left, right, wire)?;
-    send(left, right, wire, work, message)
-}
-
-fn meet<P: Endpoint>(
-    alloc: Global,
-    left: &mut P,
-    right: &mut P,
-    work: Work,
-    message: &[u8],
-) -> Result<Told, RtcError> {
-    add_hosts(alloc, left, right)?;
-    negotiate(alloc, left, right, work.channels)?;
-    let mut wire = Wire::new(alloc);
-    let done = perform(left, right, &mut wire, work, message);
-    let told = wire.told;
-    release(wire, done)?;
-    Ok(told)
-}
-
-fn number(word: Option<&str>) -> u32 {
-    match word {
-        Some(word) => word.parse::<u32>().unwrap_or(0),
-        None => 0,
+        left.write(work.channel(number), message);
+        settle(left, right, wire);
     }
 }
 
-// Whether all channels were opened at both ends, and all messages came.
-fn is_done(told: &Told, work: Work) -> bool {
-    let opened = told.opened == (work.channels as usize).saturating_mul(2);
-    let came = told.messages == work.messages as usize;
-    opened & came & (told.bytes == (work.messages as usize).saturating_mul(work.bytes as usize))
+fn all_have_length(messages: &[Bytes], length: usize) -> bool {
+    for message in messages {
+        if message.as_slice().len() != length {
+            return false;
+        }
+    }
+    true
+}
+
+// Whether all channels were opened at both ends, all messages came, and neither peer failed.
+fn is_done(wire: &Wire, work: Work) -> bool {
+    let channels = work.channels as usize;
+    let opened = (wire.left.opened == channels) & (wire.right.opened == channels);
+    let came = wire.right.messages.len() == work.messages as usize;
+    let whole = all_have_length(wire.right.messages.as_slice(), work.bytes as usize);
+    opened & came & whole & wire.is_faultless()
 }
 
 /// Whether two peers that buffer as much as the longest message is open so many channels, and so many messages of so many bytes come
 /// over the last one, or over all in turn.
-pub fn does_come<P: Endpoint>(
+pub fn does_come<P: Signals + Polled>(
     alloc: Global,
     left: &mut P,
     right: &mut P,
     line: &str,
-) -> Result<bool, RtcError> {
-    let mut words = line.split(' ');
-    let in_turn = words.next() == Some("turn");
-    let channels = number(words.next());
-    let messages = number(words.next());
-    let bytes = number(words.next());
-    let work = Work {
-        channels,
-        messages,
-        bytes,
-        in_turn,
-    };
-    let message = message(alloc, bytes)?;
-    let told = meet(alloc, left, right, work, message.as_slice())?;
-    Ok(is_done(&told, work))
+) -> Result<bool, AllocError> {
+    let work = Work::read(line);
+    let message = message(alloc, work.bytes)?;
+    let mut texts = Texts::new(alloc);
+    let met = meet(alloc, left, right, work.channels, &mut texts);
+    let mut wire = Wire::new(alloc, Way::plain());
+    begin(left, right, &mut wire);
+    send(left, right, &mut wire, work, message.as_slice());
+    let done = is_done(&wire, work);
+    release(wire, Ok(met & done))
 }

@@ -1,5 +1,4 @@
 //! What is told of the lines of a session description.
-use rtc_fields::lines;
 use rtc_peer::{Direction, LineKind, MediaLine, PayloadRow};
 use std::alloc::{AllocError, Global};
 
@@ -85,16 +84,4 @@ pub fn describe(alloc: Global, lines: &[MediaLine]) -> Result<String, AllocError
         describe_line(&mut text, line)?;
     }
     Ok(text)
-}
-
-/// How often a line stands in a text.
-pub fn count_line(alloc: Global, text: &str, wanted: &str) -> Result<usize, AllocError> {
-    let mut count = 0usize;
-    let found = lines(alloc, text)?;
-    for line in found.as_slice() {
-        if *line == wanted {
-            count = count.saturating_add(1);
-        }
-    }
-    Ok(count)
 }

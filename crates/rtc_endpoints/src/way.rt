@@ -9,6 +9,15 @@ pub struct Way {
 }
 
 impl Way {
+    /// A way on which each datagram comes once.
+    pub fn plain() -> Way {
+        Way {
+            seed: 0,
+            lost: 0,
+            twice: 0,
+        }
+    }
+
     /// How often the next datagram comes.
     pub fn arrivals(&mut self) -> u32 {
         self.seed = self.seed.wrapping_mul(1_103_515_245).wrapping_add(12_345);
