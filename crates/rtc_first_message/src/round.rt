@@ -3,22 +3,18 @@ use rtc_peer::{
     Association, Direction, DtlsInstance, IceAgent, Ids, Lines, MediaKind, MediaSession, Rtc,
     RtcError, SdpAnswer, SdpOffer, SdpPendingOffer,
 };
-use rtc_wire::{ChannelId, release};
+use rtc_wire::ChannelId;
 use std::alloc::{AllocError, Global};
 
 // Signalling would carry the text of the offer. It is read at the other side.
 fn deliver_offer(alloc: Global, offer: SdpOffer) -> Result<SdpOffer, RtcError> {
-    let text = offer.to_sdp_string();
-    let text = release(offer, text)?;
-    let read = SdpOffer::from_sdp_string(alloc, text.as_str());
-    Ok(release(text, read)?)
+    let text = offer.to_sdp_string()?;
+    Ok(SdpOffer::from_sdp_string(alloc, text.as_str())?)
 }
 
 fn deliver_answer(alloc: Global, answer: SdpAnswer) -> Result<SdpAnswer, RtcError> {
-    let text = answer.to_sdp_string();
-    let text = release(answer, text)?;
-    let read = SdpAnswer::from_sdp_string(alloc, text.as_str());
-    Ok(release(text, read)?)
+    let text = answer.to_sdp_string()?;
+    Ok(SdpAnswer::from_sdp_string(alloc, text.as_str())?)
 }
 
 // What the left side reads of the answer.
@@ -39,13 +35,11 @@ fn negotiate<I: IceAgent, D: DtlsInstance, S: Association, M: MediaSession, N: I
     right: &mut Rtc<I, D, S, M, N>,
     made: Option<(SdpOffer, SdpPendingOffer)>,
 ) -> Result<(), RtcError> {
-    match made {
-        Some((offer, token)) => match answer(alloc, right, offer) {
-            Ok(answer) => left.sdp_api().accept_answer(token, answer),
-            Err(error) => release(token, Err(error)),
-        },
-        None => Ok(()),
-    }
+    let Some((offer, token)) = made else {
+        return Ok(());
+    };
+    let answer = answer(alloc, right, offer)?;
+    left.sdp_api().accept_answer(token, answer)
 }
 
 /// Two peers agree on an audio line that the left one sends.
