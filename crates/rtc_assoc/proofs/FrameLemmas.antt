@@ -1,7 +1,7 @@
 -- What a packet does to an end.
 use Rattle.std.proofs.Common.{ℕ, ◌≡◌, ◌+◌, ◌≤◌, ◌==◌, ◌&&◌, ◌||◌, ◌⊎◌, not, max, inl, inr, Bool, true, false, cond, List, [], ◌∷◌, ◌++◌, length, drop, Option, Some, None, refl, sym, ap, subst, ◌∙◌, arith, append-nil}
 use Rattle.std.proofs.lemmas.Bool.Decides.{eqb_tells}
-use Rattle.rtc_association.specs.declared.assoc_event.AssocEvent.TheVariants.{Connected}
+use Rattle.rtc_part_association.specs.declared.assoc_event.AssocEvent.TheVariants.{Connected}
 use Rattle.rtc_assoc_packets.specs.declared.item.Item.{Item}
 use Rattle.rtc_assoc_packets.specs.declared.frame.Frame.{Frame}
 use Rattle.rtc_assoc_packets.specs.declared.frame.Frame.TheVariants.{Hello, Welcome, Data, Acknowledgement, Shutdown}

@@ -1,5 +1,5 @@
 //! What steps of two ends answer.
-use rtc_association::{AssocError, AssocEvent, Ppi};
+use rtc_part_association::{AssocError, AssocEvent, Ppi};
 use rtc_wire::Bytes;
 
 /// What a step answered.

@@ -11,7 +11,7 @@ ghost use Rattle.rtc_assoc.specs.Steps.{PerformsAssocStep, is_packet_for, bytes_
 use crate::assoc_reply::AssocReply;
 use crate::sent::Sent;
 use rtc_assoc_end::PlainAssociation;
-use rtc_association::{AssocError, Association, Ppi};
+use rtc_part_association::{AssocError, Association, Ppi};
 use rtc_wire::{Bytes, Moment};
 use std::alloc::AllocError;
 

@@ -1,7 +1,7 @@
 -- What queued packets say.
 use Rattle.std.proofs.Common.{ℕ, ◌≡◌, ◌+◌, inl, inr, List, [], ◌∷◌, ◌++◌, length, refl, sym, ap, subst, ◌∙◌, arith, append_assoc, length-append, Option, Some, None}
-use Rattle.rtc_parts_values.specs.Among.{Member}
-use Rattle.rtc_association.proofs.AmongLemmas.{member-append}
+use Rattle.rtc_part_values.specs.Among.{Member}
+use Rattle.rtc_part_association.proofs.AmongLemmas.{member-append}
 use Rattle.rtc_assoc_packets.specs.declared.item.Item.{Item}
 use Rattle.rtc_assoc_packets.specs.declared.frame.Frame.{Frame}
 use Rattle.rtc_assoc_packets.specs.declared.frame.Frame.TheVariants.{Hello, Welcome, Data, Acknowledgement, Shutdown}

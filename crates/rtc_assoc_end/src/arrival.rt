@@ -15,7 +15,7 @@ use crate::association::PlainAssociation;
 use crate::queueing::{finish, make_ready, queue_close};
 use rtc_assoc_packets::{ItemHeader, ItemPart, Packet};
 use rtc_assoc_state::{CloseState, StreamRow, StreamTable, enqueue};
-use rtc_association::AssocEvent;
+use rtc_part_association::AssocEvent;
 use rtc_wire::Moment;
 use std::alloc::AllocError;
 use std::collections::VecDeque;

@@ -9,7 +9,7 @@ ghost use Rattle.rtc_assoc_state.specs.PlainMeaning.{Sends};
 
 use rtc_assoc_packets::{Outgoing, Packet};
 use rtc_assoc_state::{Clock, Limits, Parts, Role, Standing, StreamTable, Unread};
-use rtc_association::AssocEvent;
+use rtc_part_association::AssocEvent;
 use rtc_wire::{LOCAL_MAX_MESSAGE_SIZE, Moment};
 use std::alloc::Global;
 use std::collections::{BTreeMap, VecDeque};

@@ -2,7 +2,7 @@
 ghost use Rattle.std.specs.Prelude.{◌≡◌, ◌<◌, ◌+◌, ◌^◌, ◌-◌, ◌≤◌, ◌⊎◌, ◌++◌, ◌∷◌, [], min, if◌then◌else◌};
 ghost use Rattle.std.specs.Prelude.{Bool, OnOk, OnErr, IfOk, false, true, ◌||◌, Some};
 ghost use Rattle.std.specs.VecDeque.{deque_len, deque_capacity};
-ghost use Rattle.rtc_association.specs.declared.assoc_event.AssocEvent.TheVariants.{Connected};
+ghost use Rattle.rtc_part_association.specs.declared.assoc_event.AssocEvent.TheVariants.{Connected};
 ghost use Rattle.rtc_assoc_packets.specs.Packets.{frame_in};
 ghost use Rattle.rtc_assoc_packets.specs.Headers.{frame_with, item_with};
 ghost use Rattle.rtc_assoc_packets.specs.Pieces.{packets_from, ReadBack};
@@ -18,7 +18,7 @@ use crate::association::PlainAssociation;
 use crate::queueing::queue_both;
 use rtc_assoc_packets::{Header, ItemHeader, Packet, content_of, packets_of};
 use rtc_assoc_state::{Role, Standing, enqueue, settle};
-use rtc_association::AssocEvent;
+use rtc_part_association::AssocEvent;
 use rtc_wire::{Bytes, Moment};
 use std::alloc::AllocError;
 use std::collections::VecDeque;

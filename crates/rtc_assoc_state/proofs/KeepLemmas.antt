@@ -1,9 +1,9 @@
 -- What each call keeps: the start, and the course of generations, completed resets and thresholds.
 use Rattle.std.proofs.Common.{ℕ, ◌≡◌, ◌+◌, ◌==◌, ◌&&◌, ◌||◌, ◌⊎◌, not, inl, inr, Bool, true, false, cond, List, [], ◌∷◌, ◌++◌, Option, Some, None, refl, sym, ap, ◌∙◌}
-use Rattle.rtc_association.specs.declared.assoc_event.AssocEvent.TheVariants.{Connected, Lost, Readable}
+use Rattle.rtc_part_association.specs.declared.assoc_event.AssocEvent.TheVariants.{Connected, Lost, Readable}
 use Rattle.std.specs.Prelude.{is_some}
-use Rattle.rtc_parts_values.specs.Among.{Member}
-use Rattle.rtc_association.proofs.AmongLemmas.{member-left, member-right}
+use Rattle.rtc_part_values.specs.Among.{Member}
+use Rattle.rtc_part_association.proofs.AmongLemmas.{member-left, member-right}
 use Rattle.rtc_assoc_state.specs.Inbox.{is_message_of, bytes_so_far, message_of}
 use Rattle.rtc_assoc_state.specs.Contents.{has_unread}
 use Rattle.rtc_assoc_state.specs.Streams.{any_threshold}

@@ -2,11 +2,11 @@
 use Rattle.std.proofs.Common.{ℕ, zero, suc, ◌≡◌, ◌+◌, ◌==◌, ◌&&◌, ◌||◌, not, inl, inr, Bool, true, false, cond, List, [], ◌∷◌, ◌++◌, refl, sym, ap, ◌∙◌, arith, append-nil, append_assoc}
 use Rattle.std.specs.Prelude.{is_some}
 use Rattle.std.proofs.lemmas.Bool.Decides.{eqb_tells}
-use Rattle.rtc_association.specs.declared.assoc_event.AssocEvent.{AssocEvent}
-use Rattle.rtc_association.specs.declared.assoc_event.AssocEvent.TheVariants.{Finished, ResetComplete, BufferedAmountLow}
-use Rattle.rtc_association.specs.AssociationWords.{completions}
-use Rattle.rtc_association.specs.AssociationEvents.{InOrder}
-use Rattle.rtc_association.proofs.AssociationLemmas.{completions-append, in_order-append}
+use Rattle.rtc_part_association.specs.declared.assoc_event.AssocEvent.{AssocEvent}
+use Rattle.rtc_part_association.specs.declared.assoc_event.AssocEvent.TheVariants.{Finished, ResetComplete, BufferedAmountLow}
+use Rattle.rtc_part_association.specs.AssociationWords.{completions}
+use Rattle.rtc_part_association.specs.AssociationEvents.{InOrder}
+use Rattle.rtc_part_association.proofs.AssociationLemmas.{completions-append, in_order-append}
 use Rattle.rtc_assoc_packets.specs.declared.item.Item.{Item}
 use Rattle.rtc_assoc_packets.specs.declared.item_part.ItemPart.{ItemPart}
 use Rattle.rtc_assoc_packets.specs.declared.item_part.ItemPart.TheVariants.{More, Last, Close}

@@ -2,8 +2,8 @@
 use Rattle.std.proofs.Common.{ℕ, zero, suc, ◌≡◌, ◌+◌, ◌-◌, ◌*◌, ◌≤◌, ◌==◌, ◌&&◌, ◌||◌, not, inl, inr, Bool, true, false, cond, List, [], ◌∷◌, ◌++◌, length, drop, Option, Some, None, refl, sym, ap, ◌∙◌, arith, length-append}
 use Rattle.std.specs.Prelude.{is_some}
 use Rattle.std.proofs.lemmas.Bool.Decides.{eqb_tells, leb_tells}
-use Rattle.rtc_association.specs.declared.assoc_event.AssocEvent.{AssocEvent}
-use Rattle.rtc_association.specs.declared.assoc_event.AssocEvent.TheVariants.{Connected, Lost, Readable, Finished, ResetComplete, BufferedAmountLow}
+use Rattle.rtc_part_association.specs.declared.assoc_event.AssocEvent.{AssocEvent}
+use Rattle.rtc_part_association.specs.declared.assoc_event.AssocEvent.TheVariants.{Connected, Lost, Readable, Finished, ResetComplete, BufferedAmountLow}
 use Rattle.rtc_assoc_packets.specs.declared.item.Item.{Item}
 use Rattle.rtc_assoc_packets.specs.declared.item_part.ItemPart.{ItemPart}
 use Rattle.rtc_assoc_packets.specs.declared.item_part.ItemPart.TheVariants.{More, Last, Close}

@@ -1,6 +1,6 @@
 -- What the packets say that an end queues.
 use Rattle.std.specs.Prelude.{ℕ, ◌≡◌, ◌+◌, ◌⊎◌, List, ◌∷◌, ◌++◌, length, Option, Some, None}
-use Rattle.rtc_parts_values.specs.Among.{Member}
+use Rattle.rtc_part_values.specs.Among.{Member}
 use Rattle.rtc_assoc_packets.specs.declared.item.Item.{Item}
 use Rattle.rtc_assoc_packets.specs.declared.frame.Frame.{Frame}
 use Rattle.rtc_assoc_packets.specs.declared.frame.Frame.TheVariants.{Data, Acknowledgement}

@@ -5,7 +5,7 @@ ghost use Rattle.rtc_assoc_state.specs.Amounts.{Agree};
 ghost use Rattle.rtc_assoc_state.specs.StreamTable.{SoundTable, stream_rows};
 ghost use Rattle.rtc_assoc_state.specs.Streams.{stream_of, is_unclosed};
 ghost use Rattle.rtc_assoc_state.specs.declared.close_state.CloseState.TheVariants.{Queued};
-ghost use Rattle.rtc_association.specs.declared.assoc_event.AssocEvent.TheVariants.{BufferedAmountLow};
+ghost use Rattle.rtc_part_association.specs.declared.assoc_event.AssocEvent.TheVariants.{BufferedAmountLow};
 ghost use Rattle.rtc_assoc_state.specs.Settling.{told_of, reaches, close_settled, item_settled, settled};
 
 use crate::amounts::{amount_in, lower};
@@ -14,7 +14,7 @@ use crate::queues::enqueue;
 use crate::stream_row::StreamRow;
 use crate::stream_table::StreamTable;
 use rtc_assoc_packets::{ItemPart, Outgoing};
-use rtc_association::AssocEvent;
+use rtc_part_association::AssocEvent;
 use std::collections::{BTreeMap, VecDeque};
 
 fn is_reached(threshold: Option<usize>, before: usize, after: usize) -> bool

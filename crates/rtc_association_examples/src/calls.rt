@@ -1,6 +1,6 @@
 //! Calls on one end, and their refusals.
 use crate::ends::{Call, SECOND, Step, is_played};
-use rtc_association::{AssocError, AssocEvent};
+use rtc_part_association::{AssocError, AssocEvent};
 use std::alloc::Global;
 
 static STARTED_BY_HALVES: [Step; 4] = [

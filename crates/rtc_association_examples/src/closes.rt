@@ -1,6 +1,6 @@
 //! Streams that are closed, reset and opened again.
 use crate::scripts::{Do, L, R, Says, is_played};
-use rtc_association::{AssocError, AssocEvent, Ppi};
+use rtc_part_association::{AssocError, AssocEvent, Ppi};
 use std::alloc::Global;
 
 // The left end writes and closes, the right end reads and is told, both are reset, and the right end opens again.

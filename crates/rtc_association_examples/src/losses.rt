@@ -1,6 +1,6 @@
 //! Packets that are lost, repeated and out of order.
 use crate::scripts::{Do, L, R, Says, is_played};
-use rtc_association::{AssocError, AssocEvent, Ppi};
+use rtc_part_association::{AssocError, AssocEvent, Ppi};
 use std::alloc::Global;
 
 const MESSAGE: &[u8] = b"thirty bytes in three pieces..";

@@ -1,6 +1,6 @@
 //! A message in pieces, byte by byte.
 use crate::ends::{Call, SECOND, Step, is_played};
-use rtc_association::AssocEvent;
+use rtc_part_association::AssocEvent;
 use std::alloc::Global;
 
 const MESSAGE: &[u8] = b"abcdefghijklmnopqrstuvwxyz0123";

@@ -1,6 +1,6 @@
 //! Ends that are started, and steps for which there is no call.
 use crate::scripts::{Do, L, R, Says, is_played};
-use rtc_association::{AssocError, AssocEvent, Ppi};
+use rtc_part_association::{AssocError, AssocEvent, Ppi};
 use std::alloc::Global;
 
 static STARTS: [(Do, Says); 28] = [

@@ -6,7 +6,7 @@ use Rattle.rtc_sdp_values.specs.declared.media_line.MediaLine.{MediaLine}
 use Rattle.rtc_sdp_values.specs.declared.sdp.Sdp.{Sdp}
 use Rattle.rtc_sdp_values.specs.Mids.{AreDistinct, are_distinct}
 use Rattle.rtc_sdp_values.proofs.MidLemmas.{distinct_by_test}
-use Rattle.rtc_tables.specs.ParsedLines.{parsed_line, parsed_lines}
+use Rattle.rtc_peer_rows.specs.ParsedLines.{parsed_line, parsed_lines}
 use Rattle.rtc_change.specs.Plans.{inconsistent}
 
 no_cause : (group : List (List ℕ)) (lines : List MediaLine) → first_cause (group_causes group lines) ≡ None → are_distinct (mids_of lines) ≡ true

@@ -14,15 +14,15 @@ use Rattle.rtc_sdp_values.specs.declared.media_kind.MediaKind.{MediaKind}
 use Rattle.rtc_sdp_values.specs.declared.media_kind.MediaKind.TheVariants.{Audio as AudioMedia, Video as VideoMedia}
 use Rattle.rtc_sdp_values.specs.declared.line_kind.LineKind.{LineKind}
 use Rattle.rtc_sdp_values.specs.declared.line_kind.LineKind.TheVariants.{Audio, Video, Application, Unknown}
-use Rattle.rtc_tables.specs.declared.parsed_line.ParsedLine.{ParsedLine}
-use Rattle.rtc_tables.specs.Table.{IsTable, Rising, Distinct, OneApp, NoMore, is_of, has_mid, row_of, is_app, app_of}
+use Rattle.rtc_peer_rows.specs.declared.parsed_line.ParsedLine.{ParsedLine}
+use Rattle.rtc_peer_rows.specs.Table.{IsTable, Rising, Distinct, OneApp, NoMore, is_of, has_mid, row_of, is_app, app_of}
 use Rattle.rtc_sdp_values.specs.Mids.{AreDistinct, is_among}
-use Rattle.rtc_tables.specs.declared.why.Why.{Why}
+use Rattle.rtc_peer_rows.specs.declared.why.Why.{Why}
 use Rattle.std.specs.Option.{option_or}
 use Rattle.rtc_sdp_values.specs.Sdp.{is_application}
-use Rattle.rtc_tables.specs.Verdict.{first_refusal, line_refusal, media_refusal, app_refusal}
+use Rattle.rtc_peer_rows.specs.Verdict.{first_refusal, line_refusal, media_refusal, app_refusal}
 use Rattle.rtc_change.specs.TableAfter.{table_after, rows_after, row_after, app_mid}
-use Rattle.rtc_tables.proofs.TableLemmas.{found_at, found_passes, none_passes, rising_drop, distinct_drop, one_app_drop, none_drop, none_drop_more, passes_among, found_fails, none_one_app}
+use Rattle.rtc_peer_rows.proofs.TableLemmas.{found_at, found_passes, none_passes, rising_drop, distinct_drop, one_app_drop, none_drop, none_drop_more, passes_among, found_fails, none_one_app}
 
 -- a mid is that of the row at a place, or it is a line's and no row has it
 abbrev pub Origin : List LineRow → ℕ → List ℕ → List ℕ → Type 0

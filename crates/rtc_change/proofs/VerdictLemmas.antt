@@ -1,14 +1,14 @@
 -- What holds of a text that is not refused.
 use Rattle.std.proofs.Common.{◌≡◌, false, map, Option, Some, None, refl}
 use Rattle.rtc_sdp_values.specs.declared.sdp.Sdp.{Sdp}
-use Rattle.rtc_tables.specs.declared.why.Why.{Why}
+use Rattle.rtc_peer_rows.specs.declared.why.Why.{Why}
 use Rattle.rtc_sdp_values.specs.Mids.{AreDistinct}
 use Rattle.rtc_change.specs.Held.{Held, Asked}
-use Rattle.rtc_tables.specs.ParsedLines.{parsed_lines}
-use Rattle.rtc_tables.specs.Table.{IsTable}
+use Rattle.rtc_peer_rows.specs.ParsedLines.{parsed_lines}
+use Rattle.rtc_peer_rows.specs.Table.{IsTable}
 use Rattle.rtc_change.specs.TableAfter.{table_after}
 use Rattle.std.specs.Option.{option_or}
-use Rattle.rtc_tables.specs.Verdict.{first_refusal}
+use Rattle.rtc_peer_rows.specs.Verdict.{first_refusal}
 use Rattle.rtc_change.specs.Plans.{
   is_offer,
   may_restart,

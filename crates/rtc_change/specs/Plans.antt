@@ -8,17 +8,17 @@ use Rattle.rtc_sdp_values.specs.declared.line_row.LineRow.{LineRow}
 use Rattle.rtc_sdp_values.specs.declared.sdp.Sdp.{Sdp}
 use Rattle.rtc_sdp_values.specs.declared.sdp_error.SdpError.TheVariants.{Inconsistent as NotConsistent}
 use Rattle.rtc_sdp_values.specs.Sdp.{inconsistency, creds_of, sdp_fingerprint, sdp_sctp_init}
-use Rattle.rtc_tables.specs.declared.parsed_line.ParsedLine.{ParsedLine}
-use Rattle.rtc_tables.specs.declared.plan.Plan.{Plan}
-use Rattle.rtc_tables.specs.declared.why.Why.{Why}
-use Rattle.rtc_tables.specs.declared.why.Why.TheVariants.{NoLines, BothLite, NoCredentials, UnaskedRestart, NoFingerprint}
-use Rattle.rtc_tables.specs.declared.why.Why.TheVariants.{SctpInitChanged, SctpInitMissing, WrongNewLines}
+use Rattle.rtc_peer_rows.specs.declared.parsed_line.ParsedLine.{ParsedLine}
+use Rattle.rtc_peer_rows.specs.declared.plan.Plan.{Plan}
+use Rattle.rtc_peer_rows.specs.declared.why.Why.{Why}
+use Rattle.rtc_peer_rows.specs.declared.why.Why.TheVariants.{NoLines, BothLite, NoCredentials, UnaskedRestart, NoFingerprint}
+use Rattle.rtc_peer_rows.specs.declared.why.Why.TheVariants.{SctpInitChanged, SctpInitMissing, WrongNewLines}
 use Rattle.rtc_change.specs.declared.refusal.Refusal.{Refusal}
 use Rattle.rtc_change.specs.declared.refusal.Refusal.TheVariants.{RemoteSdp, Sdp as SdpRefused, Alloc}
 use Rattle.rtc_change.specs.PendingOffer.{PendingOffer, added_rows, staged_restart}
 use Rattle.rtc_change.specs.Held.{Held, Asked}
-use Rattle.rtc_tables.specs.ParsedLines.{parsed_lines}
-use Rattle.rtc_tables.specs.Verdict.{first_of, first_refusal}
+use Rattle.rtc_peer_rows.specs.ParsedLines.{parsed_lines}
+use Rattle.rtc_peer_rows.specs.Verdict.{first_of, first_refusal}
 use Rattle.rtc_change.specs.TableAfter.{table_after, new_places, removed_mids}
 use Rattle.rtc_change.specs.WrongLines.{wrong_lines}
 

@@ -32,8 +32,8 @@ use Rattle.rtc_sdp_values.specs.declared.media_kind.MediaKind.{MediaKind}
 use Rattle.rtc_sdp_values.specs.declared.media_kind.MediaKind.TheVariants.{Audio as AudioMedia, Video as VideoMedia}
 use Rattle.rtc_sdp_values.specs.declared.line_kind.LineKind.{LineKind}
 use Rattle.rtc_sdp_values.specs.declared.line_kind.LineKind.TheVariants.{Audio, Video, Application, Unknown}
-use Rattle.rtc_tables.specs.declared.parsed_line.ParsedLine.{ParsedLine}
-use Rattle.rtc_tables.specs.Table.{row_of, app_of}
+use Rattle.rtc_peer_rows.specs.declared.parsed_line.ParsedLine.{ParsedLine}
+use Rattle.rtc_peer_rows.specs.Table.{row_of, app_of}
 
 abbrev pub is_inactive : Direction → Bool
 is_inactive Inactive = true

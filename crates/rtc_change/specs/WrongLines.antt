@@ -7,10 +7,10 @@ use Rattle.rtc_sdp_values.specs.declared.media_kind.MediaKind.{MediaKind}
 use Rattle.rtc_sdp_values.specs.declared.media_kind.MediaKind.TheVariants.{Audio as AudioMedia, Video as VideoMedia}
 use Rattle.rtc_sdp_values.specs.declared.line_kind.LineKind.{LineKind}
 use Rattle.rtc_sdp_values.specs.declared.line_kind.LineKind.TheVariants.{Audio, Video, Application, Unknown}
-use Rattle.rtc_tables.specs.declared.parsed_line.ParsedLine.{ParsedLine}
-use Rattle.rtc_tables.specs.declared.new_line.NewLine.{NewLine}
-use Rattle.rtc_tables.specs.declared.new_line.NewLine.TheVariants.{Count, NotMedia, NotChannel, NotOffered, OtherKind, OtherPlace}
-use Rattle.rtc_tables.specs.Table.{row_of}
+use Rattle.rtc_peer_rows.specs.declared.parsed_line.ParsedLine.{ParsedLine}
+use Rattle.rtc_peer_rows.specs.declared.new_line.NewLine.{NewLine}
+use Rattle.rtc_peer_rows.specs.declared.new_line.NewLine.TheVariants.{Count, NotMedia, NotChannel, NotOffered, OtherKind, OtherPlace}
+use Rattle.rtc_peer_rows.specs.Table.{row_of}
 use Rattle.rtc_change.specs.TableAfter.{is_new, new_places}
 use Rattle.std.specs.Option.{option_or}
 

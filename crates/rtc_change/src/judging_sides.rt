@@ -7,8 +7,9 @@ ghost use Rattle.rtc_change.specs.Plans.{changed_init, init_refusal, no_fingerpr
 
 use crate::{Refusal, View};
 use rtc_sdp_values::{IceCreds, Sdp};
-use rtc_tables::Why;
-use rtc_wire::{Text, TryCopy, release};
+use rtc_peer_rows::Why;
+use rtc_wire::{Text, TryCopy};
+use rtc_wire_drops::release;
 use std::alloc::{AllocError, Global};
 
 fn are_same(a: &IceCreds, b: &IceCreds) -> bool

@@ -17,6 +17,6 @@ pub use change::Change;
 pub use changes::{Changes, count_added, find_restart, is_added};
 pub use planning::{plan_answer, plan_offer};
 pub use refusal::Refusal;
-pub use rtc_tables::{Lines, NewLine, ParsedLine, Plan, Why, direct_row, stop_row};
+pub use rtc_peer_rows::{Lines, NewLine, ParsedLine, Plan, Why, direct_row, stop_row};
 pub use sdp_pending_offer::SdpPendingOffer;
 pub use view::View;

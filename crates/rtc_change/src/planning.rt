@@ -6,19 +6,19 @@ ghost use Rattle.rtc_change.specs.PendingOffer.{added_mids, added_rows};
 ghost use Rattle.rtc_change.specs.WrongLines.{wrong_lines};
 ghost use Rattle.rtc_change.specs.Plans.{PlansSdp, plan_of, side_verdict, init_refusal, inconsistent, head_verdict, asked_by};
 ghost use Rattle.rtc_change.specs.Plans.{takes_init as TakesInit};
-ghost use Rattle.rtc_tables.specs.ParsedLines.{parsed_lines};
+ghost use Rattle.rtc_peer_rows.specs.ParsedLines.{parsed_lines};
 ghost use Rattle.rtc_sdp_values.specs.Mids.{AreDistinct};
 ghost use Rattle.rtc_sdp_values.specs.Sdp.{sdp_sctp_init};
-ghost use Rattle.rtc_tables.specs.Verdict.{first_of, first_refusal};
-ghost use Rattle.rtc_tables.specs.Table.{IsTable, Distinct};
+ghost use Rattle.rtc_peer_rows.specs.Verdict.{first_of, first_refusal};
+ghost use Rattle.rtc_peer_rows.specs.Table.{IsTable, Distinct};
 
 use crate::judging_sides::{is_restart, judge_init, judge_side};
 use crate::table_after::{find_new_places, find_removed, list_rows_after};
 use crate::wrong_lines::judge_new_lines;
 use crate::{Refusal, SdpPendingOffer, View};
 use rtc_sdp_values::Sdp;
-use rtc_tables::{MidIndex, NewLine, ParsedLine, Plan, Why, judge_lines};
-use rtc_wire::release;
+use rtc_peer_rows::{MidIndex, NewLine, ParsedLine, Plan, Why, judge_lines};
+use rtc_wire_drops::release;
 use std::alloc::{AllocError, Global};
 
 // Why a session description is inconsistent; a consistent one has distinct mids.

@@ -1,7 +1,7 @@
 //! The table that an accepted offer or answer leaves.
 ghost use Rattle.std.specs.Prelude.{◌≡◌, ◌+◌, ◌<◌, ◌≤◌, ◌^◌, ◌-◌, Bool, length, IfOk, Option, max};
 ghost use Rattle.std.specs.Option.{option_copied};
-ghost use Rattle.rtc_tables.specs.Table.{Distinct};
+ghost use Rattle.rtc_peer_rows.specs.Table.{Distinct};
 ghost use Rattle.rtc_change.specs.TableAfter.{
   media_after,
   app_after,
@@ -16,7 +16,7 @@ ghost use Rattle.rtc_change.specs.TableAfter.{
 };
 
 use rtc_sdp_values::{Direction, LineKind, LineRow, MediaKind, Mid};
-use rtc_tables::{MidIndex, ParsedLine, find_app};
+use rtc_peer_rows::{MidIndex, ParsedLine, find_app};
 use rtc_wire::Seq;
 use std::alloc::{AllocError, Global};
 

@@ -2,12 +2,12 @@
 ghost use Rattle.std.specs.Prelude.{◌≡◌, ◌<◌, ◌^◌, ◌-◌, length, Some};
 ghost use Rattle.std.specs.Option.{option_copied};
 ghost use Rattle.rtc_change.specs.WrongLines.{at_its_place, not_that_media, not_that_channel, by_added, wrong_line, wrong_lines};
-ghost use Rattle.rtc_tables.specs.Table.{Distinct};
+ghost use Rattle.rtc_peer_rows.specs.Table.{Distinct};
 ghost use Rattle.rtc_change.specs.TableAfter.{new_places};
 
 use crate::table_after::is_new_line;
 use rtc_sdp_values::{LineKind, LineRow, MediaKind, Mid};
-use rtc_tables::{MidIndex, NewLine, ParsedLine};
+use rtc_peer_rows::{MidIndex, NewLine, ParsedLine};
 
 fn judge_its_place(offered: u32, place: u32, mid: Mid) -> Option<NewLine>
     ensures { result ≡ at_its_place offered place mid }

@@ -6,8 +6,8 @@ use Rattle.std.specs.BTreeMap.{BTreeMap, get, keys}
 use Rattle.std.specs.Ordering.{nat_cmp, eq_by_cmp}
 use Rattle.std.proofs.lemmas.Bool.{cases_eq, eq-eqb, ne_eqb}
 use Rattle.std.proofs.lemmas.Map.Made.{is_some-lookup}
-use Rattle.rtc_free_ids.specs.Ids.{all_ids, parity_of, contains_id, ids_without}
-use Rattle.rtc_free_ids.proofs.IdLemmas.{ids-every_second}
+use Rattle.rtc_channels.specs.Ids.{all_ids, parity_of, contains_id, ids_without}
+use Rattle.rtc_channels.proofs.IdLemmas.{ids-every_second}
 use Rattle.rtc_channels.specs.declared.kept.Kept.{Kept}
 use Rattle.rtc_channels.specs.declared.grants.Grant.{Grant}
 use Rattle.rtc_channels.specs.Channels.{Channels, channel_of_stream}

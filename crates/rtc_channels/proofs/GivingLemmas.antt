@@ -3,7 +3,7 @@ use Rattle.std.proofs.Common.{◌≡◌, ◌+◌, ◌<◌, ◌≤◌, ◌==◌, 
 use Rattle.std.specs.Prelude.{slice_get, slice_set, is_some, is_err, nat_lt, IfSome, Result, Ok, Err, OnOk, OnErr}
 use Rattle.std.specs.List.{list_any}
 use Rattle.std.specs.BTreeMap.{BTreeMap}
-use Rattle.rtc_free_ids.specs.Ids.{all_ids, ids_without}
+use Rattle.rtc_channels.specs.Ids.{all_ids, ids_without}
 use Rattle.rtc_channels.specs.declared.kept.Kept.{Kept}
 use Rattle.rtc_channels.specs.declared.grants.Grant.{Grant}
 use Rattle.rtc_channels.specs.Channels.{Channel, Channels, channel_of_stream}

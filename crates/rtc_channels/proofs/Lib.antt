@@ -11,3 +11,5 @@ pub mod OpeningLemmas
 pub mod UnheldLemmas
 pub mod WorkedHolds
 pub mod WorkedSettled
+pub mod WordLemmas
+pub mod IdLemmas

@@ -34,9 +34,9 @@ use Rattle.std.specs.List.{list_any}
 use Rattle.std.specs.declared.alloc.AllocError.{AllocError}
 use Rattle.std.specs.BTreeMap.{BTreeMap}
 use Rattle.rtc_wire.specs.declared.channel_config.ChannelConfig.{ChannelConfig}
-use Rattle.rtc_association.specs.AssociationMeaning.{AssociationMeaning}
+use Rattle.rtc_part_association.specs.AssociationMeaning.{AssociationMeaning}
 use Rattle.rtc_ready.specs.Signals.{Signals}
-use Rattle.rtc_free_ids.specs.Ids.{parity_of}
+use Rattle.rtc_channels.specs.Ids.{parity_of}
 use Rattle.rtc_sctp.specs.Streams.{SctpStreams}
 use Rattle.rtc_sctp.specs.StreamCalls.{OpensStream}
 use Rattle.rtc_channels.specs.declared.kept.Kept.{Kept}

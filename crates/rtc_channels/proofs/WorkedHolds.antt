@@ -2,8 +2,8 @@
 use Rattle.std.proofs.Common.{◌≡◌, ◌<◌, ℕ, suc, Bool, true, false, not, List, [], ◌∷◌, map, length, get_or, refl, ap, arith, Some, None}
 use Rattle.std.specs.Prelude.{slice_get}
 use Rattle.std.specs.List.{filter}
-use Rattle.rtc_free_ids.specs.Ids.{all_ids, IsIdOf}
-use Rattle.rtc_free_ids.proofs.IdLemmas.{ids-every_second}
+use Rattle.rtc_channels.specs.Ids.{all_ids, IsIdOf}
+use Rattle.rtc_channels.proofs.IdLemmas.{ids-every_second}
 use Rattle.rtc_wire.specs.ChannelConfig.{fresh}
 use Rattle.rtc_channels.specs.Channels.{Channel, Channels, no_channels, with_channel}
 use Rattle.rtc_channels.specs.Holds.{with_hold, without_hold, hold_count, is_stream_held, removed_channel, reset_completed, holds_lost}

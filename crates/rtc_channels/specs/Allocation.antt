@@ -26,7 +26,7 @@ use Rattle.std.specs.Prelude.{
 }
 use Rattle.std.specs.List.{filter, list_any}
 use Rattle.std.specs.declared.alloc.AllocError.{AllocError}
-use Rattle.rtc_free_ids.specs.Ids.{all_ids}
+use Rattle.rtc_channels.specs.Ids.{all_ids}
 use Rattle.rtc_channels.specs.Channels.{Channel, Channels, has_id, is_of_stream, channel_of_stream}
 use Rattle.rtc_channels.specs.Holds.{is_stream_held}
 

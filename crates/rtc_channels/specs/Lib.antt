@@ -4,3 +4,5 @@ pub mod Granted
 pub mod Holds
 pub mod Kept
 pub mod Openings
+pub mod Ids
+pub mod Words

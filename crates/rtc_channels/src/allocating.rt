@@ -1,7 +1,7 @@
 //! The streams that channels are given (RFC 8832, section 6).
 ghost use Rattle.std.specs.Prelude.{◌≡◌, ◌<◌, ◌==◌, ◌||◌, true, false, not, is_some, filter, length, map, slice_get, IfSome, OnOk, OnErr};
 ghost use Rattle.std.specs.List.{list_any};
-ghost use Rattle.rtc_free_ids.specs.Ids.{parity_of as ParityOf, all_ids};
+ghost use Rattle.rtc_channels.specs.Ids.{parity_of as ParityOf, all_ids};
 ghost use Rattle.rtc_channels.specs.Granted.{is_granted as IsGranted, stream_of_free};
 ghost use Rattle.rtc_channels.specs.Holds.{is_stream_held as IsHeld};
 ghost use Rattle.rtc_channels.specs.Channels.{numbered_stream};
@@ -19,11 +19,10 @@ ghost use Rattle.rtc_channels.specs.Allocation.{
   channel_ensured,
 };
 
-use crate::ChannelHandler;
+use crate::{ChannelHandler, FreeIds};
 use crate::channel_handler::next_channel;
 use crate::grants::{Grants, count_holds, give, owner_of};
 use crate::kept::Kept;
-use rtc_free_ids::FreeIds;
 use rtc_wire::ChannelId;
 use std::alloc::AllocError;
 

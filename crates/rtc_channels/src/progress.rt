@@ -1,6 +1,6 @@
 //! Whether a channel can be given a stream or opened.
 ghost use Rattle.std.specs.Prelude.{◌≡◌, ◌&&◌, is_some, length};
-ghost use Rattle.rtc_free_ids.specs.Ids.{parity_of as ParityOf};
+ghost use Rattle.rtc_channels.specs.Ids.{parity_of as ParityOf};
 ghost use Rattle.rtc_channels.specs.Kept.{channels_of};
 ghost use Rattle.rtc_channels.specs.Allocation.{can_allocate as CanAllocate};
 ghost use Rattle.rtc_channels.specs.Openings.{can_open as CanOpen, can_progress as CanProgress};

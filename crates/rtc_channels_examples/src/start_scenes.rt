@@ -3,7 +3,7 @@ use crate::notes::Notes;
 use crate::starts::Starts;
 use crate::streams::Streams;
 use crate::two_peers::{PeersStep, perform_all};
-use rtc_plain_ids::CountIds;
+use rtc_plain::CountIds;
 use rtc_sctp::{SctpError, SctpInitData};
 use std::alloc::Global;
 

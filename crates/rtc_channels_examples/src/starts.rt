@@ -1,6 +1,6 @@
 //! What examples ask of the streams of a peer that are started by session descriptions (draft-hancke-tsvwg-snap).
-use rtc_association::Association;
-use rtc_plain_ids::CountIds;
+use rtc_part_association::Association;
+use rtc_plain::CountIds;
 use rtc_sctp::{RtcSctp, SctpError, SctpInitData};
 use rtc_wire::Moment;
 use std::alloc::AllocError;

@@ -2,7 +2,8 @@
 use crate::notes::Notes;
 use crate::streams::{StreamCall, Streams};
 use rtc_sctp::SctpEvent;
-use rtc_wire::{Bytes, ChannelConfig, Seq, Text, release};
+use rtc_wire::{Bytes, ChannelConfig, Seq, Text};
+use rtc_wire_drops::release;
 use std::alloc::{AllocError, Global};
 
 /// A step of the streams of two peers, the left and the right one.

@@ -1,6 +1,6 @@
 -- The default configuration is formed.
 use Rattle.std.proofs.Common.{◌≡◌, sym, subst}
-use Rattle.rtc_codecs.proofs.FormedDefaults.{defaults_formed, standard_formed}
+use Rattle.rtc_sdp_codecs.proofs.FormedDefaults.{defaults_formed, standard_formed}
 use Rattle.rtc_config.specs.RtcConfig.{PeerConfig, default_config}
 use Rattle.rtc_config.specs.FormedConfig.{IsFormedConfig}
 

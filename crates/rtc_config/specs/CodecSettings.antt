@@ -1,8 +1,8 @@
 -- What settings of codecs leave of a configuration.
 use Rattle.std.specs.Prelude.{ℕ, Bool, List}
-use Rattle.rtc_codecs.specs.Codec.{codec_row_with}
-use Rattle.rtc_codecs.specs.CodecRows.{codecs_with, repeated_distances}
-use Rattle.rtc_codecs.specs.declared.codec.Codec.{Codec}
+use Rattle.rtc_sdp_codecs.specs.Codec.{codec_row_with}
+use Rattle.rtc_sdp_codecs.specs.CodecRows.{codecs_with, repeated_distances}
+use Rattle.rtc_sdp_codecs.specs.declared.codec.Codec.{Codec}
 use Rattle.rtc_config.specs.RtcConfig.{PeerConfig}
 
 -- a codec that is enabled goes last, with redundant packets or without, and one that is disabled goes

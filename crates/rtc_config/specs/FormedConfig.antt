@@ -1,13 +1,13 @@
 -- Configurations and candidates that the session descriptions of a peer carry whole: what is written of them is read back.
 use Rattle.std.specs.Prelude.{◌≡◌, ℕ, ◌<◌, ◌≤◌, true, List, length, IfSome}
 use Rattle.std.specs.List.{AllByRecursion}
-use Rattle.rtc_fields.specs.Cuts.{Lacks}
-use Rattle.rtc_fields.specs.Tokens.{is_token}
+use Rattle.rtc_wire_text.specs.Cuts.{Lacks}
+use Rattle.rtc_wire_text.specs.Tokens.{is_token}
 use Rattle.rtc_wire.specs.declared.protocol.Protocol.TheVariants.{Udp}
 use Rattle.rtc_sdp_values.specs.declared.candidate.Candidate.{Candidate}
 use Rattle.rtc_sdp_values.specs.declared.candidate_kind.CandidateKind.TheVariants.{Host}
 use Rattle.rtc_sdp_values.specs.declared.ice_creds.IceCreds.{IceCreds}
-use Rattle.rtc_codecs.specs.FormedCodecs.{AreFormedRows, AreFormedExtensions}
+use Rattle.rtc_sdp_codecs.specs.FormedCodecs.{AreFormedRows, AreFormedExtensions}
 use Rattle.rtc_config.specs.RtcConfig.{PeerConfig}
 
 -- 1 to `most` bytes, none of them a space or a line's end

@@ -1,3 +1,4 @@
 pub mod RtcConfig
 pub mod CodecSettings
 pub mod FormedConfig
+pub mod Stats

@@ -1,13 +1,14 @@
 //! Setters of codecs.
 ghost use Rattle.std.specs.Prelude.{◌≡◌, [], false, IfOk, OnOk};
-ghost use Rattle.rtc_codecs.specs.Codec.{codec_row_with};
-ghost use Rattle.rtc_codecs.specs.CodecRows.{codecs_with, repeated_distances};
+ghost use Rattle.rtc_sdp_codecs.specs.Codec.{codec_row_with};
+ghost use Rattle.rtc_sdp_codecs.specs.CodecRows.{codecs_with, repeated_distances};
 ghost use Rattle.rtc_config.specs.CodecSettings as spec;
 
 use crate::RtcConfig;
-use rtc_codecs::{Codec, collect_distances, set_row};
+use rtc_sdp_codecs::{Codec, collect_distances, set_row};
 use rtc_sdp_values::CodecConfig;
-use rtc_wire::{Seq, whole};
+use rtc_wire::{Seq};
+use rtc_wire_drops::whole;
 use std::alloc::{AllocError, Global};
 use std::mem;
 

@@ -1,11 +1,12 @@
 //! Setters of header extensions.
 ghost use Rattle.std.specs.Prelude.{◌≡◌, ◌≤◌, [], IfOk, OnOk};
-ghost use Rattle.rtc_codecs.specs.CodecRows as spec;
+ghost use Rattle.rtc_sdp_codecs.specs.CodecRows as spec;
 
 use crate::RtcConfig;
-use rtc_codecs::set_extension_row;
+use rtc_sdp_codecs::set_extension_row;
 use rtc_sdp_values::{Extension, ExtensionMap};
-use rtc_wire::{Seq, whole};
+use rtc_wire::{Seq};
+use rtc_wire_drops::whole;
 use std::alloc::{AllocError, Global};
 use std::mem;
 

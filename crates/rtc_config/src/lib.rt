@@ -1,4 +1,4 @@
-//! All settings of a configuration, which no peer takes yet; passes on the rounds of statistics.
+//! All settings of a configuration, which no peer takes yet, and the rounds of statistics.
 #![tactic(auto)]
 
 mod codec_setters;
@@ -11,9 +11,9 @@ mod media_setters;
 mod rtc_config;
 mod sctp_settings;
 mod setters;
+mod stats;
 
 pub use dtls_settings::DtlsSettings;
 pub use ice_settings::IceSettings;
-pub use rtc_config::RtcConfig;
-pub use rtc_statistics::Stats;
 pub use sctp_settings::SctpSettings;
+pub use stats::Stats;

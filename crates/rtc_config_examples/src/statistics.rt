@@ -1,7 +1,7 @@
 //! Rounds of statistics.
 use rtc_cases::{every, is_true};
 use rtc_config::Stats;
-use rtc_media::{StatsEvent, StatsSnapshot};
+use rtc_part_media::{StatsEvent, StatsSnapshot};
 use rtc_wire::{Moment, Span};
 use std::alloc::{AllocError, Global};
 

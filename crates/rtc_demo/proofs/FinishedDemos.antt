@@ -6,30 +6,30 @@ use Rattle.std.proofs.lemmas.Bool.{or_parts, and_parts}
 use Rattle.std.proofs.lemmas.List.Folds.{list_any-append, list_all-append}
 use Rattle.std.proofs.lemmas.List.Sums.{sum_by-append}
 use Rattle.rtc_change.specs.Held.{Held, Asked}
-use Rattle.rtc_peer_state.specs.Meanings.{Meanings}
+use Rattle.rtc_peer_core.specs.Meanings.{Meanings}
 use Rattle.rtc_sdp_values.specs.declared.line_row.LineRow.{LineRow}
-use Rattle.rtc_history.specs.Signalled.{Signalled, NotMade, Unreadable, Readable}
-use Rattle.rtc_history.specs.Views.{AreFormed}
-use Rattle.rtc_history.specs.Memory.{lacks_memory, outcome_lacks, tells_fault, tell_fault, fails}
-use Rattle.rtc_history.specs.Orderly.{Course, course_of, are_orderly, has_failed, can_connect, is_ok, negotiates, AreNumbersLeft}
-use Rattle.rtc_history.specs.PairState.{PairState, stances_of}
-use Rattle.rtc_history.specs.Past.{Entry, MadeSdp, steps_of, replies_of, reply_of, remote_sdp, holds_token, is_right, numbers_in, numbers_told, numbers_or}
-use Rattle.rtc_history.specs.Runs.{Went, EntersSoundly, Runs}
-use Rattle.rtc_history.specs.Sides.{same_side, side_of}
-use Rattle.rtc_history.specs.Sizes.{step_size, steps_size}
-use Rattle.rtc_history.specs.Sound.{IsSound, RepliesToOffer, RepliesToAnswer, asked_in}
-use Rattle.rtc_history.specs.SoundEntry.{IsSoundEntry}
-use Rattle.rtc_history.specs.Views.{Stances}
-use Rattle.rtc_history.specs.declared.outcome.Outcome.{Outcome}
-use Rattle.rtc_history.specs.declared.outcome.Outcome.TheVariants.{Negotiated, Answered, Finished, Done, Wrote, Polled, Refused, NoSuch, Alloc}
-use Rattle.rtc_history.specs.declared.reply.Reply.{Reply}
-use Rattle.rtc_history.specs.declared.side.Side.{Side}
-use Rattle.rtc_history.specs.declared.step.Step.{Step}
-use Rattle.rtc_history.specs.declared.step.Step.TheVariants.{Negotiate, AcceptOffer, AcceptAnswer, Time, Datagram, Poll, Drain, Write, CloseChannel, Close}
-use Rattle.rtc_history.specs.declared.table.Table.{Table}
-use Rattle.rtc_history_laws.proofs.ChannelCounts.{steps_size-append, told_within}
-use Rattle.rtc_history_laws.proofs.OrderlyPasts.{next_of, follow_last}
-use Rattle.rtc_history_laws.proofs.Takings.{offer_taking, answer_taking}
+use Rattle.rtc_run_history.specs.Signalled.{Signalled, NotMade, Unreadable, Readable}
+use Rattle.rtc_run_history.specs.Views.{AreFormed}
+use Rattle.rtc_run_history.specs.Memory.{lacks_memory, outcome_lacks, tells_fault, tell_fault, fails}
+use Rattle.rtc_run_history.specs.Orderly.{Course, course_of, are_orderly, has_failed, can_connect, is_ok, negotiates, AreNumbersLeft}
+use Rattle.rtc_run_history.specs.PairState.{PairState, stances_of}
+use Rattle.rtc_run_history.specs.Past.{Entry, MadeSdp, steps_of, replies_of, reply_of, remote_sdp, holds_token, is_right, numbers_in, numbers_told, numbers_or}
+use Rattle.rtc_run_history.specs.Runs.{Went, EntersSoundly, Runs}
+use Rattle.rtc_run_history.specs.Sides.{same_side, side_of}
+use Rattle.rtc_run_history.specs.Sizes.{step_size, steps_size}
+use Rattle.rtc_run_history.specs.Sound.{IsSound, RepliesToOffer, RepliesToAnswer, asked_in}
+use Rattle.rtc_run_history.specs.SoundEntry.{IsSoundEntry}
+use Rattle.rtc_run_history.specs.Views.{Stances}
+use Rattle.rtc_run_history.specs.declared.outcome.Outcome.{Outcome}
+use Rattle.rtc_run_history.specs.declared.outcome.Outcome.TheVariants.{Negotiated, Answered, Finished, Done, Wrote, Polled, Refused, NoSuch, Alloc}
+use Rattle.rtc_run_history.specs.declared.reply.Reply.{Reply}
+use Rattle.rtc_run_history.specs.declared.side.Side.{Side}
+use Rattle.rtc_run_history.specs.declared.step.Step.{Step}
+use Rattle.rtc_run_history.specs.declared.step.Step.TheVariants.{Negotiate, AcceptOffer, AcceptAnswer, Time, Datagram, Poll, Drain, Write, CloseChannel, Close}
+use Rattle.rtc_run_history.specs.declared.table.Table.{Table}
+use Rattle.rtc_run_laws.proofs.ChannelCounts.{steps_size-append, told_within}
+use Rattle.rtc_run_laws.proofs.OrderlyPasts.{next_of, follow_last}
+use Rattle.rtc_run_laws.proofs.Takings.{offer_taking, answer_taking}
 use Rattle.rtc_demo.specs.DemoCounts.{tells_finished, count_finished}
 use Rattle.rtc_demo.specs.DemoSteps.{round_steps, demo_steps}
 use Rattle.rtc_demo.proofs.OrderlyDemos.{demo_orderly, demo_size}

@@ -4,16 +4,16 @@ use Rattle.rtc_sdp_values.specs.declared.direction.Direction.{Direction}
 use Rattle.rtc_sdp_values.specs.declared.line_row.LineRow.{LineRow}
 use Rattle.rtc_sdp_values.specs.declared.line_row.LineRow.TheVariants.{Media}
 use Rattle.rtc_sdp_values.specs.declared.media_kind.MediaKind.{MediaKind}
-use Rattle.rtc_history.specs.Answers.{has_app_row, added}
-use Rattle.rtc_history.specs.CourseRows.{rows_after_ops, rows_added, adding_answer, course_rows_after}
-use Rattle.rtc_history.specs.Orderly.{Idle, AwaitsAnswer, AwaitsEnd, Course, course_rows, moved_on, offering, after_step, follow}
-use Rattle.rtc_history.specs.Sides.{other_side}
-use Rattle.rtc_history.specs.declared.op.Op.{Op}
-use Rattle.rtc_history.specs.declared.op.Op.TheVariants.{AddMedia}
-use Rattle.rtc_history.specs.declared.side.Side.{Side}
-use Rattle.rtc_history.specs.declared.side.Side.TheVariants.{Left, Right}
-use Rattle.rtc_history.specs.declared.step.Step.{Step}
-use Rattle.rtc_history.specs.declared.step.Step.TheVariants.{Negotiate, AcceptOffer, AcceptAnswer}
+use Rattle.rtc_run_history.specs.Answers.{has_app_row, added}
+use Rattle.rtc_run_history.specs.CourseRows.{rows_after_ops, rows_added, adding_answer, course_rows_after}
+use Rattle.rtc_run_history.specs.Orderly.{Idle, AwaitsAnswer, AwaitsEnd, Course, course_rows, moved_on, offering, after_step, follow}
+use Rattle.rtc_run_history.specs.Sides.{other_side}
+use Rattle.rtc_run_history.specs.declared.op.Op.{Op}
+use Rattle.rtc_run_history.specs.declared.op.Op.TheVariants.{AddMedia}
+use Rattle.rtc_run_history.specs.declared.side.Side.{Side}
+use Rattle.rtc_run_history.specs.declared.side.Side.TheVariants.{Left, Right}
+use Rattle.rtc_run_history.specs.declared.step.Step.{Step}
+use Rattle.rtc_run_history.specs.declared.step.Step.TheVariants.{Negotiate, AcceptOffer, AcceptAnswer}
 use Rattle.rtc_demo.specs.DemoSteps.{steps_between}
 use Rattle.rtc_demo.proofs.RoundForms.{AreFew}
 

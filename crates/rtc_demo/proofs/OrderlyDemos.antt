@@ -1,10 +1,10 @@
 -- The steps of a demo are orderly, and few.
 use Rattle.std.proofs.Common.{◌≡◌, ◌+◌, ◌*◌, ◌≤◌, ℕ, zero, suc, true, List, [], ◌∷◌, ◌++◌, length, Option, Some, None, refl, sym, ap, ◌∙◌, arith}
 use Rattle.std.specs.Prelude.{is_some}
-use Rattle.rtc_history.specs.Orderly.{Course, after_step, follow, course_of, are_orderly}
-use Rattle.rtc_history.specs.Sizes.{steps_size}
-use Rattle.rtc_history.specs.declared.step.Step.{Step}
-use Rattle.rtc_history.specs.declared.op.Op.TheVariants.{AddMedia}
+use Rattle.rtc_run_history.specs.Orderly.{Course, after_step, follow, course_of, are_orderly}
+use Rattle.rtc_run_history.specs.Sizes.{steps_size}
+use Rattle.rtc_run_history.specs.declared.step.Step.{Step}
+use Rattle.rtc_run_history.specs.declared.op.Op.TheVariants.{AddMedia}
 use Rattle.rtc_demo.specs.DemoSteps.{steps_between, round_steps, demo_steps}
 use Rattle.rtc_demo.proofs.RoundForms.{RoundForm, round_form}
 use Rattle.rtc_demo.proofs.IdleRounds.{idle_with, IsIdleAfter, round_idle}

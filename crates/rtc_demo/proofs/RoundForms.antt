@@ -7,11 +7,11 @@ use Rattle.rtc_sdp_values.specs.declared.direction.Direction.{Direction}
 use Rattle.rtc_sdp_values.specs.declared.direction.Direction.TheVariants.{SendRecv}
 use Rattle.rtc_sdp_values.specs.declared.media_kind.MediaKind.{MediaKind}
 use Rattle.rtc_sdp_values.specs.declared.media_kind.MediaKind.TheVariants.{Audio, Video}
-use Rattle.rtc_history.specs.CourseRows.{do_stop_first, do_add_odd_channel, is_in_band}
-use Rattle.rtc_history.specs.declared.op.Op.{Op}
-use Rattle.rtc_history.specs.declared.op.Op.TheVariants.{AddMedia, SetDirection, StopMedia, AddChannel, IceRestart}
-use Rattle.rtc_history.specs.declared.side.Side.{Side}
-use Rattle.rtc_history.specs.declared.step.Step.{Step}
+use Rattle.rtc_run_history.specs.CourseRows.{do_stop_first, do_add_odd_channel, is_in_band}
+use Rattle.rtc_run_history.specs.declared.op.Op.{Op}
+use Rattle.rtc_run_history.specs.declared.op.Op.TheVariants.{AddMedia, SetDirection, StopMedia, AddChannel, IceRestart}
+use Rattle.rtc_run_history.specs.declared.side.Side.{Side}
+use Rattle.rtc_run_history.specs.declared.step.Step.{Step}
 use Rattle.rtc_demo.specs.DemoSteps.{scrambled, offerer, direction_numbered, line_added, round_place, round_channel, besides, round_ops, steps_between, round_steps}
 
 -- ops besides an added line, at most one, that are in order in every round

@@ -3,7 +3,7 @@ ghost use Rattle.std.specs.Prelude.{◌≡◌, ◌≢◌, ◌≤◌, ◌<◌, �
 ghost use Rattle.std.specs.Fmt.{decimal};
 ghost use Rattle.rtc_demo.specs.DemoWords.{AreDemoWords, AskForDemo};
 
-use rtc_fields::read_decimal;
+use rtc_wire_text::read_decimal;
 
 // How many rounds a word asks for.
 fn read_rounds(word: &str) -> Option<u32>

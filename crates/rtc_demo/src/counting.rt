@@ -4,7 +4,7 @@ ghost use Rattle.rtc_demo.specs.DemoCounts as spec;
 
 use crate::DemoCounts;
 use crate::last_rows::last_counts;
-use rtc_history::{Outcome, Reply, Side, Step};
+use rtc_run_history::{Outcome, Reply, Side, Step};
 
 fn tells_finished<E>(outcome: &Outcome<E>) -> bool
     ensures { result ≡ spec.tells_finished outcome.now }

@@ -2,7 +2,7 @@
 ghost use Rattle.std.specs.Prelude.{◌≡◌};
 ghost use Rattle.rtc_demo.specs.DemoSteps as spec;
 
-use rtc_history::{Op, Side};
+use rtc_run_history::{Op, Side};
 use rtc_sdp_values::{Direction, MediaKind};
 
 /// The number that settles a round.

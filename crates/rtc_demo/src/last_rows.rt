@@ -1,10 +1,10 @@
 //! What the last tables of replies show.
 ghost use Rattle.std.specs.Prelude.{◌≡◌, ◌<◌, ◌^◌, count_by};
-ghost use Rattle.rtc_history.specs.Sides.{same_side};
+ghost use Rattle.rtc_run_history.specs.Sides.{same_side};
 ghost use Rattle.rtc_demo.specs.DemoCounts as spec;
 
 use crate::table_counts::TableCounts;
-use rtc_history::{Reply, Side, Step, Table};
+use rtc_run_history::{Reply, Side, Step, Table};
 use rtc_sdp_values::LineRow;
 
 fn is_same_side(a: Side, b: Side) -> bool

@@ -3,7 +3,7 @@ ghost use Rattle.std.specs.Prelude.{◌≡◌, ◌++◌, IfOk, OnOk};
 ghost use Rattle.rtc_demo.specs.DemoSteps as spec;
 
 use crate::drawn::{direction_numbered, line_added, round_place};
-use rtc_history::Op;
+use rtc_run_history::Op;
 use rtc_wire::{ChannelConfig, Seq, Text};
 use std::alloc::{AllocError, Global};
 

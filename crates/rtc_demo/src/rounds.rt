@@ -1,13 +1,13 @@
 //! The steps of a demo.
 ghost use Rattle.std.specs.Prelude.{◌≡◌, ◌≤◌, ◌<◌, ◌^◌, ◌++◌, true, IfOk, OnOk};
-ghost use Rattle.rtc_history.specs.Orderly.{are_orderly};
-ghost use Rattle.rtc_history.specs.Sides.{other_side};
-ghost use Rattle.rtc_history.specs.Sizes.{steps_size};
+ghost use Rattle.rtc_run_history.specs.Orderly.{are_orderly};
+ghost use Rattle.rtc_run_history.specs.Sides.{other_side};
+ghost use Rattle.rtc_run_history.specs.Sizes.{steps_size};
 ghost use Rattle.rtc_demo.specs.DemoSteps as spec;
 
 use crate::drawn::{offerer, scrambled};
 use crate::ops::round_ops;
-use rtc_history::{Op, Side, Step};
+use rtc_run_history::{Op, Side, Step};
 use rtc_wire::Seq;
 use std::alloc::{AllocError, Global};
 

@@ -1,5 +1,5 @@
 //! Lines of texts.
-use rtc_fields::lines;
+use rtc_wire_text::lines;
 use std::alloc::{AllocError, Global};
 
 // Whether a line is the wanted one, or is that with a space behind it and more.

@@ -3,7 +3,8 @@ use crate::Fault;
 use rtc_cases::is_ok;
 use rtc_peer::{ChannelData, Event, Output, RtcError, Why};
 use rtc_plain::PlainMediaEvent;
-use rtc_wire::{Bytes, Transmit, release};
+use rtc_wire::{Bytes, Transmit};
+use rtc_wire_drops::release;
 use std::alloc::Global;
 
 /// The datagrams that a peer has sent and the other one did not get yet, what it told, and why it failed first.

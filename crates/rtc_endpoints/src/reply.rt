@@ -1,6 +1,7 @@
 //! What becomes of an offer.
 use rtc_peer::RtcError;
-use rtc_wire::{Text, release};
+use rtc_wire::{Text};
+use rtc_wire_drops::release;
 use std::alloc::{AllocError, Global};
 
 /// What a peer makes of an offer that it is given.

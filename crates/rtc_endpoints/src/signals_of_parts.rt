@@ -7,7 +7,8 @@ use rtc_peer::{
     Association, Direction, DtlsInstance, IceAgent, Ids, MediaKind, MediaSession, Rtc, RtcError,
     SdpOffer, SdpPendingOffer,
 };
-use rtc_wire::{Text, release};
+use rtc_wire::{Text};
+use rtc_wire_drops::release;
 use std::alloc::{AllocError, Global};
 
 fn offer_channels<I: IceAgent, D: DtlsInstance, S: Association, M: MediaSession, N: Ids>(

@@ -3,7 +3,7 @@ ghost use Rattle.std.specs.Prelude.{◌≡◌, ◌≢◌, ◌<◌, ◌^◌, ℕ,
 ghost use Rattle.std.specs.Fmt.{decimal};
 ghost use Rattle.rtc_files.specs.Asking.{AreSizes, AskFor, AskForSessions, bytes_of_words};
 
-use rtc_fields::read_decimal;
+use rtc_wire_text::read_decimal;
 use std::alloc::{AllocError, Global};
 
 /// How many sessions the words may ask for.

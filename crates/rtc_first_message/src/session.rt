@@ -5,7 +5,8 @@ use rtc_peer::{
     RtcError,
 };
 use rtc_plain::PlainMediaEvent;
-use rtc_wire::{ChannelId, Moment, Receive, Span, release};
+use rtc_wire::{ChannelId, Moment, Receive, Span};
+use rtc_wire_drops::release;
 use std::alloc::{AllocError, Global};
 
 // Enough for a handshake, for an opening, and for a message of this size.

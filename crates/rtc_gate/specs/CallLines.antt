@@ -1,7 +1,7 @@
 -- The line of a call: words parted by single spaces.
 use Rattle.std.specs.Prelude.{◌≡◌, ◌≢◌, ◌<◌, ◌^◌, ℕ, List, [], ◌∷◌, Some, codes}
 use Rattle.std.specs.Fmt.{decimal}
-use Rattle.rtc_fields.specs.Words.{words}
+use Rattle.rtc_wire_text.specs.Words.{words}
 use Rattle.rtc_gate_frames.specs.Signal.{utf8_text_in}
 use Rattle.rtc_gate_calls.specs.declared.gate_call.GateCall.{GateCall}
 use Rattle.rtc_gate_calls.specs.declared.gate_call.GateCall.TheVariants.{Join, Leave, Feed, Take}

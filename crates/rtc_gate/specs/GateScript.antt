@@ -1,7 +1,7 @@
 -- Scripts of a gateway: a header, and then a line for each call. Every line ends with LF, the last one too.
 use Rattle.std.specs.Prelude.{◌≡◌, ◌+◌, ◌-◌, ◌^◌, ◌<◌, ℕ, List, [], ◌∷◌, ◌++◌, length, take, min, codes}
 use Rattle.std.specs.List.{AllZip}
-use Rattle.rtc_fields.specs.Lines.{pieces}
+use Rattle.rtc_wire_text.specs.Lines.{pieces}
 use Rattle.rtc_gate_calls.specs.declared.gate_call.GateCall.{GateCall}
 use Rattle.rtc_gate.specs.CallLines.{IsCallLine}
 use Rattle.rtc_gate.specs.declared.script_error.ScriptError.{ScriptError}

@@ -1,6 +1,6 @@
 //! Words of a line.
 ghost use Rattle.std.specs.Prelude.{◌≡◌, IfOk, map};
-ghost use Rattle.rtc_fields.specs.Words.{words};
+ghost use Rattle.rtc_wire_text.specs.Words.{words};
 
 use std::alloc::{AllocError, Global};
 

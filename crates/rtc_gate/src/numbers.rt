@@ -2,7 +2,7 @@
 ghost use Rattle.std.specs.Prelude.{◌≡◌, ◌≢◌, ◌<◌, ◌^◌, ℕ, IfSome, IfNone};
 ghost use Rattle.std.specs.Fmt.{decimal};
 
-use rtc_fields::read_decimal;
+use rtc_wire_text::read_decimal;
 use std::str;
 
 /// The number below 2^32 that a word is the decimal of, without leading zeros.

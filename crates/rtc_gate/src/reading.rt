@@ -5,7 +5,7 @@ ghost use Rattle.rtc_gate.specs.GateScript.{gate_header, AreGatePieces, AreRefus
 
 use crate::ScriptError;
 use crate::call_lines::{LinesError, read_calls};
-use rtc_fields::pieces;
+use rtc_wire_text::pieces;
 use rtc_gate_calls::GateCall;
 use rtc_wire::Seq;
 use std::alloc::Global;

@@ -21,7 +21,7 @@ use Rattle.std.specs.Prelude.{
   if◌then◌else◌,
 }
 use Rattle.std.specs.Str.{bytes_eq}
-use Rattle.rtc_fields.specs.Tokens.{is_short_token}
+use Rattle.rtc_wire_text.specs.Tokens.{is_short_token}
 use Rattle.rtc_gate_frames.specs.declared.signal_kind.SignalKind.{SignalKind}
 use Rattle.rtc_gate_frames.specs.declared.signal_kind.SignalKind.TheVariants.{Offer, Answer, Candidate, NobodyThere, NotInGrammar}
 use Rattle.rtc_gate_frames.specs.Signal.{Signal, signal_bytes}

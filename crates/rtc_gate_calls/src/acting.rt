@@ -24,7 +24,7 @@ ghost use Rattle.rtc_gate_calls.specs.Delivering.{connection_changed_at, IsAt};
 
 use crate::connection::Connection;
 use crate::places::place_of;
-use rtc_fields::ShortToken;
+use rtc_wire_text::ShortToken;
 use rtc_wire::Bytes;
 
 /// No connection that is here has the number.

@@ -20,7 +20,7 @@ ghost use Rattle.std.specs.Prelude.{
 };
 ghost use Rattle.rtc_gate_calls.specs.GateState.{ConnectionState, Incoming, fresh_connection};
 
-use rtc_fields::ShortToken;
+use rtc_wire_text::ShortToken;
 use rtc_wire::Bytes;
 use std::alloc::{AllocError, Global};
 use std::collections::LinkedList;

@@ -22,7 +22,7 @@ use crate::delivering::deliver;
 use crate::places::place_of;
 use crate::posting::Sender;
 use crate::sorting::{Sorted, sort};
-use rtc_fields::ShortToken;
+use rtc_wire_text::ShortToken;
 use std::alloc::{AllocError, Global};
 use std::collections::BTreeMap;
 

@@ -18,7 +18,7 @@ use crate::GateError;
 use crate::acting::{NotHere, leave_from, room_for, take_from};
 use crate::connection::Connection;
 use crate::feeding::feed_to;
-use rtc_fields::ShortToken;
+use rtc_wire_text::ShortToken;
 use rtc_wire::Bytes;
 use std::alloc::Global;
 use std::collections::BTreeMap;

@@ -22,7 +22,7 @@ use Rattle.std.specs.Prelude.{
 }
 use Rattle.std.specs.Int.{w32, to_be_bytes, from_be_bytes, is_in_range}
 use Rattle.std.specs.Str.{is_utf8}
-use Rattle.rtc_fields.specs.Tokens.{is_short_token}
+use Rattle.rtc_wire_text.specs.Tokens.{is_short_token}
 use Rattle.rtc_gate_frames.specs.declared.signal_kind.SignalKind.{SignalKind}
 use Rattle.rtc_gate_frames.specs.declared.signal_kind.SignalKind.TheVariants.{Offer, Answer, Candidate, NobodyThere, NotInGrammar}
 use Rattle.rtc_gate_frames.specs.declared.extent.FrameExtent.{FrameExtent}

@@ -2,7 +2,7 @@
 ghost use Rattle.std.specs.Prelude.{◌≡◌};
 ghost use Rattle.rtc_gate_frames.specs.Signal as spec;
 
-use rtc_fields::ShortToken;
+use rtc_wire_text::ShortToken;
 use std::str;
 
 /// The name that bytes are: 1 to 32 token characters (RFC 8866, section 9).

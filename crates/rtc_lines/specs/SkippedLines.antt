@@ -1,6 +1,6 @@
 -- Skipped lines: one more of them in a text changes no value, and moves the numbers of the lines behind it by one.
 use Rattle.std.specs.Prelude.{◌≡◌, ℕ, false, List, ◌∷◌, ◌++◌, map, Result, Ok, Err, if◌then◌else◌, nat_le}
-use Rattle.rtc_fields.specs.Lines.{lines}
+use Rattle.rtc_wire_text.specs.Lines.{lines}
 use Rattle.rtc_sdp_values.specs.declared.sdp.Sdp.{Sdp}
 use Rattle.rtc_sdp_grammar.specs.declared.item.Item.TheVariants.{Skipped}
 use Rattle.rtc_sdp_grammar.specs.ItemForm.{item_of}

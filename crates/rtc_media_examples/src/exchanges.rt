@@ -1,6 +1,6 @@
 //! Two media parts in memory that give each other their packets.
 use crate::sessions::{Part, is_silent, settings, shows, tells};
-use rtc_media::{RawPacket, SrtpProfile};
+use rtc_part_media::{RawPacket, SrtpProfile};
 use rtc_plain_media::PlainMediaEvent;
 use rtc_sdp_values::Ssrc;
 use rtc_wire::{Bytes, Moment};

@@ -2,7 +2,7 @@
 use crate::sessions::{Part, commit, counts, is_silent, sends, settings, shows, tells};
 use crate::{exchanges, lookups, marks, reports};
 use rtc_cases::is_true;
-use rtc_media::{MediaError, RawPacket, SrtpProfile, StatsSnapshot};
+use rtc_part_media::{MediaError, RawPacket, SrtpProfile, StatsSnapshot};
 use rtc_plain_media::{PlainMedia, PlainMediaEvent};
 use rtc_sdp_values::{Direction, MediaKind, Mid, Ssrc};
 use rtc_wire::{Bytes, Moment};

@@ -2,7 +2,7 @@
 ghost use Rattle.std.specs.Prelude.{◌≡◌, None};
 
 use rtc_cases::{is_copied, prints};
-use rtc_media::{MediaError, MediaIngressStats, RawPacket, RemoteEgressStats};
+use rtc_part_media::{MediaError, MediaIngressStats, RawPacket, RemoteEgressStats};
 use rtc_sdp_values::{Mid, Pt};
 use rtc_wire::{Bytes, Moment, Span};
 use std::alloc::{AllocError, Global};

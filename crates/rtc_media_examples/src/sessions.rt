@@ -1,10 +1,11 @@
 //! What examples ask of a media part.
-use rtc_media::{
+use rtc_part_media::{
     MediaEvent, MediaSession, MediaSettings, MediaUpdate, RawPacket, Vp9PacketizerMode,
 };
 use rtc_plain_media::{PlainMark, PlainMedia, PlainMediaEvent};
 use rtc_sdp_values::{Direction, LineRow, MediaKind, Mid, Ssrc};
-use rtc_wire::{Moment, Seq, Span, release};
+use rtc_wire::{Moment, Seq, Span};
+use rtc_wire_drops::release;
 use std::alloc::{AllocError, Global};
 use std::slice;
 

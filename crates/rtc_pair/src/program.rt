@@ -12,7 +12,7 @@ use crate::asking::ask_for_run;
 use crate::top::run_main;
 use rtc_demo::read_demo;
 use rtc_io::{Sink, Source, USAGE, say};
-use rtc_plain_pair::PlainPair;
+use rtc_run_plain::PlainPair;
 use rtc_script_runs::perform_demo;
 use std::alloc::Global;
 

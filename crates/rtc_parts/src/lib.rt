@@ -1,13 +1,13 @@
 //! The outside of a peer: the traits of its parts, of their source of numbers, and the values that their calls speak of.
 #![tactic(auto)]
 
-pub use rtc_association::{AssocError, AssocEvent, Association, Ppi};
-pub use rtc_dtls::{Dtls, DtlsError, DtlsInstance, DtlsOutput, DtlsPolled, DtlsVersion};
-pub use rtc_ice::{IceAgent, IceConnectionState, IceEvent};
-pub use rtc_ids::Ids;
-pub use rtc_media::{
+pub use rtc_part_association::{AssocError, AssocEvent, Association, Ppi};
+pub use rtc_part_dtls::{Dtls, DtlsError, DtlsInstance, DtlsOutput, DtlsPolled, DtlsVersion};
+pub use rtc_part_ice::{IceAgent, IceConnectionState, IceEvent};
+pub use rtc_part_draws::Ids;
+pub use rtc_part_media::{
     CandidatePairStats, CandidateStats, MediaEgressStats, MediaError, MediaEvent,
     MediaIngressStats, MediaSession, MediaSettings, MediaUpdate, NoStream, PeerStats, RawPacket,
     RemoteEgressStats, RemoteIngressStats, StatsEvent, StatsSnapshot, Vp9PacketizerMode,
 };
-pub use rtc_parts_values::{Reason, SrtpProfile};
+pub use rtc_part_values::{Reason, SrtpProfile};

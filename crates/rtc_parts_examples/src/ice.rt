@@ -1,6 +1,6 @@
 //! ICE agents in memory that check each other, with messages byte by byte.
 use crate::agents::{Call, LEFT, RIGHT, Step, is_played};
-use rtc_ice::{IceConnectionState, IceEvent};
+use rtc_part_ice::{IceConnectionState, IceEvent};
 use rtc_wire::Protocol;
 use std::alloc::Global;
 

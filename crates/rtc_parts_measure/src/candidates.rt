@@ -1,5 +1,5 @@
 //! Remote candidates of an ICE agent by their addresses.
-use rtc_ice::IceAgent;
+use rtc_part_ice::IceAgent;
 use rtc_plain_ice::PlainIce;
 use rtc_sdp_values::Candidate;
 use rtc_wire::{Addr, Protocol};

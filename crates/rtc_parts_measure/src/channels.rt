@@ -1,6 +1,6 @@
 //! Amounts of work for the streams of two peers, and for the channels of one.
 use crate::open_streams::{OpenStreams, unstarted};
-use rtc_association::Association;
+use rtc_part_association::Association;
 use rtc_channels::ChannelHandler;
 use rtc_sctp::SctpError;
 use rtc_wire::ChannelConfig;

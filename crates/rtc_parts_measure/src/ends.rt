@@ -1,7 +1,7 @@
 //! Amounts of work for two ends of an association.
 use crate::two_ends::TwoEnds;
 use rtc_assoc_end::PlainAssociation;
-use rtc_association::{AssocError, Association};
+use rtc_part_association::{AssocError, Association};
 use std::alloc::{AllocError, Global};
 
 fn open_all<A: Association>(ends: &mut TwoEnds<A>, streams: u32) -> Result<(), AssocError> {

@@ -1,6 +1,6 @@
 //! The open streams of two peers in one process.
 use rtc_assoc_end::PlainAssociation;
-use rtc_association::Association;
+use rtc_part_association::Association;
 use rtc_sctp::{RtcSctp, SctpError, SctpEvent};
 use rtc_wire::{Bytes, ChannelConfig, Moment, Seq};
 use std::alloc::{AllocError, Global};

@@ -1,5 +1,5 @@
 //! Ssrcs in use among the lines of a media part.
-use rtc_media::{MediaSession, MediaUpdate};
+use rtc_part_media::{MediaSession, MediaUpdate};
 use rtc_plain_media::PlainMedia;
 use rtc_sdp_values::{Direction, LineRow, MediaKind, Mid, Ssrc};
 use rtc_wire::Seq;

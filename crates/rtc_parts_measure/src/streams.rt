@@ -1,5 +1,5 @@
 //! Streams of a media part by their line and layer.
-use rtc_media::MediaSession;
+use rtc_part_media::MediaSession;
 use rtc_plain_media::PlainMedia;
 use rtc_sdp_values::{Mid, Rid, Ssrc};
 use std::alloc::{AllocError, Global};

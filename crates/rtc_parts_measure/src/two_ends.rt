@@ -1,5 +1,5 @@
 //! Two ends in one process.
-use rtc_association::{AssocError, Association, Ppi};
+use rtc_part_association::{AssocError, Association, Ppi};
 use rtc_wire::{Bytes, Moment};
 use std::alloc::{AllocError, Global};
 

@@ -1,7 +1,7 @@
 -- What a peer is built from where nothing is set.
 use Rattle.std.specs.Prelude.{None, false}
-use Rattle.rtc_peer_state.specs.Config.{Config}
-use Rattle.rtc_peer_state.specs.Formats.{default_formats}
+use Rattle.rtc_peer_core.specs.Config.{Config}
+use Rattle.rtc_peer_core.specs.Formats.{default_formats}
 
 -- an agent that makes checks, drawn credentials, a drawn certificate, the default codecs and header extensions, the default limits, and no
 -- start of the association by session descriptions

@@ -5,7 +5,7 @@ use Rattle.rtc_sdp_values.specs.declared.sdp.Sdp.{Sdp}
 use Rattle.rtc_lines.specs.declared.sdp_answer.SdpAnswer.{SdpAnswer}
 use Rattle.rtc_lines.specs.declared.sdp_offer.SdpOffer.{SdpOffer}
 use Rattle.rtc_change.specs.PendingOffer.{PendingOffer}
-use Rattle.rtc_peer_state.specs.declared.rtc_error.RtcError.{RtcError}
+use Rattle.rtc_peer_core.specs.declared.rtc_error.RtcError.{RtcError}
 
 -- the session description of an answer
 abbrev pub sdp_of_answer : Result SdpAnswer RtcError → Result Sdp RtcError

@@ -4,10 +4,10 @@ use Rattle.std.specs.declared.alloc.AllocError.{AllocError}
 use Rattle.rtc_sdp_values.specs.declared.candidate.Candidate.{Candidate}
 use Rattle.rtc_sdp_values.specs.declared.line_row.LineRow.{LineRow}
 use Rattle.rtc_sdp_values.specs.declared.line_row.LineRow.TheVariants.{Media, App}
-use Rattle.rtc_tables.specs.Table.{row_of}
-use Rattle.rtc_ice.specs.IceMeaning.{IceMeaning}
-use Rattle.rtc_peer_state.specs.declared.phase.Phase.{Phase}
-use Rattle.rtc_peer_state.specs.declared.phase.Phase.TheVariants.{Alive, Closing, Closed}
+use Rattle.rtc_peer_rows.specs.Table.{row_of}
+use Rattle.rtc_part_ice.specs.IceMeaning.{IceMeaning}
+use Rattle.rtc_peer_core.specs.declared.phase.Phase.{Phase}
+use Rattle.rtc_peer_core.specs.declared.phase.Phase.TheVariants.{Alive, Closing, Closed}
 
 abbrev pub if_of_media : LineRow → Option LineRow
 if_of_media (Media place mid kind dir stopped remote_created) = Some (Media place mid kind dir stopped remote_created)

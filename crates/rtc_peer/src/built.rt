@@ -1,21 +1,21 @@
 //! What a peer is built from.
 ghost use Rattle.std.specs.Prelude.{◌≡◌, IfOk, None, true};
-ghost use Rattle.rtc_peer_state.specs.Built.{AreFresh, Builds};
-ghost use Rattle.rtc_peer_state.specs.Formats.{AreFormedFormats};
-ghost use Rattle.rtc_peer_state.specs.Formed.{IsFormed};
-ghost use Rattle.rtc_peer_state.specs.Meanings.{meanings};
-ghost use Rattle.rtc_peer_state.specs.Stance.{stance_of};
-ghost use Rattle.rtc_connection.specs.Connection.{no_transport};
+ghost use Rattle.rtc_peer_core.specs.Built.{AreFresh, Builds};
+ghost use Rattle.rtc_peer_core.specs.Formats.{AreFormedFormats};
+ghost use Rattle.rtc_peer_core.specs.Formed.{IsFormed};
+ghost use Rattle.rtc_peer_core.specs.Meanings.{meanings};
+ghost use Rattle.rtc_peer_core.specs.Stance.{stance_of};
+ghost use Rattle.rtc_peer_transport.specs.Connection.{no_transport};
 ghost use Rattle.rtc_peer.specs.BuiltFrom.{standard_config};
 
 use crate::Rtc;
-use rtc_association::Association;
-use rtc_dtls::DtlsInstance;
-use rtc_ice::IceAgent;
-use rtc_ids::Ids;
+use rtc_part_association::Association;
+use rtc_part_dtls::DtlsInstance;
+use rtc_part_ice::IceAgent;
+use rtc_part_draws::Ids;
 use rtc_lines::CodecConfig;
-use rtc_media::MediaSession;
-use rtc_peer_state::RtcConfig;
+use rtc_part_media::MediaSession;
+use rtc_peer_core::RtcConfig;
 use rtc_wire::Moment;
 use std::alloc::{AllocError, Global};
 

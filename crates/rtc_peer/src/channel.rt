@@ -1,16 +1,16 @@
 //! Data channels that are open.
 ghost use Rattle.std.specs.Prelude.{◌≡◌, None, Some, MatchOption};
 ghost use Rattle.rtc_sctp_entries.specs.Entries.{stream_config};
-ghost use Rattle.rtc_peer_state.specs.Meanings.{meanings};
-ghost use Rattle.rtc_connection.specs.ChannelCalls.{SetsChannelThreshold, WritesChannel, bytes_buffered};
+ghost use Rattle.rtc_peer_core.specs.Meanings.{meanings};
+ghost use Rattle.rtc_peer_transport.specs.ChannelCalls.{SetsChannelThreshold, WritesChannel, bytes_buffered};
 
 use crate::Rtc;
-use rtc_association::Association;
-use rtc_dtls::DtlsInstance;
-use rtc_ice::IceAgent;
-use rtc_ids::Ids;
-use rtc_media::MediaSession;
-use rtc_peer_state::RtcError;
+use rtc_part_association::Association;
+use rtc_part_dtls::DtlsInstance;
+use rtc_part_ice::IceAgent;
+use rtc_part_draws::Ids;
+use rtc_part_media::MediaSession;
+use rtc_peer_core::RtcError;
 use rtc_wire::ChannelConfig;
 
 /// A data channel that is open (RFC 8831, section 6.4).

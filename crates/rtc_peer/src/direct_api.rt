@@ -1,25 +1,25 @@
 //! The handle by which a user drives a peer without session descriptions.
 ghost use Rattle.std.specs.Prelude.{◌≡◌, IfOk, MatchOption, None, Some, map};
 ghost use Rattle.rtc_channels.specs.Channels.{channel_of_stream, numbered_stream};
-ghost use Rattle.rtc_peer_state.specs.Meanings.{meanings};
-ghost use Rattle.rtc_connection.specs.ChannelCalls.{ClosesDataChannel, stream_under};
-ghost use Rattle.rtc_direct.specs.IceCalls.{SetsControlling, SetsLite, SetsLocalCreds, SetsRemoteCreds, InvalidatesCandidate};
-ghost use Rattle.rtc_direct.specs.DtlsCalls.{with_fingerprint, TakesDtlsRole};
-ghost use Rattle.rtc_direct.specs.ChannelMaking.{StartsStreams, CreatesChannel};
+ghost use Rattle.rtc_peer_core.specs.Meanings.{meanings};
+ghost use Rattle.rtc_peer_transport.specs.ChannelCalls.{ClosesDataChannel, stream_under};
+ghost use Rattle.rtc_peer_direct.specs.IceCalls.{SetsControlling, SetsLite, SetsLocalCreds, SetsRemoteCreds, InvalidatesCandidate};
+ghost use Rattle.rtc_peer_direct.specs.DtlsCalls.{with_fingerprint, TakesDtlsRole};
+ghost use Rattle.rtc_peer_direct.specs.ChannelMaking.{StartsStreams, CreatesChannel};
 
 use crate::Rtc;
-use rtc_association::Association;
-use rtc_direct::{
+use rtc_part_association::Association;
+use rtc_peer_direct::{
     copy_local_credentials, create_data_channel, invalidate_candidate, set_ice_controlling,
     set_ice_lite, set_local_credentials, set_remote_credentials, set_remote_fingerprint,
     start_dtls, start_sctp, start_sctp_with_snap,
 };
-use rtc_dtls::{DtlsInstance, DtlsVersion};
-use rtc_ice::IceAgent;
-use rtc_ids::Ids;
+use rtc_part_dtls::{DtlsInstance, DtlsVersion};
+use rtc_part_ice::IceAgent;
+use rtc_part_draws::Ids;
 use rtc_lines::{Candidate, Fingerprint, IceCreds};
-use rtc_media::MediaSession;
-use rtc_peer_state::RtcError;
+use rtc_part_media::MediaSession;
+use rtc_peer_core::RtcError;
 use rtc_sctp::SctpInitData;
 use rtc_wire::{ChannelConfig, ChannelId};
 use std::alloc::AllocError;

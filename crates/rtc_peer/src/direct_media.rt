@@ -1,20 +1,20 @@
 //! Media lines and streams of a peer without session descriptions.
 ghost use Rattle.std.specs.Prelude.{◌≡◌};
-ghost use Rattle.rtc_direct.specs.DeclaredRows.{DeclaresMedia, RemovesMedia};
-ghost use Rattle.rtc_direct.specs.SourcesAndFeedback.{DrawsSource, SetsRed, EnablesTwcc, SendsAppFeedback, SendsPli};
-ghost use Rattle.rtc_direct.specs.Streams.{RemovesRx, RemovesTx};
+ghost use Rattle.rtc_peer_direct.specs.DeclaredRows.{DeclaresMedia, RemovesMedia};
+ghost use Rattle.rtc_peer_direct.specs.SourcesAndFeedback.{DrawsSource, SetsRed, EnablesTwcc, SendsAppFeedback, SendsPli};
+ghost use Rattle.rtc_peer_direct.specs.Streams.{RemovesRx, RemovesTx};
 
 use crate::DirectApi;
-use rtc_association::Association;
-use rtc_direct::{
+use rtc_part_association::Association;
+use rtc_peer_direct::{
     declare_media, draw_ssrc, enable_twcc_feedback, remove_media, remove_stream_rx,
     remove_stream_tx, send_app_specific_feedback, send_pli_feedback, set_red_send,
 };
-use rtc_dtls::DtlsInstance;
-use rtc_ice::IceAgent;
-use rtc_ids::Ids;
+use rtc_part_dtls::DtlsInstance;
+use rtc_part_ice::IceAgent;
+use rtc_part_draws::Ids;
 use rtc_lines::{MediaKind, Mid, Ssrc};
-use rtc_media::MediaSession;
+use rtc_part_media::MediaSession;
 use std::alloc::AllocError;
 
 impl<'a, I: IceAgent, D: DtlsInstance, S: Association, M: MediaSession, N: Ids> DirectApi<

@@ -2,16 +2,16 @@
 ghost use Rattle.std.specs.Prelude.{◌≡◌, None, Some, IfSome, IsSome, MatchOption, ◌↔◌};
 ghost use Rattle.std.specs.Borrow.{RestsIfNone, sem};
 ghost use Rattle.rtc_peer.specs.contracts.rtc.Rtc.{the_row};
-ghost use Rattle.rtc_peer_state.specs.Meanings.{meanings};
-ghost use Rattle.rtc_connection.specs.ChannelCalls.{ClosesDataChannel, open_stream_under};
-ghost use Rattle.rtc_connection.specs.ChannelCalls.{config_under, stream_under};
+ghost use Rattle.rtc_peer_core.specs.Meanings.{meanings};
+ghost use Rattle.rtc_peer_transport.specs.ChannelCalls.{ClosesDataChannel, open_stream_under};
+ghost use Rattle.rtc_peer_transport.specs.ChannelCalls.{config_under, stream_under};
 
 use crate::{Channel, Rtc};
-use rtc_association::Association;
-use rtc_dtls::DtlsInstance;
-use rtc_ice::IceAgent;
-use rtc_ids::Ids;
-use rtc_media::MediaSession;
+use rtc_part_association::Association;
+use rtc_part_dtls::DtlsInstance;
+use rtc_part_ice::IceAgent;
+use rtc_part_draws::Ids;
+use rtc_part_media::MediaSession;
 use rtc_wire::{ChannelConfig, ChannelId};
 use std::alloc::AllocError;
 

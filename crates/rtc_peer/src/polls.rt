@@ -1,20 +1,20 @@
 //! Polls, inputs and closing of a peer.
 ghost use Rattle.std.specs.Prelude.{◌≡◌};
-ghost use Rattle.rtc_peer_state.specs.Meanings.{meanings};
-ghost use Rattle.rtc_connection.specs.Closing.{ClosesPeer};
-ghost use Rattle.rtc_polling.specs.Inputs.{HandlesInput};
-ghost use Rattle.rtc_connection.specs.Readings.{is_accepted, is_peer_connected};
-ghost use Rattle.rtc_polling.specs.Walk.{PollsPeer};
+ghost use Rattle.rtc_peer_core.specs.Meanings.{meanings};
+ghost use Rattle.rtc_peer_transport.specs.Closing.{ClosesPeer};
+ghost use Rattle.rtc_peer_polling.specs.Inputs.{HandlesInput};
+ghost use Rattle.rtc_peer_transport.specs.Readings.{is_accepted, is_peer_connected};
+ghost use Rattle.rtc_peer_polling.specs.Walk.{PollsPeer};
 
 use crate::Rtc;
-use rtc_association::Association;
-use rtc_connection::{Input, Output};
-use rtc_dtls::DtlsInstance;
-use rtc_ice::IceAgent;
-use rtc_ids::Ids;
-use rtc_media::MediaSession;
-use rtc_parts_values::Reason;
-use rtc_peer_state::RtcError;
+use rtc_part_association::Association;
+use rtc_peer_transport::{Input, Output};
+use rtc_part_dtls::DtlsInstance;
+use rtc_part_ice::IceAgent;
+use rtc_part_draws::Ids;
+use rtc_part_media::MediaSession;
+use rtc_part_values::Reason;
+use rtc_peer_core::RtcError;
 
 impl<I: IceAgent, D: DtlsInstance, S: Association, M: MediaSession, N: Ids> Rtc<I, D, S, M, N> {
     /// The first thing that the peer has to give: events and datagrams, or the moment at which a timeout is wanted as
@@ -25,7 +25,7 @@ impl<I: IceAgent, D: DtlsInstance, S: Association, M: MediaSession, N: Ids> Rtc<
     pub fn poll_output(&mut self) -> Result<Output<M::E>, RtcError>
         ensures { PollsPeer (meanings I.ice D.dtls S.association M.media N.ids) self.old result self.new }
     {
-        rtc_polling::poll_output(&mut self.polled)
+        rtc_peer_polling::poll_output(&mut self.polled)
     }
 
     /// The reason of the last timeout that a poll answered; `NotHappening` before the first.
@@ -56,7 +56,7 @@ impl<I: IceAgent, D: DtlsInstance, S: Association, M: MediaSession, N: Ids> Rtc<
     pub fn handle_input(&mut self, input: &Input<'_>) -> Result<(), RtcError>
         ensures { HandlesInput (meanings I.ice D.dtls S.association M.media N.ids) input.now self.old result self.new }
     {
-        rtc_polling::handle_input(&mut self.polled, input)
+        rtc_peer_polling::handle_input(&mut self.polled, input)
     }
 
     /// Begins to close the peer, which polls then bring to its end: media says goodbye (RFC 3550, section 6.6), the association

@@ -1,28 +1,28 @@
 //! The peer that callers hold.
 ghost use Rattle.std.specs.Prelude.{◌≡◌, [], IfOk, IfSome, slice_get, true};
 ghost use Rattle.std.specs.Option.{option_copied};
-ghost use Rattle.rtc_peer_state.specs.declared.phase.Phase.TheVariants.{Closed};
-ghost use Rattle.rtc_peer_state.specs.ChannelRows.{channel_rows};
-ghost use Rattle.rtc_peer_state.specs.Built.{AreFresh, Builds};
-ghost use Rattle.rtc_peer_state.specs.Formats.{AreFormedFormats};
-ghost use Rattle.rtc_peer_state.specs.Formed.{AreSdpCreds, IsFormed};
-ghost use Rattle.rtc_peer_state.specs.Meanings.{meanings};
-ghost use Rattle.rtc_peer_state.specs.Stance.{stance_of};
-ghost use Rattle.rtc_connection.specs.Connection.{no_transport};
+ghost use Rattle.rtc_peer_core.specs.declared.phase.Phase.TheVariants.{Closed};
+ghost use Rattle.rtc_peer_core.specs.ChannelRows.{channel_rows};
+ghost use Rattle.rtc_peer_core.specs.Built.{AreFresh, Builds};
+ghost use Rattle.rtc_peer_core.specs.Formats.{AreFormedFormats};
+ghost use Rattle.rtc_peer_core.specs.Formed.{AreSdpCreds, IsFormed};
+ghost use Rattle.rtc_peer_core.specs.Meanings.{meanings};
+ghost use Rattle.rtc_peer_core.specs.Stance.{stance_of};
+ghost use Rattle.rtc_peer_transport.specs.Connection.{no_transport};
 ghost use Rattle.rtc_peer.specs.Readings.{media_row_of, is_alive_phase, AddsRemote};
 
 use crate::SdpApi;
-use rtc_association::Association;
+use rtc_part_association::Association;
 use rtc_change::Lines;
 use rtc_channels::ChannelRow;
-use rtc_connection::{PolledPeer, Transport};
-use rtc_dtls::DtlsInstance;
-use rtc_ice::IceAgent;
-use rtc_ids::Ids;
+use rtc_peer_transport::{PolledPeer, Transport};
+use rtc_part_dtls::DtlsInstance;
+use rtc_part_ice::IceAgent;
+use rtc_part_draws::Ids;
 use rtc_lines::{Candidate, LineRow, Mid};
-use rtc_media::MediaSession;
-use rtc_peer_state::{Phase, RtcConfig};
-use rtc_staging::{build_peer, list_channels, show_channel};
+use rtc_part_media::MediaSession;
+use rtc_peer_core::{Phase, RtcConfig};
+use rtc_peer_staging::{build_peer, list_channels, show_channel};
 use rtc_wire::{Moment, Seq};
 use std::alloc::{AllocError, Global};
 use std::marker::Model;
@@ -55,7 +55,7 @@ impl<I: Drop, D: Drop, S: Drop, M: Drop, N: Drop> Drop for Rtc<I, D, S, M, N> {
 }
 
 impl<I, D, S, M, N> Model for Rtc<I, D, S, M, N> {
-    ghost use Rattle.rtc_connection.specs.declared.polled_peer.PolledPeer.{PolledPeer};
+    ghost use Rattle.rtc_peer_transport.specs.declared.polled_peer.PolledPeer.{PolledPeer};
 
     ghost Value = { PolledPeer I D S M N };
 

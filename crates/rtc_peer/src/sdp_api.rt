@@ -1,23 +1,23 @@
 //! Offers and answers of a peer.
 ghost use Rattle.std.specs.Prelude.{◌≡◌, ◌≢◌, IsTrue, ◌↔◌, []};
-ghost use Rattle.rtc_peer_state.specs.Acceptances.{AcceptsOffer, AcceptsAnswer};
-ghost use Rattle.rtc_peer_state.specs.Calls.{AddsMedia, AddsChannel, StagesRestart, SetsDirection, StopsMedia, Applies};
-ghost use Rattle.rtc_peer_state.specs.Meanings.{meanings};
+ghost use Rattle.rtc_peer_core.specs.Acceptances.{AcceptsOffer, AcceptsAnswer};
+ghost use Rattle.rtc_peer_core.specs.Calls.{AddsMedia, AddsChannel, StagesRestart, SetsDirection, StopsMedia, Applies};
+ghost use Rattle.rtc_peer_core.specs.Meanings.{meanings};
 ghost use Rattle.rtc_peer.specs.Described.{sdp_of_answer, sdp_of_offer};
 ghost use Rattle.rtc_peer.specs.Labelled.{labelled_config};
 ghost use Rattle.rtc_peer.specs.WantedLine.{wanted_line};
 
 use crate::Rtc;
-use rtc_association::Association;
+use rtc_part_association::Association;
 use rtc_change::{Lines, SdpPendingOffer};
-use rtc_dtls::DtlsInstance;
-use rtc_ice::IceAgent;
-use rtc_ids::Ids;
+use rtc_part_dtls::DtlsInstance;
+use rtc_part_ice::IceAgent;
+use rtc_part_draws::Ids;
 use rtc_lines::{Direction, IceCreds, MediaKind, Mid, SdpAnswer, SdpOffer, Simulcast};
-use rtc_media::MediaSession;
-use rtc_negotiation::{accept_answer, accept_offer, apply_staged};
-use rtc_peer_state::RtcError;
-use rtc_staging::{set_direction, stage_channel, stage_media, stage_restart, stop_media};
+use rtc_part_media::MediaSession;
+use rtc_peer_negotiation::{accept_answer, accept_offer, apply_staged};
+use rtc_peer_core::RtcError;
+use rtc_peer_staging::{set_direction, stage_channel, stage_media, stage_restart, stop_media};
 use rtc_wire::{ChannelConfig, ChannelId, Text};
 use std::alloc::AllocError;
 

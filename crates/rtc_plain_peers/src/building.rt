@@ -1,6 +1,6 @@
 //! Fresh peers.
-ghost use Rattle.rtc_peer_state.specs.Built.{AreFresh};
-ghost use Rattle.rtc_peer_state.specs.Meanings.{meanings};
+ghost use Rattle.rtc_peer_core.specs.Built.{AreFresh};
+ghost use Rattle.rtc_peer_core.specs.Meanings.{meanings};
 
 use rtc_peer::{Association, DtlsInstance, IceAgent, Ids, MediaSession, Rtc, RtcConfig};
 use rtc_wire::Moment;

@@ -1,14 +1,14 @@
 -- What a side does is what the step does, where this side acts.
 use Rattle.std.proofs.Common.{◌≡◌, ◌+◌, ℕ, Bool, List, Option}
-use Rattle.rtc_history.specs.declared.side.Side.{Side}
-use Rattle.rtc_history.specs.declared.step.Step.{Step}
-use Rattle.rtc_history.specs.declared.outcome.Outcome.{Outcome}
-use Rattle.rtc_history.specs.declared.table.Table.{Table}
-use Rattle.rtc_history.specs.Sides.{side_of, other_side}
-use Rattle.rtc_history.specs.Sizes.{step_size}
-use Rattle.rtc_history.specs.PairState.{PairState, rtc_at}
-use Rattle.rtc_history.specs.Performs.{Acts, Performs}
-use Rattle.rtc_peer_state.specs.Meanings.{Meanings}
+use Rattle.rtc_run_history.specs.declared.side.Side.{Side}
+use Rattle.rtc_run_history.specs.declared.step.Step.{Step}
+use Rattle.rtc_run_history.specs.declared.outcome.Outcome.{Outcome}
+use Rattle.rtc_run_history.specs.declared.table.Table.{Table}
+use Rattle.rtc_run_history.specs.Sides.{side_of, other_side}
+use Rattle.rtc_run_history.specs.Sizes.{step_size}
+use Rattle.rtc_run_history.specs.PairState.{PairState, rtc_at}
+use Rattle.rtc_run_history.specs.Performs.{Acts, Performs}
+use Rattle.rtc_peer_core.specs.Meanings.{Meanings}
 
 module _ {I D S M E X T W N : Type 0} (m : Meanings I D S M E X T W N) (stun : List ℕ → Bool) where
   pub performs_at : (old new : PairState I D S M N) (step : Step) (outcome : Outcome E) (table : Option Table) (at : Side) → side_of step ≡ at

@@ -2,17 +2,17 @@
 use Rattle.std.proofs.Common.{◌≡◌, ◌+◌, ◌≤◌, ◌<◌, ◌^◌, ℕ, zero, suc, Bool, List, [], ◌∷◌, ◌++◌, length, take, get_or, sym, ◌∙◌, ap, subst, arith}
 use Rattle.std.proofs.lemmas.List.{take_more}
 use Rattle.std.proofs.Math.Seq.{take-length}
-use Rattle.rtc_history.specs.declared.step.Step.{Step}
-use Rattle.rtc_history.specs.declared.reply.Reply.{Reply}
-use Rattle.rtc_history.specs.Sizes.{step_size, steps_size}
-use Rattle.rtc_history.specs.PairState.{PairState}
-use Rattle.rtc_history.specs.Performs.{Performs}
-use Rattle.rtc_history.specs.Runs.{Runs}
-use Rattle.rtc_history.specs.Fresh.{IsFresh}
-use Rattle.rtc_history_laws.proofs.StanceSteps.{pair_stance}
-use Rattle.rtc_history_laws.proofs.Bounds.{IsWithin}
-use Rattle.rtc_history_laws.proofs.MoreSteps.{runs_none, runs_more, runs_size, runs_within}
-use Rattle.rtc_peer_state.specs.Meanings.{Meanings, PartsLaws}
+use Rattle.rtc_run_history.specs.declared.step.Step.{Step}
+use Rattle.rtc_run_history.specs.declared.reply.Reply.{Reply}
+use Rattle.rtc_run_history.specs.Sizes.{step_size, steps_size}
+use Rattle.rtc_run_history.specs.PairState.{PairState}
+use Rattle.rtc_run_history.specs.Performs.{Performs}
+use Rattle.rtc_run_history.specs.Runs.{Runs}
+use Rattle.rtc_run_history.specs.Fresh.{IsFresh}
+use Rattle.rtc_run_laws.proofs.StanceSteps.{pair_stance}
+use Rattle.rtc_run_laws.proofs.Bounds.{IsWithin}
+use Rattle.rtc_run_laws.proofs.MoreSteps.{runs_none, runs_more, runs_size, runs_within}
+use Rattle.rtc_peer_core.specs.Meanings.{Meanings, PartsLaws}
 
 sized : (steps : List Step) (i : ℕ) (d : Step) → i < length steps → steps_size (take i steps) + step_size (get_or steps i d) ≤ steps_size steps
 sized [] i d h = absurd (omega arith)

@@ -3,23 +3,23 @@
 use Rattle.std.specs.Prelude.{◌≡◌, ◌||◌, ℕ, Bool, true, false, List, Option, Some, None}
 use Rattle.rtc_sdp_values.specs.declared.sdp.Sdp.{Sdp}
 use Rattle.rtc_change.specs.Plans.{verdict}
-use Rattle.rtc_peer_state.specs.Meanings.{Meanings}
-use Rattle.rtc_peer_state.specs.Stance.{held_by}
-use Rattle.rtc_history.specs.declared.side.Side.{Side}
-use Rattle.rtc_history.specs.declared.outcome.Outcome.{Outcome}
-use Rattle.rtc_history.specs.declared.reply.Reply.{Reply}
-use Rattle.rtc_history.specs.declared.step.Step.{Step}
-use Rattle.rtc_history.specs.declared.step.Step.TheVariants.{AcceptOffer, AcceptAnswer}
-use Rattle.rtc_history.specs.declared.table.Table.{Table}
-use Rattle.rtc_history.specs.Memory.{CountedPart, fails, tell_fault}
-use Rattle.rtc_history.specs.Orderly.{is_ok}
-use Rattle.rtc_history.specs.PairState.{PairState}
-use Rattle.rtc_history.specs.Past.{Entry, MadeSdp, remote_sdp, holds_token, is_right}
-use Rattle.rtc_history.specs.Runs.{Runs}
-use Rattle.rtc_history.specs.Signalled.{Readable}
-use Rattle.rtc_history.specs.Sound.{IsSound, asked_in}
-use Rattle.rtc_history.specs.SoundParts.{CountsFault}
-use Rattle.rtc_history.specs.Views.{Stances, view_in}
+use Rattle.rtc_peer_core.specs.Meanings.{Meanings}
+use Rattle.rtc_peer_core.specs.Stance.{held_by}
+use Rattle.rtc_run_history.specs.declared.side.Side.{Side}
+use Rattle.rtc_run_history.specs.declared.outcome.Outcome.{Outcome}
+use Rattle.rtc_run_history.specs.declared.reply.Reply.{Reply}
+use Rattle.rtc_run_history.specs.declared.step.Step.{Step}
+use Rattle.rtc_run_history.specs.declared.step.Step.TheVariants.{AcceptOffer, AcceptAnswer}
+use Rattle.rtc_run_history.specs.declared.table.Table.{Table}
+use Rattle.rtc_run_history.specs.Memory.{CountedPart, fails, tell_fault}
+use Rattle.rtc_run_history.specs.Orderly.{is_ok}
+use Rattle.rtc_run_history.specs.PairState.{PairState}
+use Rattle.rtc_run_history.specs.Past.{Entry, MadeSdp, remote_sdp, holds_token, is_right}
+use Rattle.rtc_run_history.specs.Runs.{Runs}
+use Rattle.rtc_run_history.specs.Signalled.{Readable}
+use Rattle.rtc_run_history.specs.Sound.{IsSound, asked_in}
+use Rattle.rtc_run_history.specs.SoundParts.{CountsFault}
+use Rattle.rtc_run_history.specs.Views.{Stances, view_in}
 
 -- a step succeeded, or tells that memory ran out or that a part failed
 abbrev pub SucceedsOrFails : {E : Type 0} → Outcome E → Type 0

@@ -1,5 +1,5 @@
 //! Laws of sound replies, and of runs.
-ghost use Rattle.rtc_peer_state.specs.Meanings.{meanings};
+ghost use Rattle.rtc_peer_core.specs.Meanings.{meanings};
 ghost use Rattle.rtc_run.specs.Completeness.{FaultlessAnswersPass, FaultlessOffersPass, FaultsAreCounted};
 
 use rtc_peer::{Association, DtlsInstance, IceAgent, Ids, MediaSession};

@@ -8,5 +8,5 @@ mod running;
 
 pub use laws::{faultless_descriptions_pass, faults_are_counted};
 pub use pair::Pair;
-pub use rtc_delivery::{deliver_answer, deliver_offer};
+pub use rtc_run_steps::{deliver_answer, deliver_offer};
 pub use running::run_pair;

@@ -1,9 +1,9 @@
 //! Pairs of peers.
 ghost use Rattle.std.specs.Prelude.{◌≡◌, ◌+◌, ◌<◌, ◌≤◌, ◌^◌, ◌-◌, [], IsTrue, ◌↔◌, length, Some, None, All};
-ghost use Rattle.rtc_peer_state.specs.Meanings.{meanings};
+ghost use Rattle.rtc_peer_core.specs.Meanings.{meanings};
 
 use crate::performing::perform_step;
-use rtc_history::{Kept, Reply, SentPacket, Side, Step};
+use rtc_run_history::{Kept, Reply, SentPacket, Side, Step};
 use rtc_peer::{Association, DtlsInstance, IceAgent, Ids, MediaSession, Rtc};
 use rtc_wire::Addr;
 use std::alloc::Global;
@@ -38,7 +38,7 @@ impl<I: Drop, D: Drop, S: Drop, M: Drop, N: Drop> Drop for Pair<I, D, S, M, N> {
 }
 
 impl<I, D, S, M, N> Model for Pair<I, D, S, M, N> {
-    ghost use Rattle.rtc_history.specs.PairState.{PairState};
+    ghost use Rattle.rtc_run_history.specs.PairState.{PairState};
 
     ghost Value = { PairState I D S M N };
 
@@ -54,9 +54,9 @@ impl<I, D, S, M, N> Model for Pair<I, D, S, M, N> {
 }
 
 impl<I: IceAgent, D: DtlsInstance, S: Association, M: MediaSession, N: Ids> Pair<I, D, S, M, N> {
-    ghost use Rattle.rtc_history.specs.PairState.{PairState};
-    ghost use Rattle.rtc_history.specs.Performs.{Performs};
-    ghost use Rattle.rtc_history.specs.Sizes.{step_size};
+    ghost use Rattle.rtc_run_history.specs.PairState.{PairState};
+    ghost use Rattle.rtc_run_history.specs.Performs.{Performs};
+    ghost use Rattle.rtc_run_history.specs.Sizes.{step_size};
 
     /// A pair of peers that made no session description and sent no datagram yet.
     pub fn new(

@@ -1,14 +1,11 @@
 //! Steps at the peer that acts.
 ghost use Rattle.std.specs.Prelude.{◌<◌, ◌^◌, length};
-ghost use Rattle.rtc_history.specs.Performs.{Acts};
-ghost use Rattle.rtc_peer_state.specs.Meanings.{meanings};
+ghost use Rattle.rtc_run_history.specs.Performs.{Acts};
+ghost use Rattle.rtc_peer_core.specs.Meanings.{meanings};
 
-use rtc_history::{Kept, Reply, SentPacket, Step};
-use rtc_negotiation_steps::{deliver_and_accept_answer, deliver_and_accept_offer, negotiate};
+use rtc_run_history::{Kept, Reply, SentPacket, Step};
+use rtc_run_steps::{close, close_channel, deliver_and_accept_answer, deliver_and_accept_offer, drain, negotiate, poll, take_datagram, take_moment, write_message};
 use rtc_peer::{Association, DtlsInstance, IceAgent, Ids, MediaSession, Rtc};
-use rtc_polling_steps::{
-    close, close_channel, drain, poll, take_datagram, take_moment, write_message,
-};
 use std::alloc::Global;
 
 /// Performs a step at the peer that acts, with the session descriptions and the datagrams of both peers.

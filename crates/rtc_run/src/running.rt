@@ -1,14 +1,14 @@
 //! Runs of pairs.
 ghost use Rattle.std.specs.Prelude.{◌≡◌, ◌+◌, ◌<◌, ◌≤◌, ◌^◌, ◌-◌, [], length, IfOk, OnErr, vec_capacity};
-ghost use Rattle.rtc_history.specs.DrawnInRuns.{AllPlain, DrawsUnused, HaveNoLines};
-ghost use Rattle.rtc_history.specs.Sizes.{steps_size};
-ghost use Rattle.rtc_history.specs.Fresh.{ArePeersFormed, IsFresh};
-ghost use Rattle.rtc_history.specs.Runs.{Runs};
-ghost use Rattle.rtc_history.specs.Signalled.{AllReadBack};
-ghost use Rattle.rtc_peer_state.specs.Meanings.{meanings};
+ghost use Rattle.rtc_run_history.specs.DrawnInRuns.{AllPlain, DrawsUnused, HaveNoLines};
+ghost use Rattle.rtc_run_history.specs.Sizes.{steps_size};
+ghost use Rattle.rtc_run_history.specs.Fresh.{ArePeersFormed, IsFresh};
+ghost use Rattle.rtc_run_history.specs.Runs.{Runs};
+ghost use Rattle.rtc_run_history.specs.Signalled.{AllReadBack};
+ghost use Rattle.rtc_peer_core.specs.Meanings.{meanings};
 
 use crate::Pair;
-use rtc_history::{Reply, Step};
+use rtc_run_history::{Reply, Step};
 use rtc_peer::{Association, DtlsInstance, IceAgent, Ids, MediaSession};
 use rtc_wire::Seq;
 use std::alloc::{AllocError, Global};

@@ -2,9 +2,9 @@
 use Rattle.std.proofs.Common.{◌≡◌, ◌≢◌, ℕ, List, [], ◌∷◌, ap, get_or, codes, arith}
 use Rattle.rtc_wire.specs.declared.channel_config.ChannelConfig.{ChannelConfig}
 use Rattle.rtc_sdp_values.specs.declared.media_kind.MediaKind.TheVariants.{Audio, Video}
-use Rattle.rtc_history.specs.declared.op.Op.{Op}
-use Rattle.rtc_history.specs.declared.op.Op.TheVariants.{AddMedia, SetDirection, StopMedia, AddChannel, IceRestart}
-use Rattle.rtc_script_words.specs.ChannelParts.{IsLabelWord, AreConfigWords}
+use Rattle.rtc_run_history.specs.declared.op.Op.{Op}
+use Rattle.rtc_run_history.specs.declared.op.Op.TheVariants.{AddMedia, SetDirection, StopMedia, AddChannel, IceRestart}
+use Rattle.rtc_script.specs.ChannelParts.{IsLabelWord, AreConfigWords}
 use Rattle.rtc_script.specs.Lines.{AreOpParts}
 
 abbrev first_letter : List (List ℕ) → ℕ

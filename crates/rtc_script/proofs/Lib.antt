@@ -8,3 +8,5 @@ pub mod RefusedScripts
 pub mod StepLines
 pub mod ZipLemmas
 pub mod SmallScripts
+pub mod LabelLemmas
+pub mod ChannelPartLemmas

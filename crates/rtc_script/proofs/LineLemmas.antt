@@ -4,23 +4,23 @@ use Rattle.std.specs.Fmt.{decimal}
 use Rattle.std.specs.List.{AllZip}
 use Rattle.std.specs.Str.Parse.{digits_value}
 use Rattle.std.proofs.lemmas.Fmt.{decimal_injective, decimal_is_IsNumeral}
-use Rattle.rtc_fields.specs.Words.{parts, words}
+use Rattle.rtc_wire_text.specs.Words.{parts, words}
 use Rattle.rtc_sdp_values.specs.declared.direction.Direction.{Direction}
 use Rattle.rtc_sdp_values.specs.declared.direction.Direction.TheVariants.{SendRecv, SendOnly, RecvOnly, Inactive}
 use Rattle.rtc_sdp_values.specs.declared.media_kind.MediaKind.{MediaKind}
 use Rattle.rtc_sdp_values.specs.declared.media_kind.MediaKind.TheVariants.{Audio, Video}
 use Rattle.rtc_script.specs.Lines.{IsOp, IsAct, AreStepWords, IsLine}
-use Rattle.rtc_script_words.proofs.ChannelPartLemmas.{first_part, one_channel}
+use Rattle.rtc_script.proofs.ChannelPartLemmas.{first_part, one_channel}
 use Rattle.rtc_script.proofs.MessageWords.{bytes_of, is_binary_at, is_binary_again, same_message, writes}
 use Rattle.rtc_script.proofs.ZipLemmas.{one_zip}
-use Rattle.rtc_history.specs.Sides.{side_of}
-use Rattle.rtc_history.specs.declared.op.Op.{Op}
-use Rattle.rtc_history.specs.declared.op.Op.TheVariants.{AddMedia, SetDirection, StopMedia, AddChannel, IceRestart}
-use Rattle.rtc_history.specs.declared.side.Side.{Side}
-use Rattle.rtc_history.specs.declared.side.Side.TheVariants.{Left, Right}
-use Rattle.rtc_history.specs.declared.step.Step.{Step}
-use Rattle.rtc_history.specs.declared.step.Step.TheVariants.{Negotiate, AcceptOffer, AcceptAnswer, Time, Datagram, Poll, Drain, Write, CloseChannel, Close}
-use Rattle.rtc_script_words.specs.Words.{side_text, kind_text, direction_text, keep_text}
+use Rattle.rtc_run_history.specs.Sides.{side_of}
+use Rattle.rtc_run_history.specs.declared.op.Op.{Op}
+use Rattle.rtc_run_history.specs.declared.op.Op.TheVariants.{AddMedia, SetDirection, StopMedia, AddChannel, IceRestart}
+use Rattle.rtc_run_history.specs.declared.side.Side.{Side}
+use Rattle.rtc_run_history.specs.declared.side.Side.TheVariants.{Left, Right}
+use Rattle.rtc_run_history.specs.declared.step.Step.{Step}
+use Rattle.rtc_run_history.specs.declared.step.Step.TheVariants.{Negotiate, AcceptOffer, AcceptAnswer, Time, Datagram, Poll, Drain, Write, CloseChannel, Close}
+use Rattle.rtc_script.specs.Words.{side_text, kind_text, direction_text, keep_text}
 
 side_from : List ℕ → Side
 side_from text = cond (eqb (get_or text 0 0) 76) Left Right

@@ -1,11 +1,11 @@
 -- What the words of a message determine.
 use Rattle.std.proofs.Common.{◌≡◌, ◌∙◌, ℕ, Bool, true, false, List, [], refl, ap, sym, eqb, get_or}
 use Rattle.hex.specs.Hex.{IsBytes}
-use Rattle.rtc_history.specs.declared.step.Step.{Step}
-use Rattle.rtc_history.specs.declared.step.Step.TheVariants.{Negotiate, AcceptOffer, AcceptAnswer, Time, Datagram, Poll, Drain, Write, CloseChannel, Close}
+use Rattle.rtc_run_history.specs.declared.step.Step.{Step}
+use Rattle.rtc_run_history.specs.declared.step.Step.TheVariants.{Negotiate, AcceptOffer, AcceptAnswer, Time, Datagram, Poll, Drain, Write, CloseChannel, Close}
 use Rattle.rtc_script.specs.Lines.{IsAct}
-use Rattle.rtc_script_words.specs.Words.{hex_word, message_kind_text}
-use Rattle.rtc_script_words.proofs.LabelLemmas.{one_word}
+use Rattle.rtc_script.specs.Words.{hex_word, message_kind_text}
+use Rattle.rtc_script.proofs.LabelLemmas.{one_word}
 
 -- whether the word at a place is that of binary messages
 unfoldable pub is_binary_at : ℕ → List (List ℕ) → Bool

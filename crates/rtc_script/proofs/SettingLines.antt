@@ -2,19 +2,19 @@
 use Rattle.std.proofs.Common.{◌≡◌, ◌+◌, ◌<◌, ℕ, zero, suc, List, [], ◌∷◌, length, take, drop, get_or, refl, ap, sym, subst, ◌∙◌, codes, arith, Bor}
 use Rattle.std.specs.List.{AllZip}
 use Rattle.std.proofs.lemmas.List.{drop-map}
-use Rattle.rtc_fields.specs.Words.{words}
+use Rattle.rtc_wire_text.specs.Words.{words}
 use Rattle.rtc_script.specs.Lines.{IsLine, IsSetting, AreSettingWords, AreStepWords}
 use Rattle.rtc_script.specs.Script.{HaveSteps, HaveBoth, HaveLines}
 use Rattle.rtc_script.specs.Steps.{AreAllSettings, StepsFailAt, FailsAt}
-use Rattle.rtc_script_words.specs.Words.{side_text}
+use Rattle.rtc_script.specs.Words.{side_text}
 use Rattle.rtc_script.specs.declared.script.Script.{Script}
 use Rattle.rtc_script.specs.declared.setting.Setting.{Setting}
 use Rattle.rtc_script.proofs.LineLemmas.{same_letter}
 use Rattle.rtc_script.proofs.ZipLemmas.{texts, front_zip}
-use Rattle.rtc_history.specs.Sides.{side_of}
-use Rattle.rtc_history.specs.declared.side.Side.{Side}
-use Rattle.rtc_history.specs.declared.side.Side.TheVariants.{Left, Right}
-use Rattle.rtc_history.specs.declared.step.Step.{Step}
+use Rattle.rtc_run_history.specs.Sides.{side_of}
+use Rattle.rtc_run_history.specs.declared.side.Side.{Side}
+use Rattle.rtc_run_history.specs.declared.side.Side.TheVariants.{Left, Right}
+use Rattle.rtc_run_history.specs.declared.step.Step.{Step}
 
 -- ---- fronts
 

@@ -1,7 +1,7 @@
 -- Ops of six parts.
 use Rattle.std.proofs.Common.{◌≡◌, ◌≤◌, ◌<◌, ℕ, List, [], ◌∷◌, length, map, get_or, Option, Result, IfOk, IfNone, refl, subst, arith}
 use Rattle.std.specs.declared.alloc.AllocError.{AllocError}
-use Rattle.rtc_history.specs.declared.op.Op.{Op}
+use Rattle.rtc_run_history.specs.declared.op.Op.{Op}
 use Rattle.rtc_script.specs.Lines.{AreOpParts}
 
 -- the texts of six items, by their places

@@ -4,17 +4,17 @@ use Rattle.std.specs.List.{count_by, join_with_byte}
 use Rattle.std.proofs.lemmas.List.Splits.{length-slice_split, join_with_byte-slice_split}
 use Rattle.std.proofs.lemmas.List.Sums.{count_by-le-length}
 use Rattle.std.proofs.lemmas.Slice.Zip.{AllZip-long}
-use Rattle.rtc_fields.specs.Lines.{pieces}
-use Rattle.rtc_fields.specs.Words.{words}
+use Rattle.rtc_wire_text.specs.Lines.{pieces}
+use Rattle.rtc_wire_text.specs.Words.{words}
 use Rattle.rtc_script.specs.Lines.{IsOp, IsAct, IsLine, AreStepWords}
 use Rattle.rtc_script.specs.Script.{IsScript, HaveSteps, HaveBoth, header}
 use Rattle.rtc_script.specs.declared.script.Script.{Script}
 use Rattle.rtc_script.specs.declared.setting.Setting.{Setting}
-use Rattle.rtc_history.specs.declared.side.Side.{Side}
+use Rattle.rtc_run_history.specs.declared.side.Side.{Side}
 use Rattle.rtc_script.specs.declared.script_error.ScriptError.{ScriptError}
-use Rattle.rtc_history.specs.Sizes.{step_size, steps_size}
-use Rattle.rtc_history.specs.declared.step.Step.{Step}
-use Rattle.rtc_history.specs.declared.step.Step.TheVariants.{Negotiate, AcceptOffer, AcceptAnswer, Time, Datagram, Poll, Drain, Write, CloseChannel, Close}
+use Rattle.rtc_run_history.specs.Sizes.{step_size, steps_size}
+use Rattle.rtc_run_history.specs.declared.step.Step.{Step}
+use Rattle.rtc_run_history.specs.declared.step.Step.TheVariants.{Negotiate, AcceptOffer, AcceptAnswer, Time, Datagram, Poll, Drain, Write, CloseChannel, Close}
 
 -- a line has a word for its side, one for its verb, and one for each op
 words_small : (found : List (List ℕ)) (step : Step) → AreStepWords found step → step_size step + 1 ≤ length found

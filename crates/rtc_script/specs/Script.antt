@@ -1,14 +1,14 @@
 -- Scripts: a header, a line for each setting, and then a line for each step. Every line ends with LF, the last one too.
 use Rattle.std.specs.Prelude.{◌≡◌, ◌-◌, ◌^◌, ◌<◌, ℕ, List, [], ◌∷◌, ◌++◌, length, take, min, codes}
 use Rattle.std.specs.List.{AllZip}
-use Rattle.rtc_fields.specs.Lines.{pieces}
+use Rattle.rtc_wire_text.specs.Lines.{pieces}
 use Rattle.rtc_script.specs.Lines.{IsLine, IsSetting}
 use Rattle.rtc_script.specs.declared.script.Script.{Script}
 use Rattle.rtc_script.specs.declared.setting.Setting.{Setting}
-use Rattle.rtc_history.specs.declared.side.Side.{Side}
+use Rattle.rtc_run_history.specs.declared.side.Side.{Side}
 use Rattle.rtc_script.specs.declared.script_error.ScriptError.{ScriptError}
 use Rattle.rtc_script.specs.declared.script_error.ScriptError.TheVariants.{Line, Alloc}
-use Rattle.rtc_history.specs.declared.step.Step.{Step}
+use Rattle.rtc_run_history.specs.declared.step.Step.{Step}
 
 -- the first line
 abbrev pub header : List ℕ

@@ -1,8 +1,8 @@
 -- What the settings of a script say of each side.
 use Rattle.std.specs.Prelude.{◌&&◌, ◌*◌, if◌then◌else◌, ℕ, Bool, true, false, List, [], ◌∷◌, Option, Some, None}
 use Rattle.std.specs.List.{list_any}
-use Rattle.rtc_history.specs.declared.side.Side.{Side}
-use Rattle.rtc_history.specs.Sides.{same_side}
+use Rattle.rtc_run_history.specs.declared.side.Side.{Side}
+use Rattle.rtc_run_history.specs.Sides.{same_side}
 use Rattle.rtc_script.specs.declared.setting.Setting.{Setting}
 use Rattle.rtc_script.specs.declared.setting.Setting.TheVariants.{Lite, Snap, Buffer, MaxMessage, Stats}
 

@@ -7,8 +7,8 @@ use Rattle.rtc_script.specs.declared.script.Script.{Script}
 use Rattle.rtc_script.specs.declared.setting.Setting.{Setting}
 use Rattle.rtc_script.specs.declared.steps.StepsError.{StepsError}
 use Rattle.rtc_script.specs.declared.steps.StepsError.TheVariants.{NotStep, Alloc}
-use Rattle.rtc_history.specs.declared.side.Side.{Side}
-use Rattle.rtc_history.specs.declared.step.Step.{Step}
+use Rattle.rtc_run_history.specs.declared.side.Side.{Side}
+use Rattle.rtc_run_history.specs.declared.step.Step.{Step}
 
 -- the lines in front are those of settings, and the next one is not
 pub record AreAllSettings (lines : List (List ℕ)) (settings : List (Side × Setting)) : Type 0 where

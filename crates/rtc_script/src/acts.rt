@@ -1,14 +1,14 @@
 //! The act of a line: its verb, and the words behind it.
 ghost use Rattle.std.specs.Prelude.{◌≡◌, ◌≢◌, [], List, IfOk, IfSome, IfNone, map, codes};
 ghost use Rattle.rtc_script.specs.Lines.{AreOps, IsAct, IsNoVerbOfNegotiation, IsSingle, ops_verb};
-ghost use Rattle.rtc_history.specs.Sides.{side_of};
-ghost use Rattle.rtc_history.specs.declared.op.Op.{Op};
-ghost use Rattle.rtc_history.specs.declared.step.Step.{Step};
+ghost use Rattle.rtc_run_history.specs.Sides.{side_of};
+ghost use Rattle.rtc_run_history.specs.declared.op.Op.{Op};
+ghost use Rattle.rtc_run_history.specs.declared.step.Step.{Step};
 
 use crate::messages::read_write;
 use crate::ops::read_ops;
-use rtc_history::{Side, Step};
-use rtc_script_words::{is_word, read_long, read_one, read_two, read_two_long};
+use rtc_run_history::{Side, Step};
+use crate::{is_word, read_long, read_one, read_two, read_two_long};
 use rtc_wire::{ChannelId, Moment};
 use std::alloc::{AllocError, Global};
 

@@ -1,11 +1,11 @@
 //! Lines of steps.
 ghost use Rattle.std.specs.Prelude.{IfOk, IfSome, IfNone, map};
 ghost use Rattle.rtc_script.specs.Lines.{IsLine, AreStepWords};
-ghost use Rattle.rtc_history.specs.declared.step.Step.{Step};
+ghost use Rattle.rtc_run_history.specs.declared.step.Step.{Step};
 
 use crate::acts::read_act;
-use rtc_history::Step;
-use rtc_script_words::{cut_words, read_side};
+use rtc_run_history::Step;
+use crate::{cut_words, read_side};
 use std::alloc::{AllocError, Global};
 
 fn read_words(alloc: Global, words: &[&[u8]]) -> Result<Option<Step>, AllocError>

@@ -1,11 +1,11 @@
 //! Messages that a line writes to a channel.
 ghost use Rattle.std.specs.Prelude.{◌≡◌, ◌≢◌, ℕ, Bool, List, [], ◌∷◌, IfOk, IfSome, IfNone, map, codes};
-ghost use Rattle.rtc_history.specs.Sides.{side_of};
+ghost use Rattle.rtc_run_history.specs.Sides.{side_of};
 ghost use Rattle.rtc_script.specs.Lines.{AreMessageWords, IsAct};
-ghost use Rattle.rtc_script_words.specs.Words.{message_kind_text};
+ghost use Rattle.rtc_script.specs.Words.{message_kind_text};
 
-use rtc_history::{Side, Step};
-use rtc_script_words::{is_word, read_bytes, read_u64};
+use rtc_run_history::{Side, Step};
+use crate::{is_word, read_bytes, read_u64};
 use rtc_wire::{Bytes, ChannelId};
 use std::alloc::{AllocError, Global};
 

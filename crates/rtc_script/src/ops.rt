@@ -1,11 +1,11 @@
 //! Ops of a line.
 ghost use Rattle.std.specs.Prelude.{◌≡◌, ◌≢◌, ◌<◌, [], ◌∷◌, Bool, List, IfOk, IfSome, IfNone, map, codes};
 ghost use Rattle.rtc_script.specs.Lines.{AreOpParts, IsOp, AreOps};
-ghost use Rattle.rtc_script_words.specs.Words.{keep_text};
-ghost use Rattle.rtc_history.specs.declared.op.Op.{Op};
+ghost use Rattle.rtc_script.specs.Words.{keep_text};
+ghost use Rattle.rtc_run_history.specs.declared.op.Op.{Op};
 
-use rtc_history::Op;
-use rtc_script_words::{
+use rtc_run_history::Op;
+use crate::{
     cut_parts, is_word, read_config, read_direction, read_kind, read_label_word, read_u32,
 };
 use rtc_wire::Seq;

@@ -1,13 +1,12 @@
 //! Whole scripts.
 ghost use Rattle.std.specs.Prelude.{◌≡◌, ◌-◌, ◌^◌, [], ◌∷◌, ◌++◌, ◌↔◌, IsTrue, IfOk, IfErr, min, map, ◌≤◌, ◌<◌, length};
-ghost use Rattle.rtc_history.specs.Sizes.{steps_size};
+ghost use Rattle.rtc_run_history.specs.Sizes.{steps_size};
 ghost use Rattle.rtc_script.specs.Script.{header, HaveLines, ArePieces, AreRefused, IsScript, IsRefused};
 ghost use Rattle.rtc_script.specs.Steps.{IsScriptLinesError};
 
 use crate::settings::read_settings;
 use crate::steps::{StepsError, read_steps};
-use crate::{Script, ScriptError};
-use rtc_script_words::cut_lines;
+use crate::{Script, ScriptError, cut_lines};
 use rtc_wire::Seq;
 use std::alloc::Global;
 

@@ -5,7 +5,7 @@ ghost use Rattle.rtc_script.specs.Settings.{buffer_by, buffer_set, max_message_b
 ghost use Rattle.rtc_script.specs.Settings.{interval_after, interval_by, interval_set};
 
 use crate::Setting;
-use rtc_history::{Side, Step};
+use rtc_run_history::{Side, Step};
 use rtc_wire::{DEFAULT_MAX_BUFFERED_AMOUNT, LOCAL_MAX_MESSAGE_SIZE, Seq, Span};
 
 /// A script that was read.

@@ -1,14 +1,13 @@
 //! Lines of settings.
 ghost use Rattle.std.specs.Prelude.{◌≡◌, ◌≢◌, ◌≤◌, ℕ, [], ◌∷◌, IfOk, IfSome, IfNone, codes, map};
 ghost use Rattle.std.specs.Fmt.{decimal};
-ghost use Rattle.rtc_history.specs.declared.side.Side.{Side};
+ghost use Rattle.rtc_run_history.specs.declared.side.Side.{Side};
 ghost use Rattle.rtc_script.specs.Lines.{AreValueWords, AreSettingWords, IsSetting};
 ghost use Rattle.rtc_script.specs.Steps.{AreAllSettings};
 ghost use Rattle.rtc_script.specs.declared.setting.Setting.{Setting};
 
-use crate::Setting;
-use rtc_history::Side;
-use rtc_script_words::{cut_words, is_word, read_side, read_u32};
+use crate::{Setting, cut_words, is_word, read_side, read_u32};
+use rtc_run_history::Side;
 use rtc_wire::Seq;
 use std::alloc::{AllocError, Global};
 

@@ -5,7 +5,7 @@ ghost use Rattle.rtc_script.specs.Steps.{IsStepsError};
 ghost use Rattle.rtc_script.specs.declared.steps.StepsError.TheVariants.{Alloc};
 
 use crate::lines::read_line;
-use rtc_history::Step;
+use rtc_run_history::Step;
 use std::alloc::{AllocError, AllocFailed, Global};
 
 /// Why lines behind a header are not lines of steps.

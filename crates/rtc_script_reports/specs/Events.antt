@@ -1,15 +1,15 @@
 -- The words of events.
 use Rattle.std.specs.Prelude.{ℕ, List, ◌++◌, length, codes}
 use Rattle.std.specs.Fmt.{decimal}
-use Rattle.rtc_ice.specs.declared.ice_connection_state.IceConnectionState.{IceConnectionState}
-use Rattle.rtc_ice.specs.declared.ice_connection_state.IceConnectionState.TheVariants.{New, Checking, Connected, Completed, Disconnected}
-use Rattle.rtc_media.specs.declared.raw_packet.RawPacket.{RawPacket}
-use Rattle.rtc_media.specs.declared.raw_packet.RawPacket.TheVariants.{RtcpTx, RtcpRx, RtpTx, RtpRx}
+use Rattle.rtc_part_ice.specs.declared.ice_connection_state.IceConnectionState.{IceConnectionState}
+use Rattle.rtc_part_ice.specs.declared.ice_connection_state.IceConnectionState.TheVariants.{New, Checking, Connected, Completed, Disconnected}
+use Rattle.rtc_part_media.specs.declared.raw_packet.RawPacket.{RawPacket}
+use Rattle.rtc_part_media.specs.declared.raw_packet.RawPacket.TheVariants.{RtcpTx, RtcpRx, RtpTx, RtpRx}
 use Rattle.rtc_plain_media.specs.declared.plain_media_event.PlainMediaEvent.{PlainMediaEvent}
 use Rattle.rtc_plain_media.specs.declared.plain_media_event.PlainMediaEvent.TheVariants.{Added, Changed, Rtp, Rtcp, Raw}
-use Rattle.rtc_connection.specs.declared.event.Event.{Event}
-use Rattle.rtc_connection.specs.declared.event.Event.TheVariants as events
-use Rattle.rtc_script_words.specs.Words.{direction_text, hex_word, kind_text, message_kind_text}
+use Rattle.rtc_peer_transport.specs.declared.event.Event.{Event}
+use Rattle.rtc_peer_transport.specs.declared.event.Event.TheVariants as events
+use Rattle.rtc_script.specs.Words.{direction_text, hex_word, kind_text, message_kind_text}
 
 -- a state of the connection that ICE makes
 abbrev pub state_text : IceConnectionState → List ℕ

@@ -1,18 +1,18 @@
 -- The words of outcomes.
 use Rattle.std.specs.Prelude.{ℕ, Bool, true, false, List, [], ◌∷◌, ◌++◌, flat_map, length, codes}
 use Rattle.std.specs.Fmt.{decimal}
-use Rattle.rtc_peer_state.specs.RtcErrorText.{rtc_error_text}
-use Rattle.rtc_peer_state.specs.declared.rtc_error.RtcError.{RtcError}
-use Rattle.rtc_peer_state.specs.declared.rtc_error.RtcError.TheVariants.{RemoteSdp, Sdp, Net, Dtls, Sctp, Media}
-use Rattle.rtc_peer_state.specs.declared.rtc_error.RtcError.TheVariants.{ChangesOutOfOrder, BadChannel, Alloc as PeerAlloc}
-use Rattle.rtc_history.specs.declared.made.Made.{Made}
-use Rattle.rtc_history.specs.declared.made.Made.TheVariants.{NotAsked, Nothing, Offer, Alloc as MadeAlloc}
-use Rattle.rtc_history.specs.declared.op_answer.OpAnswer.{OpAnswer}
-use Rattle.rtc_history.specs.declared.op_answer.OpAnswer.TheVariants.{Mid, Changed, NoLine, Channel, Creds}
-use Rattle.rtc_history.specs.declared.op_answer.OpAnswer.TheVariants.{BadChannel as NoChannel, Alloc as OpAlloc}
-use Rattle.rtc_history.specs.declared.outcome.Outcome.{Outcome}
-use Rattle.rtc_history.specs.declared.outcome.Outcome.TheVariants.{Negotiated, Answered, Finished, Done, Wrote, Polled}
-use Rattle.rtc_history.specs.declared.outcome.Outcome.TheVariants.{Refused, NoSuch, Alloc}
+use Rattle.rtc_peer_core.specs.RtcErrorText.{rtc_error_text}
+use Rattle.rtc_peer_core.specs.declared.rtc_error.RtcError.{RtcError}
+use Rattle.rtc_peer_core.specs.declared.rtc_error.RtcError.TheVariants.{RemoteSdp, Sdp, Net, Dtls, Sctp, Media}
+use Rattle.rtc_peer_core.specs.declared.rtc_error.RtcError.TheVariants.{ChangesOutOfOrder, BadChannel, Alloc as PeerAlloc}
+use Rattle.rtc_run_history.specs.declared.made.Made.{Made}
+use Rattle.rtc_run_history.specs.declared.made.Made.TheVariants.{NotAsked, Nothing, Offer, Alloc as MadeAlloc}
+use Rattle.rtc_run_history.specs.declared.op_answer.OpAnswer.{OpAnswer}
+use Rattle.rtc_run_history.specs.declared.op_answer.OpAnswer.TheVariants.{Mid, Changed, NoLine, Channel, Creds}
+use Rattle.rtc_run_history.specs.declared.op_answer.OpAnswer.TheVariants.{BadChannel as NoChannel, Alloc as OpAlloc}
+use Rattle.rtc_run_history.specs.declared.outcome.Outcome.{Outcome}
+use Rattle.rtc_run_history.specs.declared.outcome.Outcome.TheVariants.{Negotiated, Answered, Finished, Done, Wrote, Polled}
+use Rattle.rtc_run_history.specs.declared.outcome.Outcome.TheVariants.{Refused, NoSuch, Alloc}
 
 -- the word where memory ran out
 abbrev pub no_memory : List ℕ

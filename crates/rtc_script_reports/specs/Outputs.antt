@@ -1,20 +1,20 @@
 -- The lines of what polls gave.
 use Rattle.std.specs.Prelude.{◌-◌, ◌^◌, ◌==◌, ℕ, List, [], ◌++◌, flat_map, codes, if◌then◌else◌}
 use Rattle.std.specs.Fmt.{decimal}
-use Rattle.rtc_parts_values.specs.declared.reason.Reason.{Reason}
-use Rattle.rtc_parts_values.specs.declared.reason.Reason.TheVariants as reasons
+use Rattle.rtc_part_values.specs.declared.reason.Reason.{Reason}
+use Rattle.rtc_part_values.specs.declared.reason.Reason.TheVariants as reasons
 use Rattle.rtc_plain_media.specs.declared.plain_media_event.PlainMediaEvent.{PlainMediaEvent}
-use Rattle.rtc_peer_state.specs.RtcErrorText.{rtc_error_text}
-use Rattle.rtc_peer_state.specs.declared.rtc_error.RtcError.{RtcError}
-use Rattle.rtc_peer_state.specs.declared.rtc_error.RtcError.TheVariants.{RemoteSdp, Sdp, Net, Dtls, Sctp, Media}
-use Rattle.rtc_peer_state.specs.declared.rtc_error.RtcError.TheVariants.{ChangesOutOfOrder, BadChannel, Alloc as PeerAlloc}
-use Rattle.rtc_history.specs.declared.outcome.Outcome.{Outcome}
-use Rattle.rtc_history.specs.declared.outcome.Outcome.TheVariants.{Negotiated, Answered, Finished, Done, Wrote, Polled}
-use Rattle.rtc_history.specs.declared.outcome.Outcome.TheVariants.{Refused, NoSuch, Alloc}
-use Rattle.rtc_history.specs.declared.poll_end.PollEnd.{PollEnd}
-use Rattle.rtc_history.specs.declared.poll_end.PollEnd.TheVariants.{Ended, Refused as EndRefused, NoRoom}
-use Rattle.rtc_history.specs.declared.shown.Shown.{Shown}
-use Rattle.rtc_history.specs.declared.shown.Shown.TheVariants.{Timeout, Packet, Event}
+use Rattle.rtc_peer_core.specs.RtcErrorText.{rtc_error_text}
+use Rattle.rtc_peer_core.specs.declared.rtc_error.RtcError.{RtcError}
+use Rattle.rtc_peer_core.specs.declared.rtc_error.RtcError.TheVariants.{RemoteSdp, Sdp, Net, Dtls, Sctp, Media}
+use Rattle.rtc_peer_core.specs.declared.rtc_error.RtcError.TheVariants.{ChangesOutOfOrder, BadChannel, Alloc as PeerAlloc}
+use Rattle.rtc_run_history.specs.declared.outcome.Outcome.{Outcome}
+use Rattle.rtc_run_history.specs.declared.outcome.Outcome.TheVariants.{Negotiated, Answered, Finished, Done, Wrote, Polled}
+use Rattle.rtc_run_history.specs.declared.outcome.Outcome.TheVariants.{Refused, NoSuch, Alloc}
+use Rattle.rtc_run_history.specs.declared.poll_end.PollEnd.{PollEnd}
+use Rattle.rtc_run_history.specs.declared.poll_end.PollEnd.TheVariants.{Ended, Refused as EndRefused, NoRoom}
+use Rattle.rtc_run_history.specs.declared.shown.Shown.{Shown}
+use Rattle.rtc_run_history.specs.declared.shown.Shown.TheVariants.{Timeout, Packet, Event}
 use Rattle.rtc_script_reports.specs.Events.{event_text}
 use Rattle.rtc_script_reports.specs.Outcomes.{no_memory}
 

@@ -5,12 +5,12 @@ use Rattle.rtc_plain_media.specs.declared.plain_media_event.PlainMediaEvent.{Pla
 use Rattle.rtc_script_reports.specs.Outcomes.{outcome_text}
 use Rattle.rtc_script_reports.specs.Outputs.{polled_lines}
 use Rattle.rtc_script_reports.specs.Rows.{row_lines, channel_lines}
-use Rattle.rtc_history.specs.Sides.{side_of}
-use Rattle.rtc_history.specs.declared.outcome.Outcome.{Outcome}
-use Rattle.rtc_history.specs.declared.reply.Reply.{Reply}
-use Rattle.rtc_history.specs.declared.step.Step.{Step}
-use Rattle.rtc_history.specs.declared.table.Table.{Table}
-use Rattle.rtc_script_words.specs.Words.{side_text}
+use Rattle.rtc_run_history.specs.Sides.{side_of}
+use Rattle.rtc_run_history.specs.declared.outcome.Outcome.{Outcome}
+use Rattle.rtc_run_history.specs.declared.reply.Reply.{Reply}
+use Rattle.rtc_run_history.specs.declared.step.Step.{Step}
+use Rattle.rtc_run_history.specs.declared.table.Table.{Table}
+use Rattle.rtc_script.specs.Words.{side_text}
 
 -- the lines and then the channels of a table, where there is one
 abbrev pub table_lines : Option Table → List ℕ

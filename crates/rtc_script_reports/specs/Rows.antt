@@ -4,7 +4,7 @@ use Rattle.std.specs.Fmt.{decimal}
 use Rattle.rtc_sdp_values.specs.declared.line_row.LineRow.{LineRow}
 use Rattle.rtc_sdp_values.specs.declared.line_row.LineRow.TheVariants.{Media, App}
 use Rattle.rtc_channels.specs.declared.channel_row.ChannelRow.{ChannelRow}
-use Rattle.rtc_script_words.specs.Words.{kind_text, direction_text}
+use Rattle.rtc_script.specs.Words.{kind_text, direction_text}
 
 -- the line of a row
 abbrev pub row_report_line : LineRow → List ℕ

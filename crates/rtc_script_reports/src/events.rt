@@ -1,15 +1,15 @@
 //! Words of events.
 ghost use Rattle.std.specs.Prelude.{◌≡◌, ◌++◌, OnOk, string_bytes};
 ghost use Rattle.rtc_script_reports.specs.Events.{event_text, line_bytes_text, media_event_text, raw_packet_text, state_text};
-ghost use Rattle.rtc_script_words.specs.Words.{hex_word, message_kind_text};
-ghost use Rattle.rtc_connection.specs.declared.event.Event.TheVariants.{ChannelData as DataOf, ChannelOpen as OpenOf};
-ghost use Rattle.rtc_connection.specs.declared.event.Event.TheVariants.{PeerStats as TotalsOf};
+ghost use Rattle.rtc_script.specs.Words.{hex_word, message_kind_text};
+ghost use Rattle.rtc_peer_transport.specs.declared.event.Event.TheVariants.{ChannelData as DataOf, ChannelOpen as OpenOf};
+ghost use Rattle.rtc_peer_transport.specs.declared.event.Event.TheVariants.{PeerStats as TotalsOf};
 
 use crate::pushing::{push_named, push_word};
 use crate::words::{direction_word, kind_word};
-use rtc_connection::{ChannelData, Event};
-use rtc_ice::IceConnectionState;
-use rtc_media::{PeerStats, RawPacket};
+use rtc_peer_transport::{ChannelData, Event};
+use rtc_part_ice::IceConnectionState;
+use rtc_part_media::{PeerStats, RawPacket};
 use rtc_plain_media::PlainMediaEvent;
 use rtc_sdp_values::Mid;
 use rtc_wire::{ChannelId, Text};

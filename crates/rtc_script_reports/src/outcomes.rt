@@ -4,7 +4,7 @@ ghost use Rattle.rtc_script_reports.specs.Outcomes.{op_answer_text, more_answers
 
 use crate::pushing::{push_named, push_number};
 use crate::refusals::push_refusal;
-use rtc_history::{Made, OpAnswer, Outcome};
+use rtc_run_history::{Made, OpAnswer, Outcome};
 use std::alloc::AllocError;
 
 fn push_answer(out: &mut String, answer: &OpAnswer) -> Result<(), AllocError>

@@ -1,15 +1,15 @@
 //! Lines of what polls gave.
 ghost use Rattle.std.specs.Prelude.{◌≡◌, ◌++◌, OnOk, codes, string_bytes};
-ghost use Rattle.rtc_peer_state.specs.RtcErrorText.{rtc_error_text};
+ghost use Rattle.rtc_peer_core.specs.RtcErrorText.{rtc_error_text};
 ghost use Rattle.rtc_script_reports.specs.Outputs.{end_line, error_line, moment_text, output_line, outputs_lines};
 ghost use Rattle.rtc_script_reports.specs.Outputs.{polled_lines, reason_text};
 
 use crate::events::push_event;
 use crate::pushing::{push_named, push_number, push_word};
 use crate::refusals::push_error_text;
-use rtc_history::{Outcome, PollEnd, Shown};
-use rtc_parts_values::Reason;
-use rtc_peer_state::RtcError;
+use rtc_run_history::{Outcome, PollEnd, Shown};
+use rtc_part_values::Reason;
+use rtc_peer_core::RtcError;
 use rtc_plain_media::PlainMediaEvent;
 use rtc_wire::Moment;
 use std::alloc::{AllocError, Global};

@@ -1,9 +1,9 @@
 //! Refusals.
 ghost use Rattle.std.specs.Prelude.{◌≡◌, ◌++◌, OnOk, string_bytes};
-ghost use Rattle.rtc_peer_state.specs.RtcErrorText.{rtc_error_text};
+ghost use Rattle.rtc_peer_core.specs.RtcErrorText.{rtc_error_text};
 ghost use Rattle.rtc_script_reports.specs.Outcomes.{refusal_text};
 
-use rtc_peer_state::RtcError;
+use rtc_peer_core::RtcError;
 use std::alloc::AllocError;
 
 /// Puts a word and what an error prints behind a text.

@@ -8,7 +8,7 @@ use crate::outputs::push_polled;
 use crate::pushing::{push_named, push_word};
 use crate::rows::push_rows;
 use crate::words::side_word;
-use rtc_history::{Outcome, Reply, Step, Table};
+use rtc_run_history::{Outcome, Reply, Step, Table};
 use rtc_plain_media::PlainMediaEvent;
 use std::alloc::{AllocError, Global};
 

@@ -1,8 +1,8 @@
 //! Words of sides, kinds and directions.
 ghost use Rattle.std.specs.Prelude.{◌≡◌};
-ghost use Rattle.rtc_script_words.specs.Words.{direction_text, kind_text, side_text};
+ghost use Rattle.rtc_script.specs.Words.{direction_text, kind_text, side_text};
 
-use rtc_history::Side;
+use rtc_run_history::Side;
 use rtc_sdp_values::{Direction, MediaKind};
 
 /// The letter of a side.

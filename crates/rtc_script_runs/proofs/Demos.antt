@@ -4,19 +4,19 @@ use Rattle.std.specs.declared.alloc.Global.{Global}
 use Rattle.rtc_demo.proofs.FinishedDemos.{demo_finishes}
 use Rattle.rtc_demo.proofs.OrderlyDemos.{demo_orderly}
 use Rattle.rtc_demo.specs.DemoCounts.{count_finished}
-use Rattle.rtc_history.specs.Orderly.{can_connect}
-use Rattle.rtc_history.specs.PairState.{stances_of}
-use Rattle.rtc_history.specs.declared.reply.Reply.{Reply}
-use Rattle.rtc_history.specs.declared.side.Side.TheVariants.{Left, Right}
+use Rattle.rtc_run_history.specs.Orderly.{can_connect}
+use Rattle.rtc_run_history.specs.PairState.{stances_of}
+use Rattle.rtc_run_history.specs.declared.reply.Reply.{Reply}
+use Rattle.rtc_run_history.specs.declared.side.Side.TheVariants.{Left, Right}
 use Rattle.rtc_io.proofs.Told.{breaks_off_as}
 use Rattle.rtc_io.specs.Saying.{BreaksOff}
-use Rattle.rtc_peer_state.specs.Stance.{stance_of}
+use Rattle.rtc_peer_core.specs.Stance.{stance_of}
 use Rattle.rtc_plain_ice.specs.Calls.{lite_set, local_set, local_added}
 use Rattle.rtc_plain_ice.specs.Contents.{IceContents, fresh_ice}
 use Rattle.rtc_plain_ice.specs.Messages.{is_ice_message}
 use Rattle.rtc_plain_media.specs.declared.plain_media_event.PlainMediaEvent.{PlainMediaEvent}
-use Rattle.rtc_plain_pair.specs.ProgramPair.{PlainPeer, PlainPairState, plain_parts, host_at, IsProgramPeer, IsProgramPair}
-use Rattle.rtc_plain_pair.specs.declared.peer_settings.PeerSettings.{PeerSettings}
+use Rattle.rtc_run_plain.specs.ProgramPair.{PlainPeer, PlainPairState, plain_parts, host_at, IsProgramPeer, IsProgramPair}
+use Rattle.rtc_run_plain.specs.declared.peer_settings.PeerSettings.{PeerSettings}
 use Rattle.rtc_script.specs.declared.script.Script.{Script}
 use Rattle.rtc_sdp_values.specs.declared.candidate.Candidate.{Candidate}
 use Rattle.rtc_sdp_values.specs.declared.ice_creds.IceCreds.{IceCreds}

@@ -3,11 +3,11 @@ use Rattle.std.proofs.Common.{◌≡◌, ◌∷◌, ◌∙◌, ℕ, List, [], tr
 use Rattle.std.specs.declared.alloc.Global.{Global}
 use Rattle.rtc_wire.specs.declared.addr.Addr.{Addr}
 use Rattle.rtc_plain_media.specs.MediaContents.{MediaContents, fresh_media, update_of}
-use Rattle.rtc_history.specs.declared.side.Side.TheVariants.{Left, Right}
-use Rattle.rtc_history.specs.DrawnInRuns.{HaveNoLines}
-use Rattle.rtc_joined_runs.specs.NewPairs.{IsNewPair, IsNewPeer}
-use Rattle.rtc_plain_pair.specs.ProgramPair.{IsProgramPair, IsProgramPeer, PlainPairState, PlainPeer, counting, plain_parts, host_at, program_config}
-use Rattle.rtc_plain_pair.specs.declared.peer_settings.PeerSettings.{PeerSettings}
+use Rattle.rtc_run_history.specs.declared.side.Side.TheVariants.{Left, Right}
+use Rattle.rtc_run_history.specs.DrawnInRuns.{HaveNoLines}
+use Rattle.rtc_run_laws.specs.NewPairs.{IsNewPair, IsNewPeer}
+use Rattle.rtc_run_plain.specs.ProgramPair.{IsProgramPair, IsProgramPeer, PlainPairState, PlainPeer, counting, plain_parts, host_at, program_config}
+use Rattle.rtc_run_plain.specs.declared.peer_settings.PeerSettings.{PeerSettings}
 
 peer_new : (alloc : Global) (settings : PeerSettings) (cert : List ℕ) (first : ℕ) (addr : Addr) (p : PlainPeer)
     → IsProgramPeer alloc settings cert first addr p → IsNewPeer counting p

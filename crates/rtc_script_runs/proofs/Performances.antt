@@ -1,22 +1,22 @@
 -- Scripts that were run on the pair of the program.
 use Rattle.std.proofs.Common.{◌≡◌, ◌⊎◌, inl, inr, ℕ, Bool, List, Option, Result, Ok, Err, IfOk, sym, subst}
 use Rattle.std.specs.declared.alloc.Global.{Global}
-use Rattle.rtc_channel_runs.proofs.DrainedRuns.{run_hands_out}
-use Rattle.rtc_channel_runs.proofs.SettlesRuns.{run_settles_open}
-use Rattle.rtc_plain_pair.proofs.PlainFaults.{plain_unfaulted}
-use Rattle.rtc_plain_pair.specs.ProgramPair.{counting, plain_parts, PlainPairState}
+use Rattle.rtc_run_laws.proofs.DrainedRuns.{run_hands_out}
+use Rattle.rtc_run_laws.proofs.SettlesRuns.{run_settles_open}
+use Rattle.rtc_run_plain.proofs.PlainFaults.{plain_unfaulted}
+use Rattle.rtc_run_plain.specs.ProgramPair.{counting, plain_parts, PlainPairState}
 use Rattle.rtc_script.specs.declared.script.Script.{Script}
-use Rattle.rtc_history.specs.declared.reply.Reply.{Reply}
-use Rattle.rtc_history.specs.declared.step.Step.{Step}
+use Rattle.rtc_run_history.specs.declared.reply.Reply.{Reply}
+use Rattle.rtc_run_history.specs.declared.step.Step.{Step}
 use Rattle.rtc_plain_ice.specs.Messages.{is_ice_message}
 use Rattle.rtc_plain_media.specs.declared.plain_media_event.PlainMediaEvent.{PlainMediaEvent}
 use Rattle.rtc_io.proofs.Told.{breaks_off_as}
 use Rattle.rtc_io.specs.Saying.{BreaksOff}
 use Rattle.rtc_script_reports.specs.Report.{report}
-use Rattle.rtc_history.specs.DrawnInRuns.{AllPlain, DrawsUnused, HaveNoLines}
-use Rattle.rtc_history.specs.Fresh.{ArePeersFormed}
-use Rattle.rtc_history.specs.Runs.{Runs}
-use Rattle.rtc_history.specs.Signalled.{AllReadBack}
+use Rattle.rtc_run_history.specs.DrawnInRuns.{AllPlain, DrawsUnused, HaveNoLines}
+use Rattle.rtc_run_history.specs.Fresh.{ArePeersFormed}
+use Rattle.rtc_run_history.specs.Runs.{Runs}
+use Rattle.rtc_run_history.specs.Signalled.{AllReadBack}
 use Rattle.rtc_script_runs.proofs.NewPairs.{program_new, program_no_lines}
 use Rattle.rtc_script_runs.specs.Performed.{IsPairOf, IsReport, RanScript, KeepsReport, PerformsScript}
 

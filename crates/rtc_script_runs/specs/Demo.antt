@@ -4,11 +4,11 @@ use Rattle.std.specs.declared.alloc.Global.{Global}
 use Rattle.std.specs.Io.KnownBytes.{Appends}
 use Rattle.rtc_demo.specs.DemoCounts.{count_finished, counts_in, counts_text}
 use Rattle.rtc_demo.specs.DemoSteps.{demo_steps}
-use Rattle.rtc_history.specs.Orderly.{are_orderly}
-use Rattle.rtc_history.specs.declared.reply.Reply.{Reply}
-use Rattle.rtc_history.specs.declared.step.Step.{Step}
+use Rattle.rtc_run_history.specs.Orderly.{are_orderly}
+use Rattle.rtc_run_history.specs.declared.reply.Reply.{Reply}
+use Rattle.rtc_run_history.specs.declared.step.Step.{Step}
 use Rattle.rtc_plain_media.specs.declared.plain_media_event.PlainMediaEvent.{PlainMediaEvent}
-use Rattle.rtc_plain_pair.specs.ProgramPair.{PlainPairState}
+use Rattle.rtc_run_plain.specs.ProgramPair.{PlainPairState}
 use Rattle.rtc_script.specs.declared.script.Script.{Script}
 use Rattle.rtc_script_runs.specs.Performed.{RanScript, lack_memory}
 

@@ -3,21 +3,21 @@ use Rattle.std.specs.Prelude.{◌≡◌, ℕ, Bool, false, List, Option, Some}
 use Rattle.std.specs.List.{list_any}
 use Rattle.std.specs.declared.alloc.Global.{Global}
 use Rattle.std.specs.Io.KnownBytes.{Appends}
-use Rattle.rtc_history.specs.declared.side.Side.{Side}
-use Rattle.rtc_history.specs.declared.side.Side.TheVariants.{Left, Right}
-use Rattle.rtc_history.specs.declared.reply.Reply.{Reply}
-use Rattle.rtc_history.specs.declared.step.Step.{Step}
-use Rattle.rtc_history.specs.Memory.{lacks_memory, tell_fault}
-use Rattle.rtc_history.specs.DrawnInRuns.{AllPlain, DrawsUnused}
-use Rattle.rtc_history.specs.Fresh.{ArePeersFormed}
-use Rattle.rtc_history.specs.Runs.{Runs}
-use Rattle.rtc_history.specs.Signalled.{AllReadBack}
+use Rattle.rtc_run_history.specs.declared.side.Side.{Side}
+use Rattle.rtc_run_history.specs.declared.side.Side.TheVariants.{Left, Right}
+use Rattle.rtc_run_history.specs.declared.reply.Reply.{Reply}
+use Rattle.rtc_run_history.specs.declared.step.Step.{Step}
+use Rattle.rtc_run_history.specs.Memory.{lacks_memory, tell_fault}
+use Rattle.rtc_run_history.specs.DrawnInRuns.{AllPlain, DrawsUnused}
+use Rattle.rtc_run_history.specs.Fresh.{ArePeersFormed}
+use Rattle.rtc_run_history.specs.Runs.{Runs}
+use Rattle.rtc_run_history.specs.Signalled.{AllReadBack}
 use Rattle.rtc_plain_ice.specs.Messages.{is_ice_message}
 use Rattle.rtc_plain_media.specs.declared.plain_media_event.PlainMediaEvent.{PlainMediaEvent}
-use Rattle.rtc_channel_runs.specs.HandedOut.{HandsOut}
-use Rattle.rtc_channel_runs.specs.SettledPairs.{SettlesOpen}
-use Rattle.rtc_plain_pair.specs.ProgramPair.{counting, plain_parts, PlainPairState, IsProgramPair}
-use Rattle.rtc_plain_pair.specs.declared.peer_settings.PeerSettings.{PeerSettings}
+use Rattle.rtc_run_laws.specs.HandedOut.{HandsOut}
+use Rattle.rtc_run_laws.specs.SettledPairs.{SettlesOpen}
+use Rattle.rtc_run_plain.specs.ProgramPair.{counting, plain_parts, PlainPairState, IsProgramPair}
+use Rattle.rtc_run_plain.specs.declared.peer_settings.PeerSettings.{PeerSettings}
 use Rattle.rtc_script_reports.specs.Report.{report}
 use Rattle.rtc_script.specs.declared.script.Script.{Script}
 use Rattle.rtc_script.specs.Settings.{sets_lite, sets_snap, buffer_set, interval_set, max_message_set}

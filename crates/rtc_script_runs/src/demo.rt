@@ -1,15 +1,15 @@
 //! Demos.
 ghost use Rattle.std.specs.Prelude.{◌≡◌, ◌≤◌, ◌<◌, ◌^◌, ◌⊎◌, IfOk};
 ghost use Rattle.rtc_io.specs.Saying.{BreaksOff};
-ghost use Rattle.rtc_history.specs.Sizes.{steps_size};
+ghost use Rattle.rtc_run_history.specs.Sizes.{steps_size};
 ghost use Rattle.rtc_script_runs.specs.Demo.{demo_script, demo_text, IsDemoText, PerformsDemo, TellsCounts};
 
 use crate::running::{lack_memory, run_script};
 use rtc_demo::{count_demo, demo_steps, write_counts};
-use rtc_history::{Reply, Step};
+use rtc_run_history::{Reply, Step};
 use rtc_io::{OUT_OF_MEMORY, SINK_FAILED, Sink, write_all};
 use rtc_plain::PlainMediaEvent;
-use rtc_plain_pair::PlainPair;
+use rtc_run_plain::PlainPair;
 use rtc_script::Script;
 use rtc_wire::Seq;
 use std::alloc::{AllocError, Global};

@@ -1,7 +1,7 @@
 -- The entries are visited in turn.
 use Rattle.std.proofs.Common.{◌≡◌, ◌<◌, ◌≤◌, ◌+◌, ℕ, List, [], ◌∷◌, ◌++◌, refl, sym, subst, ◌∙◌, drop, take, length, get_or, set, drop-cons, add-one, append_assoc, append-nil, arith}
 use Rattle.std.proofs.lemmas.List.{take_all, drop_all, take_more_set, drop-set-lt, take-set, drop-set, take-append-drop}
-use Rattle.rtc_association.specs.AssociationMeaning.{AssociationMeaning}
+use Rattle.rtc_part_association.specs.AssociationMeaning.{AssociationMeaning}
 use Rattle.rtc_sctp_entries.specs.declared.stream_entry.StreamEntry.{StreamEntry}
 use Rattle.rtc_sctp_entries.specs.declared.met.Met.{Met}
 use Rattle.rtc_sctp_entries.specs.declared.met.Met.TheVariants.{Nothing, Again, Output, OutOfMemory}

@@ -6,7 +6,7 @@ ghost use Rattle.rtc_sctp_entries.specs.declared.met.Met.TheVariants.{Again};
 ghost use Rattle.rtc_sctp.specs.Polls.{with_expected, finished_entry, FinishesAt, book, event_met, AfterEvent};
 
 use crate::{BufferedThresholdConfig, RtcSctpState, SctpEvent, StreamEntry, StreamEntryState};
-use rtc_association::AssocEvent;
+use rtc_part_association::AssocEvent;
 use rtc_sctp_entries::Met;
 use rtc_sctp_entries::entries::{place_of, put_reserved};
 use rtc_sctp_entries::resets::{drop_reset, note_reset};

@@ -7,7 +7,7 @@ ghost use Rattle.rtc_sctp.specs.Polls.{GivesCompletion, MakesPass, PollsStreams,
 use crate::events::{apply_event, make_room};
 use crate::streams::RtcSctp;
 use crate::{RtcSctpState, SctpEvent, StreamEntry};
-use rtc_association::Association;
+use rtc_part_association::Association;
 use rtc_sctp_entries::Met;
 use rtc_sctp_entries::entries::drop_closed;
 use rtc_sctp_entries::visit::visit;

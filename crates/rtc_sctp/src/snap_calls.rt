@@ -18,8 +18,8 @@ ghost use Rattle.rtc_sctp.specs.SnapCalls.{EnsuresLocalHalf, TakesRemoteHalf};
 
 use crate::SctpInitData;
 use crate::streams::RtcSctp;
-use rtc_association::Association;
-use rtc_ids::Ids;
+use rtc_part_association::Association;
+use rtc_part_draws::Ids;
 use std::alloc::AllocError;
 
 impl<S: Association> RtcSctp<S> {

@@ -9,9 +9,10 @@ ghost use Rattle.rtc_sctp.specs.Refusals.{IsRefusedAs, refusal_of_start};
 
 use crate::streams::RtcSctp;
 use crate::{ProtoError, RtcSctpState, SctpError, SctpInitData};
-use rtc_association::Association;
+use rtc_part_association::Association;
 use rtc_sctp_entries::{Asked, part};
-use rtc_wire::{DEFAULT_REMOTE_MAX_MESSAGE_SIZE, Moment, release};
+use rtc_wire::{DEFAULT_REMOTE_MAX_MESSAGE_SIZE, Moment};
+use rtc_wire_drops::release;
 
 fn limit_or_default(remote_max: Option<u32>) -> u32
     ensures { result ≡ LimitOrDefault remote_max }

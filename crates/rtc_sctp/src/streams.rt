@@ -5,7 +5,7 @@ ghost use Rattle.rtc_sctp.specs.Streams.{no_streams, ArePushedShort};
 
 use crate::pushed_back::PushedBack;
 use crate::{RtcSctpState, StreamEntry};
-use rtc_association::Association;
+use rtc_part_association::Association;
 use rtc_sctp_entries::entries::config_of;
 use rtc_sctp_values::SnapHalves;
 use rtc_wire::{

@@ -7,7 +7,7 @@ ghost use Rattle.rtc_sctp.specs.Calls.{attached_wake as AttachedWake, retry_wake
 
 use crate::streams::RtcSctp;
 use crate::{RtcSctpState, StreamEntry};
-use rtc_association::Association;
+use rtc_part_association::Association;
 use rtc_ready::Wake;
 use rtc_sctp_entries::entries::{any_retrying, drop_closed};
 use rtc_wire::{Moment, STREAM_OPEN_RETRY_INTERVAL};

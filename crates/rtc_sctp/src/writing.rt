@@ -7,7 +7,7 @@ ghost use Rattle.rtc_sctp.specs.Refusals.{IsRefusedAs, refusal_of_message};
 
 use crate::streams::RtcSctp;
 use crate::{ProtoError, SctpError};
-use rtc_association::{AssocError, Association, Ppi};
+use rtc_part_association::{AssocError, Association, Ppi};
 use rtc_sctp_entries::entries::{fits_generation, generation_of, has_open};
 
 fn written_ppi(binary: bool, empty: bool) -> Ppi

@@ -1,9 +1,9 @@
 -- A visit leaves the association started.
 use Rattle.std.proofs.Common.{◌≡◌, ℕ, Bool, true, false, List, Option, Some, None, ap, ◌∙◌}
-use Rattle.rtc_association.specs.declared.ppi.Ppi.{Ppi}
-use Rattle.rtc_association.specs.declared.ppi.Ppi.TheVariants as ppi
-use Rattle.rtc_association.specs.AssociationMeaning.{AssociationMeaning}
-use Rattle.rtc_association.specs.AssociationLaws.{AssociationLaws}
+use Rattle.rtc_part_association.specs.declared.ppi.Ppi.{Ppi}
+use Rattle.rtc_part_association.specs.declared.ppi.Ppi.TheVariants as ppi
+use Rattle.rtc_part_association.specs.AssociationMeaning.{AssociationMeaning}
+use Rattle.rtc_part_association.specs.AssociationLaws.{AssociationLaws}
 use Rattle.rtc_sctp_entries.specs.declared.asked.Asked.{Asked}
 use Rattle.rtc_sctp_entries.specs.declared.asked.Asked.TheVariants as did
 use Rattle.rtc_sctp_entries.specs.declared.opening.Opening.{Opening}

@@ -2,7 +2,7 @@
 ghost use Rattle.std.specs.Prelude.{◌≡◌};
 ghost use Rattle.rtc_sctp_entries.specs.Answers.{heard_of};
 
-use rtc_association::{AssocError, Ppi};
+use rtc_part_association::{AssocError, Ppi};
 use rtc_wire::Bytes;
 
 /// What was read of a stream.

@@ -1,3 +1,9 @@
 pub mod StreamMessages
 pub mod StreamActs
 pub mod StreamRuns
+pub mod GenerationLaws
+pub mod StreamUses
+pub mod UsedCalls
+pub mod Contents
+pub mod PastGenerations
+pub mod RunningStreams

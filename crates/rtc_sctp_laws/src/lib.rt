@@ -1,10 +1,18 @@
-//! What the calls of streams do to the association under them, and in which order their events come.
+//! Laws of streams: what their calls do to the association, in which order their events come, and what is written and read of each generation.
 #![tactic(auto)]
 
 mod acts;
 mod closes;
+mod contents;
+mod numbers;
+mod plain;
+mod uses;
 mod visits;
 
 pub use acts::calls_did;
 pub use closes::close_comes_before_completion;
+pub use contents::live_streams_carry;
+pub use numbers::numbers_carry_the_same;
+pub use plain::plain_streams_keep_laws;
+pub use uses::calls_keep_uses;
 pub use visits::visits_keep_marks_and_deadlines;

@@ -1,16 +1,16 @@
 -- A candidate that is written is read back.
 use Rattle.std.proofs.lemmas.List.{append-nil}
-use Rattle.rtc_fields.specs.Tokens.{is_token}
+use Rattle.rtc_wire_text.specs.Tokens.{is_token}
 use Rattle.std.proofs.Common.{◌≡◌, ℕ, ◌^◌, ◌<◌, ◌≤◌, List, [], ◌∷◌, length, map, Some, refl, ap, ◌∙◌, arith, Option, ◌++◌, true}
 use Rattle.std.specs.Prelude.{codes, option_map}
 use Rattle.std.specs.Fmt.{decimal}
 use Rattle.std.specs.List.{AllByRecursion}
 use Rattle.std.proofs.lemmas.Bool.{ne_eqb}
-use Rattle.rtc_fields.specs.Cuts.{Lacks}
-use Rattle.rtc_fields.specs.Numbers.{number_up_to}
-use Rattle.rtc_fields.specs.Words.{spaced}
-use Rattle.rtc_fields.proofs.CutLemmas.{parts-after_each, words-spaced, token_lacks, no_token_byte, no_digit, lacks-append, lacks-joined, lacks-after_each}
-use Rattle.rtc_fields.proofs.NumberLemmas.{number_up_to-decimal, decimal_lacks}
+use Rattle.rtc_wire_text.specs.Cuts.{Lacks}
+use Rattle.rtc_wire_text.specs.Numbers.{number_up_to}
+use Rattle.rtc_wire_text.specs.Words.{spaced}
+use Rattle.rtc_wire_text.proofs.CutLemmas.{parts-after_each, words-spaced, token_lacks, no_token_byte, no_digit, lacks-append, lacks-joined, lacks-after_each}
+use Rattle.rtc_wire_text.proofs.NumberLemmas.{number_up_to-decimal, decimal_lacks}
 use Rattle.rtc_wire.specs.declared.protocol.Protocol.{Protocol}
 use Rattle.rtc_wire.specs.declared.protocol.Protocol.TheVariants.{Udp, Tcp, SslTcp, Tls}
 use Rattle.rtc_sdp_values.specs.declared.candidate.Candidate.{Candidate}

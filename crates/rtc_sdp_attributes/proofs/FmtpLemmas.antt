@@ -1,13 +1,13 @@
 -- Parameters that are written are read back.
-use Rattle.rtc_fields.specs.Numbers.{number_up_to}
+use Rattle.rtc_wire_text.specs.Numbers.{number_up_to}
 use Rattle.std.proofs.Common.{◌≡◌, ℕ, ◌^◌, ◌<◌, ◌≤◌, true, ltb, List, [], ◌∷◌, ◌++◌, length, Some, refl, ap, ◌∙◌, arith, rules, Option}
 use Rattle.std.specs.Prelude.{codes, option_map}
 use Rattle.std.specs.Fmt.{decimal}
 use Rattle.std.proofs.lemmas.Bool.{ne_eqb, lt-ltb}
-use Rattle.rtc_fields.specs.Cuts.{Lacks}
-use Rattle.rtc_fields.specs.Fields.{first}
-use Rattle.rtc_fields.proofs.CutLemmas.{cut-append, no_digit, lacks-append, parts_one, printable_lacks}
-use Rattle.rtc_fields.proofs.NumberLemmas.{number_up_to-decimal, decimal_lacks}
+use Rattle.rtc_wire_text.specs.Cuts.{Lacks}
+use Rattle.rtc_wire_text.specs.Fields.{first}
+use Rattle.rtc_wire_text.proofs.CutLemmas.{cut-append, no_digit, lacks-append, parts_one, printable_lacks}
+use Rattle.rtc_wire_text.proofs.NumberLemmas.{number_up_to-decimal, decimal_lacks}
 use Rattle.rtc_sdp_attributes.specs.Forms.{filled, is_filled, front_of}
 use Rattle.rtc_sdp_attributes.specs.AttributeForms.{fmtp as fmtp_form, fmtp_made, apt, apt_pair, red_primary}
 use Rattle.rtc_sdp_attributes.specs.AttributeTexts.{fmtp_text, apt_text, red_text}

@@ -4,8 +4,8 @@ use Rattle.std.specs.Prelude.{option_map, filter}
 use Rattle.std.proofs.lemmas.List.{length-map, append-nil}
 use Rattle.std.proofs.Math.ListN.{get_or-map}
 use denote.Ref.{Bor}
-use Rattle.rtc_fields.specs.Fields.{each, onto}
-use Rattle.rtc_fields.proofs.FieldLemmas.{shown, at}
+use Rattle.rtc_wire_text.specs.Fields.{each, onto}
+use Rattle.rtc_wire_text.proofs.FieldLemmas.{shown, at}
 use Rattle.rtc_sdp_attributes.specs.AttributeForms.{is_kept, rid_pair}
 
 abbrev Pair : Type 0

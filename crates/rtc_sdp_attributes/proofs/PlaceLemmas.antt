@@ -4,9 +4,9 @@ use Rattle.std.specs.Prelude.{option_map}
 use Rattle.std.specs.List.{onto_first}
 use Rattle.std.proofs.lemmas.Bool.Decides.{eqb_tells}
 use Rattle.memchr.specs.Find.{Nowhere, NoneBefore, Passes, is_byte}
-use Rattle.rtc_fields.specs.Cuts.{cut, Lacks}
-use Rattle.rtc_fields.specs.Words.{parts}
-use Rattle.rtc_fields.proofs.CutLemmas.{cut_none}
+use Rattle.rtc_wire_text.specs.Cuts.{cut, Lacks}
+use Rattle.rtc_wire_text.specs.Words.{parts}
+use Rattle.rtc_wire_text.proofs.CutLemmas.{cut_none}
 
 is_false : (b : Bool) → ¬ (b ≡ true) → b ≡ false
 is_false true h = absurd (h refl)

@@ -4,14 +4,14 @@ use Rattle.std.specs.Prelude.{codes, option_map}
 use Rattle.std.specs.List.{AllByRecursion}
 use Rattle.std.specs.Str.{bytes_eq}
 use Rattle.std.proofs.lemmas.Bool.{ne_eqb}
-use Rattle.rtc_fields.specs.Cuts.{Lacks}
-use Rattle.rtc_fields.specs.Fields.{each}
-use Rattle.rtc_fields.specs.Fronts.{from_first, is_byte}
-use Rattle.rtc_fields.specs.Once.{each_once}
-use Rattle.rtc_fields.specs.Tokens.{is_token_byte, is_short_token}
-use Rattle.rtc_fields.specs.Words.{words, joined, spaced}
-use Rattle.rtc_fields.proofs.CutLemmas.{cut_none, parts-after_each, words-spaced, short_token_lacks, no_token_byte, lacks-append, lacks-joined, printable_lacks}
-use Rattle.rtc_fields.proofs.OnceLemmas.{each_once_apart, bytes_tell}
+use Rattle.rtc_wire_text.specs.Cuts.{Lacks}
+use Rattle.rtc_wire_text.specs.Fields.{each}
+use Rattle.rtc_wire_text.specs.Fronts.{from_first, is_byte}
+use Rattle.rtc_wire_text.specs.Once.{each_once}
+use Rattle.rtc_wire_text.specs.Tokens.{is_token_byte, is_short_token}
+use Rattle.rtc_wire_text.specs.Words.{words, joined, spaced}
+use Rattle.rtc_wire_text.proofs.CutLemmas.{cut_none, parts-after_each, words-spaced, short_token_lacks, no_token_byte, lacks-append, lacks-joined, printable_lacks}
+use Rattle.rtc_wire_text.proofs.OnceLemmas.{each_once_apart, bytes_tell}
 use Rattle.std.proofs.lemmas.List.{append-nil}
 use Rattle.rtc_sdp_values.specs.declared.simulcast.Simulcast.{Simulcast}
 use Rattle.rtc_sdp_attributes.specs.declared.rid_direction.RidDirection.TheVariants.{Send, Recv}

@@ -1,8 +1,8 @@
 -- The values of attributes as they are written.
 use Rattle.std.specs.Prelude.{ℕ, ◌==◌, List, [], ◌∷◌, ◌++◌, map, if◌then◌else◌, codes}
 use Rattle.std.specs.Fmt.{decimal}
-use Rattle.rtc_fields.specs.Hex.{hex_text}
-use Rattle.rtc_fields.specs.Words.{joined, spaced}
+use Rattle.rtc_wire_text.specs.Hex.{hex_text}
+use Rattle.rtc_wire_text.specs.Words.{joined, spaced}
 use Rattle.rtc_wire.specs.declared.protocol.Protocol.{Protocol}
 use Rattle.rtc_wire.specs.declared.protocol.Protocol.TheVariants.{Udp, Tcp, SslTcp, Tls}
 use Rattle.rtc_sdp_values.specs.Extension.{uri_of}

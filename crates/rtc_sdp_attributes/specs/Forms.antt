@@ -3,12 +3,12 @@ use Rattle.std.specs.Prelude.{ℕ, ◌==◌, Bool, not, ◌&&◌, is_none, nat_l
 use Rattle.std.specs.Prelude.{option_map, if◌then◌else◌}
 use Rattle.std.specs.List.{list_all}
 use Rattle.std.specs.Str.{bytes_eq}
-use Rattle.rtc_fields.specs.Cuts.{cut}
-use Rattle.rtc_fields.specs.Fields.{each}
-use Rattle.rtc_fields.specs.LetterCase.{lower}
-use Rattle.rtc_fields.specs.Numbers.{number_up_to}
-use Rattle.rtc_fields.specs.Tokens.{is_token, is_short_token}
-use Rattle.rtc_fields.specs.Words.{parts}
+use Rattle.rtc_wire_text.specs.Cuts.{cut}
+use Rattle.rtc_wire_text.specs.Fields.{each}
+use Rattle.rtc_wire_text.specs.LetterCase.{lower}
+use Rattle.rtc_wire_text.specs.Numbers.{number_up_to}
+use Rattle.rtc_wire_text.specs.Tokens.{is_token, is_short_token}
+use Rattle.rtc_wire_text.specs.Words.{parts}
 
 abbrev pub Form : Type 0 → Type 0
 Form A = List ℕ → Option A

@@ -2,10 +2,10 @@
 use Rattle.std.specs.Prelude.{◌≡◌, ◌≢◌, ℕ, ◌==◌, ◌<◌, ◌≤◌, Bool, true, false, List, [], ◌∷◌, length, if◌then◌else◌}
 use Rattle.std.specs.List.{AllByRecursion}
 use Rattle.std.specs.Str.{bytes_eq}
-use Rattle.rtc_fields.specs.Cuts.{Lacks}
-use Rattle.rtc_fields.specs.LetterCase.{is_lower}
-use Rattle.rtc_fields.specs.Once.{IsApart}
-use Rattle.rtc_fields.specs.Tokens.{is_token, is_short_token}
+use Rattle.rtc_wire_text.specs.Cuts.{Lacks}
+use Rattle.rtc_wire_text.specs.LetterCase.{is_lower}
+use Rattle.rtc_wire_text.specs.Once.{IsApart}
+use Rattle.rtc_wire_text.specs.Tokens.{is_token, is_short_token}
 use Rattle.rtc_wire.specs.declared.protocol.Protocol.{Protocol}
 use Rattle.rtc_wire.specs.declared.protocol.Protocol.TheVariants.{Udp, Tcp, SslTcp, Tls}
 use Rattle.rtc_sdp_values.specs.declared.candidate.Candidate.{Candidate}

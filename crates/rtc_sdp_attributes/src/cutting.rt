@@ -1,7 +1,7 @@
 //! A text in two at a byte.
 ghost use Rattle.std.specs.Prelude.{◌≡◌, ◌<◌, option_map};
 ghost use Rattle.memchr.specs.Find.{IsFirstByte, is_byte};
-ghost use Rattle.rtc_fields.specs.Cuts as spec;
+ghost use Rattle.rtc_wire_text.specs.Cuts as spec;
 
 use memchr::memchr;
 

@@ -5,7 +5,7 @@ ghost use Rattle.rtc_sdp_attributes.specs.AttributeForms as form;
 ghost use Rattle.rtc_sdp_attributes.specs.AttributeTexts as written;
 
 use crate::{cut, put_decimal};
-use rtc_fields::number_up_to;
+use rtc_wire_text::number_up_to;
 use rtc_sdp_values::{Direction, Extension};
 use std::alloc::AllocError;
 

@@ -5,7 +5,7 @@ ghost use Rattle.rtc_sdp_attributes.specs.AttributeTexts as written;
 
 use crate::cut;
 use crate::hash_value::{put_hash, read_hash};
-use rtc_fields::{is_token, lower};
+use rtc_wire_text::{is_token, lower};
 use rtc_sdp_values::Fingerprint;
 use std::alloc::{AllocError, Global};
 

@@ -1,11 +1,11 @@
 //! Values of `fmtp`.
 ghost use Rattle.std.specs.Prelude.{◌≡◌, ◌++◌, IfOk, OnOk, string_bytes, map};
-ghost use Rattle.rtc_fields.specs.Fields.{first};
+ghost use Rattle.rtc_wire_text.specs.Fields.{first};
 ghost use Rattle.rtc_sdp_attributes.specs.AttributeForms as form;
 ghost use Rattle.rtc_sdp_attributes.specs.AttributeTexts as written;
 
 use crate::{Fmtp, cut, put_decimal};
-use rtc_fields::{number_up_to, parts, without_blanks};
+use rtc_wire_text::{number_up_to, parts, without_blanks};
 use rtc_sdp_values::Pt;
 use rtc_wire::Text;
 use std::alloc::{AllocError, Global};

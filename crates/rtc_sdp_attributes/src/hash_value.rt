@@ -3,10 +3,10 @@ ghost use Rattle.std.specs.Prelude.{◌≡◌, ◌≤◌, ◌<◌, ◌+◌, ◌+
 ghost use Rattle.std.specs.Prelude.{if◌then◌else◌, nat_lt, Some, None};
 ghost use Rattle.std.specs.Str.{IsAscii};
 ghost use Rattle.arrayvec.specs.ArrayVec.{array_vec_len};
-ghost use Rattle.rtc_fields.specs.Hex as spec;
+ghost use Rattle.rtc_wire_text.specs.Hex as spec;
 
 use arrayvec::ArrayVec;
-use rtc_fields::push_hex;
+use rtc_wire_text::push_hex;
 use rtc_wire::Bytes;
 use std::alloc::{AllocError, Global};
 use std::str;

@@ -1,6 +1,6 @@
 //! What is written is read back: laws over the definitions, which take no time at all.
 ghost use Rattle.std.specs.Prelude.{◌≡◌, ◌<◌, ℕ, List, Some, true};
-ghost use Rattle.rtc_fields.specs.Cuts.{Lacks};
+ghost use Rattle.rtc_wire_text.specs.Cuts.{Lacks};
 ghost use Rattle.rtc_sdp_values.specs.declared.candidate.Candidate.{Candidate};
 ghost use Rattle.rtc_sdp_values.specs.declared.fingerprint.Fingerprint.{Fingerprint};
 ghost use Rattle.rtc_sdp_attributes.specs.Forms.{is_word_up_to, is_spaceless, word_up_to, spaceless};

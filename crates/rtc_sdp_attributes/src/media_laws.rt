@@ -1,6 +1,6 @@
 //! What is written is read back, and ends no line: laws over the definitions, which take no time at all.
 ghost use Rattle.std.specs.Prelude.{◌≡◌, ◌≢◌, ◌<◌, ◌≤◌, ◌++◌, [], ℕ, List, Some, None, length};
-ghost use Rattle.rtc_fields.specs.Cuts.{Lacks};
+ghost use Rattle.rtc_wire_text.specs.Cuts.{Lacks};
 ghost use Rattle.rtc_sdp_values.specs.declared.extension.Extension.{Extension};
 ghost use Rattle.rtc_sdp_values.specs.declared.msid.Msid.{Msid};
 ghost use Rattle.rtc_sdp_values.specs.declared.simulcast.Simulcast.{Simulcast};

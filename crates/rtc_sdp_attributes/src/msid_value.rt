@@ -4,7 +4,7 @@ ghost use Rattle.rtc_sdp_attributes.specs.AttributeForms as form;
 ghost use Rattle.rtc_sdp_attributes.specs.AttributeTexts as written;
 
 use crate::cut;
-use rtc_fields::is_token;
+use rtc_wire_text::is_token;
 use rtc_sdp_values::Msid;
 use rtc_wire::Text;
 use std::alloc::{AllocError, Global};

@@ -1,12 +1,12 @@
 //! Values of `rid`.
 ghost use Rattle.std.specs.Prelude.{◌≡◌, ◌++◌, IfOk, OnOk, string_bytes, [], ◌∷◌, filter, map, option_map};
 ghost use Rattle.rtc_sdp_attributes.specs.Forms;
-ghost use Rattle.rtc_fields.specs.Fields.{each};
+ghost use Rattle.rtc_wire_text.specs.Fields.{each};
 ghost use Rattle.rtc_sdp_attributes.specs.AttributeForms as form;
 ghost use Rattle.rtc_sdp_attributes.specs.AttributeTexts as written;
 
 use crate::{RidDirection, RidLine, cut};
-use rtc_fields::parts;
+use rtc_wire_text::parts;
 use rtc_sdp_values::Rid;
 use rtc_wire::{Seq, Text};
 use std::alloc::{AllocError, Global};

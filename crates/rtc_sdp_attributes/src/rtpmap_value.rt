@@ -4,7 +4,7 @@ ghost use Rattle.rtc_sdp_attributes.specs.AttributeForms as form;
 ghost use Rattle.rtc_sdp_attributes.specs.AttributeTexts as written;
 
 use crate::{Rtpmap, cut, put_decimal};
-use rtc_fields::{is_token, number_up_to};
+use rtc_wire_text::{is_token, number_up_to};
 use rtc_sdp_values::Pt;
 use rtc_wire::Text;
 use std::alloc::{AllocError, Global};

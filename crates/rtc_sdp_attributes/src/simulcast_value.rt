@@ -1,19 +1,19 @@
 //! Values of `simulcast`.
 ghost use Rattle.std.specs.Prelude.{◌≡◌, ◌++◌, IfOk, OnOk, string_bytes, map, option_map};
 ghost use Rattle.std.specs.Str.{bytes_eq};
-ghost use Rattle.rtc_fields.specs.Fields.{each};
-ghost use Rattle.rtc_fields.specs.Once.{each_once as spec_each_once};
-ghost use Rattle.rtc_fields.specs.Words.{joined};
-ghost use Rattle.rtc_fields.proofs.OnceLemmas.{among, grown};
-ghost use Rattle.rtc_fields.specs.Cuts.{cut as cut_at};
-ghost use Rattle.rtc_fields.specs.Fronts.{from_first, is_byte};
+ghost use Rattle.rtc_wire_text.specs.Fields.{each};
+ghost use Rattle.rtc_wire_text.specs.Once.{each_once as spec_each_once};
+ghost use Rattle.rtc_wire_text.specs.Words.{joined};
+ghost use Rattle.rtc_wire_text.proofs.OnceLemmas.{among, grown};
+ghost use Rattle.rtc_wire_text.specs.Cuts.{cut as cut_at};
+ghost use Rattle.rtc_wire_text.specs.Fronts.{from_first, is_byte};
 ghost use Rattle.rtc_sdp_attributes.specs.Forms;
 ghost use Rattle.rtc_sdp_attributes.specs.AttributeForms as form;
 ghost use Rattle.rtc_sdp_attributes.specs.AttributeTexts as written;
 
 use crate::rid_value::direction_of;
 use crate::{RidDirection, SimulcastLine, cut};
-use rtc_fields::{parts, without_first, words};
+use rtc_wire_text::{parts, without_first, words};
 use rtc_sdp_values::{Rid, Simulcast, SimulcastLayer};
 use rtc_wire::Seq;
 use std::alloc::{AllocError, Global};

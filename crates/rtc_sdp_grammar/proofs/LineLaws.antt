@@ -5,13 +5,13 @@ use Rattle.std.specs.List.{AllByRecursion}
 use Rattle.std.specs.Char.{is_ascii_digit}
 use Rattle.std.specs.Fmt.{decimal}
 use Rattle.std.proofs.lemmas.Bool.Decides.{eqb_tells}
-use Rattle.rtc_fields.specs.Cuts.{Lacks}
-use Rattle.rtc_fields.specs.Fields.{each}
-use Rattle.rtc_fields.specs.Numbers.{number, number_up_to}
-use Rattle.rtc_fields.specs.Tokens.{is_token_byte, is_short_token}
-use Rattle.rtc_fields.specs.Words.{words, spaced}
-use Rattle.rtc_fields.proofs.CutLemmas.{lacks-append, lacks-after_each, words-spaced, short_token_lacks}
-use Rattle.rtc_fields.proofs.NumberLemmas.{number-decimal, number_up_to-decimal, decimal_lacks}
+use Rattle.rtc_wire_text.specs.Cuts.{Lacks}
+use Rattle.rtc_wire_text.specs.Fields.{each}
+use Rattle.rtc_wire_text.specs.Numbers.{number, number_up_to}
+use Rattle.rtc_wire_text.specs.Tokens.{is_token_byte, is_short_token}
+use Rattle.rtc_wire_text.specs.Words.{words, spaced}
+use Rattle.rtc_wire_text.proofs.CutLemmas.{lacks-append, lacks-after_each, words-spaced, short_token_lacks}
+use Rattle.rtc_wire_text.proofs.NumberLemmas.{number-decimal, number_up_to-decimal, decimal_lacks}
 use Rattle.rtc_sdp_values.specs.declared.direction.Direction.{Direction}
 use Rattle.rtc_sdp_values.specs.declared.direction.Direction.TheVariants.{SendRecv, SendOnly, RecvOnly, Inactive}
 use Rattle.rtc_sdp_values.specs.declared.line_kind.LineKind.{LineKind}
@@ -21,7 +21,7 @@ use Rattle.rtc_sdp_values.specs.declared.setup.Setup.TheVariants.{ActPass, Activ
 use Rattle.rtc_sdp_grammar.specs.declared.attribute.Attribute.TheVariants.{MidLine, GroupLine, SetupLine, DirectionLine}
 use Rattle.rtc_sdp_grammar.specs.declared.item.Item.{Item}
 use Rattle.rtc_sdp_grammar.specs.declared.item.Item.TheVariants.{Origin, Media, Says, Skipped}
-use Rattle.rtc_fields.specs.Once.{IsApart}
+use Rattle.rtc_wire_text.specs.Once.{IsApart}
 use Rattle.rtc_sdp_grammar.specs.MediaForm.{media_words, with_numbers}
 use Rattle.rtc_sdp_attributes.specs.Forms.{short_token}
 use Rattle.rtc_sdp_grammar.specs.Table.{attribute_item, group_words, row_item}
@@ -30,7 +30,7 @@ use Rattle.rtc_sdp_grammar.specs.declared.strict.Strict.TheVariants.{Group}
 use Rattle.rtc_sdp_grammar.specs.declared.level.Level.TheVariants.{SessionLevel, MediaLevel, AnyLevel}
 use Rattle.rtc_sdp_grammar.specs.ItemForm.{item_of, origin_words}
 use Rattle.rtc_sdp_grammar.specs.LineTexts.{origin_line, group_line, mid_line, setup_line, direction_line, port_word, transport_words, media_line}
-use Rattle.rtc_fields.proofs.OnceLemmas.{each_once_apart}
+use Rattle.rtc_wire_text.proofs.OnceLemmas.{each_once_apart}
 
 -- a text is one line, and says the item
 pub record IsLineOf (line : List ℕ) (item : Item) : Type 0 where

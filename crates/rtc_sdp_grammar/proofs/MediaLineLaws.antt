@@ -3,11 +3,11 @@ use Rattle.std.proofs.Common.{◌≡◌, ◌≢◌, ℕ, ◌<◌, ◌≤◌, ◌
 use Rattle.std.specs.Prelude.{codes}
 use Rattle.std.specs.Fmt.{decimal}
 use Rattle.std.specs.List.{AllByRecursion}
-use Rattle.rtc_fields.specs.Cuts.{Lacks}
-use Rattle.rtc_fields.specs.Tokens.{is_token}
-use Rattle.rtc_fields.specs.Words.{spaced}
-use Rattle.rtc_fields.proofs.CutLemmas.{lacks-append, lacks-after_each, token_lacks}
-use Rattle.rtc_fields.proofs.NumberLemmas.{decimal_lacks}
+use Rattle.rtc_wire_text.specs.Cuts.{Lacks}
+use Rattle.rtc_wire_text.specs.Tokens.{is_token}
+use Rattle.rtc_wire_text.specs.Words.{spaced}
+use Rattle.rtc_wire_text.proofs.CutLemmas.{lacks-append, lacks-after_each, token_lacks}
+use Rattle.rtc_wire_text.proofs.NumberLemmas.{decimal_lacks}
 use Rattle.rtc_sdp_values.specs.declared.extension.Extension.{Extension}
 use Rattle.rtc_sdp_values.specs.declared.msid.Msid.{Msid}
 use Rattle.rtc_sdp_values.specs.declared.simulcast.Simulcast.{Simulcast}

@@ -1,7 +1,7 @@
 -- Lines of the standards' examples, computed from the table.
 use Rattle.std.proofs.Common.{◌≡◌, ℕ, false, List, [], ◌∷◌, refl}
 use Rattle.std.specs.Prelude.{codes}
-use Rattle.rtc_fields.specs.Numbers.{number}
+use Rattle.rtc_wire_text.specs.Numbers.{number}
 use Rattle.rtc_wire.specs.declared.protocol.Protocol.TheVariants.{Udp}
 use Rattle.rtc_sdp_values.specs.Extension.{of_uri}
 use Rattle.rtc_sdp_values.specs.declared.candidate_kind.CandidateKind.TheVariants.{Host, ServerReflexive}

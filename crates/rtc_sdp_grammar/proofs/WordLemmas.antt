@@ -3,9 +3,9 @@ use Rattle.std.proofs.Common.{◌≡◌, ◌∙◌, ℕ, false, eqb, List, [], �
 use Rattle.std.specs.List.{list_all}
 use denote.Ref.{Bor}
 use Rattle.std.proofs.lemmas.List.Folds.{list_all-map}
-use Rattle.rtc_fields.specs.Cuts.{cut}
-use Rattle.rtc_fields.specs.Tokens.{is_token}
-use Rattle.rtc_fields.specs.Words.{words}
+use Rattle.rtc_wire_text.specs.Cuts.{cut}
+use Rattle.rtc_wire_text.specs.Tokens.{is_token}
+use Rattle.rtc_wire_text.specs.Words.{words}
 use Rattle.rtc_sdp_grammar.specs.declared.item.Item.TheVariants.{Blank, BadMedia}
 use Rattle.rtc_sdp_attributes.specs.Forms.{is_filled}
 use Rattle.rtc_sdp_attributes.proofs.PlaceLemmas.{parts_none, parts_some}

@@ -3,10 +3,10 @@ use Rattle.std.specs.Prelude.{ℕ, ◌==◌, Bool, ◌&&◌, List, [], ◌∷◌
 use Rattle.std.specs.List.{list_all}
 use Rattle.std.specs.Char.{is_ascii_lowercase}
 use Rattle.std.specs.Str.{bytes_eq}
-use Rattle.rtc_fields.specs.Cuts.{cut}
-use Rattle.rtc_fields.specs.Lines.{lines}
-use Rattle.rtc_fields.specs.Words.{words}
-use Rattle.rtc_fields.specs.Numbers.{number}
+use Rattle.rtc_wire_text.specs.Cuts.{cut}
+use Rattle.rtc_wire_text.specs.Lines.{lines}
+use Rattle.rtc_wire_text.specs.Words.{words}
+use Rattle.rtc_wire_text.specs.Numbers.{number}
 use Rattle.rtc_sdp_attributes.specs.Forms.{is_filled, COLON, EQUALS}
 use Rattle.rtc_sdp_grammar.specs.MediaForm.{media}
 use Rattle.rtc_sdp_grammar.specs.Table.{attribute_item}

@@ -1,7 +1,7 @@
 -- Lines as they are written (RFC 8866, section 5; the user name, the version and the addresses of the `o=` line are our profile's).
 use Rattle.std.specs.Prelude.{ℕ, Bool, List, [], ◌∷◌, ◌++◌, map, if◌then◌else◌, codes}
 use Rattle.std.specs.Fmt.{decimal}
-use Rattle.rtc_fields.specs.Words.{spaced}
+use Rattle.rtc_wire_text.specs.Words.{spaced}
 use Rattle.rtc_sdp_values.specs.declared.direction.Direction.{Direction}
 use Rattle.rtc_sdp_values.specs.declared.direction.Direction.TheVariants.{SendRecv, SendOnly, RecvOnly, Inactive}
 use Rattle.rtc_sdp_values.specs.declared.line_kind.LineKind.{LineKind}

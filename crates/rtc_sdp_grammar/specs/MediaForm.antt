@@ -2,15 +2,15 @@
 use Rattle.std.specs.Prelude.{ℕ, ◌==◌, Bool, ◌&&◌, ◌||◌, eqb, List, [], ◌∷◌, Option, Some, None, if◌then◌else◌, codes}
 use Rattle.std.specs.List.{list_all}
 use Rattle.std.specs.Str.{bytes_eq}
-use Rattle.rtc_fields.specs.Cuts.{cut}
-use Rattle.rtc_fields.specs.Fields.{each}
-use Rattle.rtc_fields.specs.Words.{words}
-use Rattle.rtc_fields.specs.Tokens.{is_token}
-use Rattle.rtc_fields.specs.Numbers.{is_numeral, number_up_to}
+use Rattle.rtc_wire_text.specs.Cuts.{cut}
+use Rattle.rtc_wire_text.specs.Fields.{each}
+use Rattle.rtc_wire_text.specs.Words.{words}
+use Rattle.rtc_wire_text.specs.Tokens.{is_token}
+use Rattle.rtc_wire_text.specs.Numbers.{is_numeral, number_up_to}
 use Rattle.rtc_sdp_attributes.specs.Forms.{is_filled, SLASH}
 use Rattle.rtc_sdp_values.specs.declared.line_kind.LineKind.{LineKind}
 use Rattle.rtc_sdp_values.specs.declared.line_kind.LineKind.TheVariants.{Audio, Video, Application, Unknown}
-use Rattle.rtc_fields.specs.Once.{each_once}
+use Rattle.rtc_wire_text.specs.Once.{each_once}
 use Rattle.rtc_sdp_grammar.specs.declared.item.Item.{Item}
 use Rattle.rtc_sdp_grammar.specs.declared.item.Item.TheVariants.{BadMedia, Media}
 

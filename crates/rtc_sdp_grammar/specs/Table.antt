@@ -2,9 +2,9 @@
 -- a malformed value, and its form.
 use Rattle.std.specs.Prelude.{ℕ, List, [], ◌∷◌, Option, Some, None, option_map, if◌then◌else◌, codes}
 use Rattle.std.specs.Str.{bytes_eq}
-use Rattle.rtc_fields.specs.Fields.{each}
-use Rattle.rtc_fields.specs.Numbers.{number}
-use Rattle.rtc_fields.specs.Words.{words}
+use Rattle.rtc_wire_text.specs.Fields.{each}
+use Rattle.rtc_wire_text.specs.Numbers.{number}
+use Rattle.rtc_wire_text.specs.Words.{words}
 use Rattle.rtc_sdp_values.specs.declared.direction.Direction.TheVariants.{SendRecv, SendOnly, RecvOnly, Inactive}
 use Rattle.rtc_sdp_attributes.specs.Forms.{short_token, spaceless, word_up_to, one_of, saying, valued, bare}
 use Rattle.rtc_sdp_attributes.specs.AttributeForms.{

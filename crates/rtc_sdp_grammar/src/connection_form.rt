@@ -1,6 +1,6 @@
 //! The attributes of a connection, each by its row of the table.
 ghost use Rattle.std.specs.Prelude.{◌≡◌, IfOk};
-ghost use Rattle.rtc_fields.specs.Numbers.{number as spec_number};
+ghost use Rattle.rtc_wire_text.specs.Numbers.{number as spec_number};
 ghost use Rattle.rtc_sdp_attributes.specs.Forms as forms;
 ghost use Rattle.rtc_sdp_attributes.specs.AttributeForms as form;
 ghost use Rattle.rtc_sdp_grammar.specs.declared.attribute.Attribute.TheVariants.{
@@ -16,7 +16,7 @@ ghost use Rattle.rtc_sdp_grammar.specs.declared.attribute.Attribute.TheVariants.
 ghost use Rattle.rtc_sdp_grammar.specs.NameLengths.{bytes_shown};
 
 use crate::Attribute;
-use rtc_fields::number;
+use rtc_wire_text::number;
 use rtc_sdp_attributes::{
     read_candidate, read_fingerprint, read_password, read_sctp_init, read_setup, read_ufrag,
 };

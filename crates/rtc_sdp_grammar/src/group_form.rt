@@ -1,13 +1,13 @@
 //! The form of BUNDLE groups.
 ghost use Rattle.std.specs.Prelude.{◌≡◌, IfOk, map, option_map};
-ghost use Rattle.rtc_fields.specs.Fields.{each};
+ghost use Rattle.rtc_wire_text.specs.Fields.{each};
 ghost use Rattle.rtc_sdp_attributes.specs.Forms.{short_token};
 ghost use Rattle.rtc_sdp_grammar.specs.declared.attribute.Attribute.TheVariants.{GroupLine};
 ghost use Rattle.rtc_sdp_grammar.specs.Table as spec;
 ghost use Rattle.rtc_sdp_grammar.specs.NameLengths.{bytes_shown};
 
 use crate::Attribute;
-use rtc_fields::words;
+use rtc_wire_text::words;
 use rtc_sdp_values::Mid;
 use rtc_wire::Seq;
 use std::alloc::{AllocError, Global};

@@ -8,7 +8,7 @@ ghost use Rattle.rtc_sdp_grammar.specs.ItemForm as spec;
 use crate::Item;
 use crate::attribute_form::attribute;
 use crate::media_form::{is_filled, media};
-use rtc_fields::{number, words};
+use rtc_wire_text::{number, words};
 use rtc_sdp_attributes::cut;
 use std::alloc::{AllocError, Global};
 

@@ -1,16 +1,16 @@
 //! The form of `m=` lines.
 ghost use Rattle.std.specs.Prelude.{◌≡◌, ◌∷◌, IfOk, map, option_map, eqb};
 ghost use Rattle.std.specs.List.{list_all};
-ghost use Rattle.rtc_fields.specs.Fields.{each};
-ghost use Rattle.rtc_fields.specs.Numbers.{number_up_to as spec_number_up_to};
-ghost use Rattle.rtc_fields.specs.Tokens.{is_token as IsToken};
-ghost use Rattle.rtc_fields.specs.Words.{words as spec_words};
+ghost use Rattle.rtc_wire_text.specs.Fields.{each};
+ghost use Rattle.rtc_wire_text.specs.Numbers.{number_up_to as spec_number_up_to};
+ghost use Rattle.rtc_wire_text.specs.Tokens.{is_token as IsToken};
+ghost use Rattle.rtc_wire_text.specs.Words.{words as spec_words};
 ghost use Rattle.rtc_sdp_attributes.specs.Forms as filled;
 ghost use Rattle.rtc_sdp_grammar.specs.MediaForm as spec;
-ghost use Rattle.rtc_fields.specs.Once.{each_once as spec_each_once};
+ghost use Rattle.rtc_wire_text.specs.Once.{each_once as spec_each_once};
 
 use crate::{Item, MediaHead};
-use rtc_fields::{is_numeral, is_token, number_up_to, words};
+use rtc_wire_text::{is_numeral, is_token, number_up_to, words};
 use rtc_sdp_attributes::cut;
 use rtc_sdp_values::LineKind;
 use rtc_wire::Seq;

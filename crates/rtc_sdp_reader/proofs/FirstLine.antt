@@ -4,9 +4,9 @@ use Rattle.std.specs.Prelude.{option_map}
 use Rattle.std.specs.List.{onto_first}
 use Rattle.std.specs.Str.Lines.{strip_carriage_return, lines_of_parts}
 use Rattle.std.proofs.lemmas.Bool.Decides.{eqb_tells, nat_tests}
-use Rattle.rtc_fields.specs.Cuts.{cut}
-use Rattle.rtc_fields.specs.Lines.{lines}
-use Rattle.rtc_fields.specs.Words.{parts}
+use Rattle.rtc_wire_text.specs.Cuts.{cut}
+use Rattle.rtc_wire_text.specs.Lines.{lines}
+use Rattle.rtc_wire_text.specs.Words.{parts}
 use Rattle.rtc_sdp_attributes.proofs.PlaceLemmas.{parts_none, parts_some}
 
 more_in_front : (line : List ℕ) (b : ℕ) (rest : List (List ℕ)) → lines_of_parts (line ∷ onto_first b rest) ≡ strip_carriage_return line ∷ lines_of_parts (onto_first b rest)

@@ -11,7 +11,7 @@ use Rattle.std.proofs.lemmas.Bool.Decides.{eqb_tells, nat_tests}
 use Rattle.std.proofs.lemmas.List.{take_more}
 use Rattle.std.proofs.lemmas.List.Folds.{list_any-append}
 use Rattle.std.specs.Option.{option_or}
-use Rattle.rtc_fields.proofs.OnceLemmas.{among, grown, is_grown}
+use Rattle.rtc_wire_text.proofs.OnceLemmas.{among, grown, is_grown}
 use Rattle.rtc_sdp_values.specs.declared.ssrc.Ssrc.{Ssrc}
 use Rattle.rtc_sdp_reader.specs.Sources.{rtx_for, rtx_of, is_rtx, source_named}
 use Rattle.rtc_sdp_reader.proofs.PlaceLemmas.{first_more, option_or_none}

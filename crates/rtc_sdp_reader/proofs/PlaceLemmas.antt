@@ -10,8 +10,8 @@ use Rattle.std.proofs.lemmas.List.{take_more}
 use Rattle.std.proofs.Math.Seq.{take-length}
 use Rattle.std.proofs.lemmas.Map.Text.{is_eq-slice_cmp}
 use Rattle.std.specs.Option.{option_or}
-use Rattle.rtc_fields.specs.Fields.{first}
-use Rattle.rtc_fields.proofs.OnceLemmas.{bytes_tell}
+use Rattle.rtc_wire_text.specs.Fields.{first}
+use Rattle.rtc_wire_text.proofs.OnceLemmas.{bytes_tell}
 use Rattle.rtc_sdp_attributes.specs.declared.rid_direction.RidDirection.{RidDirection}
 use Rattle.rtc_sdp_attributes.specs.declared.rid_line.RidLine.{RidLine}
 use Rattle.rtc_sdp_reader.specs.Layers.{same_rid_direction}

@@ -2,7 +2,7 @@
 use Rattle.std.proofs.Common.{◌≡◌, ℕ, eqb, Bool, true, false, ◌||◌, List, [], ◌∷◌, Option, Some, None, refl, sym, ap, ◌∙◌, inl, inr}
 use Rattle.std.specs.List.{AllByRecursion, filter_map}
 use Rattle.std.proofs.lemmas.Bool.Decides.{eqb_tells}
-use Rattle.rtc_fields.proofs.OnceLemmas.{each_once_apart}
+use Rattle.rtc_wire_text.proofs.OnceLemmas.{each_once_apart}
 use Rattle.rtc_sdp_values.specs.declared.ssrc.Ssrc.{Ssrc}
 use Rattle.rtc_sdp_reader.specs.Sources.{rtx_of, is_rtx, source_named, sources}
 use Rattle.rtc_sdp_reader.specs.PlainSources.{numbers_of, source_pairs, AreNumbersApart}

@@ -1,7 +1,7 @@
 -- Whole descriptions, computed from the definitions.
 use Rattle.std.proofs.Common.{◌≡◌, false, [], ◌∷◌, Some, None, Ok, Err, refl}
 use Rattle.std.specs.Prelude.{codes}
-use Rattle.rtc_fields.specs.Numbers.{number}
+use Rattle.rtc_wire_text.specs.Numbers.{number}
 use Rattle.rtc_sdp_values.specs.declared.direction.Direction.TheVariants.{SendOnly}
 use Rattle.rtc_sdp_values.specs.declared.line_kind.LineKind.TheVariants.{Audio}
 use Rattle.rtc_sdp_values.specs.declared.setup.Setup.TheVariants.{ActPass}

@@ -2,8 +2,8 @@
 use Rattle.std.specs.Prelude.{ℕ, ◌==◌, Bool, true, false, not, ◌||◌, List, [], map, Option, Some, None, option_map, if◌then◌else◌, codes}
 use Rattle.std.specs.List.{filter_map}
 use Rattle.std.specs.Str.{bytes_eq}
-use Rattle.rtc_fields.specs.Fields.{first}
-use Rattle.rtc_fields.specs.LetterCase.{lower}
+use Rattle.rtc_wire_text.specs.Fields.{first}
+use Rattle.rtc_wire_text.specs.LetterCase.{lower}
 use Rattle.rtc_sdp_values.specs.declared.pt.Pt.{Pt}
 use Rattle.rtc_sdp_values.specs.declared.payload_row.PayloadRow.{PayloadRow}
 use Rattle.rtc_sdp_attributes.specs.declared.fmtp.Fmtp.{Fmtp}

@@ -1,7 +1,7 @@
 -- The `rid` attributes that are written for layers, and the layers that are read back.
 use Rattle.std.specs.Prelude.{List, ◌++◌, map}
 use Rattle.std.specs.Str.{bytes_eq}
-use Rattle.rtc_fields.specs.Once.{IsApart}
+use Rattle.rtc_wire_text.specs.Once.{IsApart}
 use Rattle.rtc_sdp_values.specs.declared.simulcast.Simulcast.{Simulcast}
 use Rattle.rtc_sdp_values.specs.declared.simulcast_layer.SimulcastLayer.{SimulcastLayer}
 use Rattle.rtc_sdp_attributes.specs.declared.rid_direction.RidDirection.{RidDirection}

@@ -1,6 +1,6 @@
 -- The formats, codecs and parameters that are written for payload rows, and the rows that are read back.
 use Rattle.std.specs.Prelude.{◌≡◌, ℕ, ◌≤◌, ◌==◌, false, List, [], ◌∷◌, ◌++◌, Option, Some, None, IfSome, codes}
-use Rattle.rtc_fields.specs.Once.{IsApart}
+use Rattle.rtc_wire_text.specs.Once.{IsApart}
 use Rattle.rtc_sdp_values.specs.declared.pt.Pt.{Pt}
 use Rattle.rtc_sdp_values.specs.declared.payload_row.PayloadRow.{PayloadRow}
 use Rattle.rtc_sdp_attributes.specs.declared.fmtp.Fmtp.{Fmtp}

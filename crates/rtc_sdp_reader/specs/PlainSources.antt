@@ -1,6 +1,6 @@
 -- The names and pairs that are written for sources, and the sources that are read back.
 use Rattle.std.specs.Prelude.{ℕ, eqb, List, [], ◌∷◌, ◌++◌, Option, Some, None}
-use Rattle.rtc_fields.specs.Once.{IsApart}
+use Rattle.rtc_wire_text.specs.Once.{IsApart}
 use Rattle.rtc_sdp_values.specs.declared.ssrc.Ssrc.{Ssrc}
 
 abbrev pub rtx_number : Option Ssrc → List ℕ

@@ -1,6 +1,6 @@
 -- The value of a session description.
 use Rattle.std.specs.Prelude.{ℕ, false, List, Option, Some, None}
-use Rattle.rtc_fields.specs.Fields.{first}
+use Rattle.rtc_wire_text.specs.Fields.{first}
 use Rattle.rtc_sdp_values.specs.declared.media_line.MediaLine.{MediaLine}
 use Rattle.rtc_sdp_values.specs.declared.sdp.Sdp.{Sdp}
 use Rattle.rtc_sdp_grammar.specs.declared.item.Item.{Item}

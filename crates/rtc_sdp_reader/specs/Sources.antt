@@ -1,8 +1,8 @@
 -- The sources of a media line, from its `ssrc` and `ssrc-group` attributes.
 use Rattle.std.specs.Prelude.{ℕ, ◌==◌, eqb, Bool, List, Option, Some, None, if◌then◌else◌}
 use Rattle.std.specs.List.{filter_map, list_any}
-use Rattle.rtc_fields.specs.Fields.{first}
-use Rattle.rtc_fields.specs.Once.{each_once}
+use Rattle.rtc_wire_text.specs.Fields.{first}
+use Rattle.rtc_wire_text.specs.Once.{each_once}
 use Rattle.rtc_sdp_values.specs.declared.ssrc.Ssrc.{Ssrc}
 
 -- ---- pairs: a source, and that of its retransmissions; the first pair of a source counts

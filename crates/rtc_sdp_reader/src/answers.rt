@@ -1,7 +1,7 @@
 //! The reader.
 ghost use Rattle.std.specs.Prelude.{◌≡◌, ◌<◌, ◌∷◌, length};
 ghost use Rattle.std.specs.Str.Lines.{strip_carriage_return};
-ghost use Rattle.rtc_fields.specs.Lines.{lines};
+ghost use Rattle.rtc_wire_text.specs.Lines.{lines};
 ghost use Rattle.rtc_sdp_reader.specs.Putting.{start};
 ghost use Rattle.rtc_sdp_reader.specs.Reading.{reading, ReadsSdp};
 

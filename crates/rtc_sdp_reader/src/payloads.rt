@@ -2,11 +2,11 @@
 ghost use Rattle.std.specs.Prelude.{◌≡◌, ◌==◌, ◌&&◌, ◌<◌, ◌++◌, [], ℕ, false, length, map, IfOk, IfSome, OnOk, option_and_then};
 ghost use Rattle.std.specs.List.{cons_option, list_any, slice_get};
 ghost use Rattle.std.specs.Option.{option_copied};
-ghost use Rattle.rtc_fields.specs.Fields.{first};
+ghost use Rattle.rtc_wire_text.specs.Fields.{first};
 ghost use Rattle.rtc_sdp_reader.specs.Payloads as spec;
 
 use crate::link::Link;
-use rtc_fields::same_letters;
+use rtc_wire_text::same_letters;
 use rtc_sdp_attributes::{Fmtp, Rtpmap, read_apt, read_red_primary};
 use rtc_sdp_values::{PayloadRow, Pt};
 use rtc_wire::{Seq, Text, TryCopy};

@@ -3,7 +3,7 @@ ghost use Rattle.std.specs.Prelude.{◌≡◌, ℕ, eqb, IfOk};
 ghost use Rattle.std.specs.Ordering.{nat_cmp};
 ghost use Rattle.std.specs.BTreeMap as map;
 ghost use Rattle.std.specs.BTreeSet as set;
-ghost use Rattle.rtc_fields.specs.Once.{each_once as spec_each_once};
+ghost use Rattle.rtc_wire_text.specs.Once.{each_once as spec_each_once};
 ghost use Rattle.rtc_sdp_reader.specs.Sources as spec;
 
 use rtc_sdp_values::Ssrc;

@@ -2,7 +2,7 @@
 use Rattle.std.specs.Prelude.{◌≡◌, ℕ, ◌-◌, ◌==◌, Bool, false, List, [], ◌∷◌, ◌++◌, Option, Some, None, option_map}
 use Rattle.std.specs.Prelude.{Result, Ok, Err, is_err, if◌then◌else◌, codes}
 use Rattle.std.specs.Str.{is_utf8}
-use Rattle.rtc_fields.specs.Lines.{lines}
+use Rattle.rtc_wire_text.specs.Lines.{lines}
 use Rattle.rtc_sdp_grammar.specs.ItemForm.{item_of}
 use Rattle.rtc_sdp_grammar.specs.declared.item.Item.{Item}
 use Rattle.rtc_sdp_reader.specs.declared.place.Place.TheVariants.{First}

@@ -2,7 +2,7 @@
 use Rattle.std.specs.Prelude.{ℕ, eqb, Bool, true, false, List, [], ◌∷◌, ◌++◌, Option, Some, None, if◌then◌else◌, codes}
 use Rattle.std.specs.List.{list_any}
 use Rattle.std.specs.Str.{bytes_eq}
-use Rattle.rtc_fields.specs.Cuts.{cut}
+use Rattle.rtc_wire_text.specs.Cuts.{cut}
 use Rattle.rtc_sdp_attributes.specs.Forms.{COLON, EQUALS}
 use Rattle.rtc_sdp_grammar.specs.Table.{Row, table}
 use Rattle.rtc_sdp_grammar.specs.declared.attribute.Attribute.{Attribute}

@@ -1,7 +1,7 @@
 -- Bytes as a session description: a line that is not UTF-8 has no form.
 use Rattle.std.specs.Prelude.{ℕ, List, [], ◌∷◌, ◌++◌, codes, Result, if◌then◌else◌}
 use Rattle.std.specs.Str.{is_utf8}
-use Rattle.rtc_fields.specs.Lines.{pieces}
+use Rattle.rtc_wire_text.specs.Lines.{pieces}
 use Rattle.rtc_sdp_values.specs.declared.sdp.Sdp.{Sdp}
 use Rattle.rtc_sdp_reader.specs.Reading.{reading}
 

@@ -1,6 +1,6 @@
 //! A text, line by line, with what becomes of each.
 ghost use Rattle.std.specs.Prelude.{◌≡◌, ◌++◌, IfOk, OnOk, is_err, string_bytes};
-ghost use Rattle.rtc_fields.specs.Lines.{lines};
+ghost use Rattle.rtc_wire_text.specs.Lines.{lines};
 ghost use Rattle.rtc_sdp_grammar.specs.ItemForm as items;
 ghost use Rattle.rtc_sdp_reader.specs.Reading.{reading};
 ghost use Rattle.rtc_sdp_text.specs.Explanation as spec;
@@ -11,7 +11,8 @@ use crate::{Cause, Explanation, Fate, Walk};
 use rtc_sdp_grammar::{Item, item_of};
 use rtc_sdp_reader::{Place, read};
 use rtc_sdp_values::SdpError;
-use rtc_wire::{Seq, Text, release};
+use rtc_wire::{Seq, Text};
+use rtc_wire_drops::release;
 use std::alloc::{AllocError, Global};
 
 fn cause_words(cause: Cause) -> &'static str

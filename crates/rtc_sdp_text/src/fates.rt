@@ -1,6 +1,6 @@
 //! What becomes of single lines.
 ghost use Rattle.std.specs.Prelude.{◌≡◌, OnOk};
-ghost use Rattle.rtc_fields.specs.Cuts as cuts;
+ghost use Rattle.rtc_wire_text.specs.Cuts as cuts;
 ghost use Rattle.rtc_sdp_attributes.specs.Forms.{COLON};
 ghost use Rattle.rtc_sdp_reader.specs.Parting as parting;
 ghost use Rattle.rtc_sdp_reader.specs.Refusal as refusal;
@@ -8,7 +8,7 @@ ghost use Rattle.rtc_sdp_text.specs.Fates as spec;
 
 use crate::known_name::is_known;
 use crate::{Cause, Fate};
-use rtc_fields::cut;
+use rtc_wire_text::cut;
 use rtc_sdp_grammar::{Attribute, Item, Level};
 use rtc_sdp_reader::Place;
 use rtc_wire::Seq;

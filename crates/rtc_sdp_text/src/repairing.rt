@@ -3,7 +3,7 @@ ghost use Rattle.std.specs.Prelude.{◌≡◌, ◌++◌, IfOk, OnOk, MatchOption
 ghost use Rattle.std.specs.Str.{is_utf8};
 ghost use Rattle.rtc_sdp_text.specs.Repair.{piece_in, fed, repaired};
 
-use rtc_fields::pieces;
+use rtc_wire_text::pieces;
 use std::alloc::{AllocError, Global};
 use std::str;
 

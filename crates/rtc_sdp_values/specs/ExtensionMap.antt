@@ -1,6 +1,6 @@
 -- Which number stands for which header extension (RFC 8285, section 5).
 use Rattle.std.specs.Prelude.{ℕ, ◌==◌, List, [], ◌∷◌, Option, Some, None, if◌then◌else◌}
-use Rattle.rtc_fields.specs.Fields.{first}
+use Rattle.rtc_wire_text.specs.Fields.{first}
 use Rattle.rtc_sdp_values.specs.declared.extension.Extension.{Extension}
 use Rattle.rtc_sdp_values.specs.declared.extension.Extension.TheVariants.{
   AudioLevel,

@@ -21,7 +21,7 @@ use Rattle.std.specs.Prelude.{
 }
 use Rattle.std.specs.List.{list_all, flat_map}
 use Rattle.std.specs.Option.{option_or}
-use Rattle.rtc_fields.specs.Fields.{first}
+use Rattle.rtc_wire_text.specs.Fields.{first}
 use Rattle.rtc_sdp_values.specs.Mids.{is_among, are_distinct}
 use Rattle.rtc_sdp_values.specs.declared.candidate.Candidate.{Candidate}
 use Rattle.rtc_sdp_values.specs.declared.fingerprint.Fingerprint.{Fingerprint}

@@ -6,7 +6,8 @@ use crate::{
     Candidate, Direction, Extension, Fingerprint, IceCreds, LineKind, Mid, Msid, PayloadRow, Setup,
     Simulcast, Ssrc,
 };
-use rtc_wire::{Seq, Text, TryCopy, fill_next, whole};
+use rtc_wire::{Seq, Text, TryCopy};
+use rtc_wire_drops::{fill_next, whole};
 use std::alloc::{AllocError, Global};
 
 /// An m-line of a session description, with its attributes (RFC 8866, section 5.14).

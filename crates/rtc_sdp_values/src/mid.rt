@@ -1,9 +1,9 @@
 //! Names of m-lines.
 ghost use Rattle.std.specs.Prelude.{◌≡◌, ℕ, List, if◌then◌else◌, Some, None, Option, true, IfOk};
-ghost use Rattle.rtc_fields.specs.Tokens.{is_short_token as IsShortToken};
+ghost use Rattle.rtc_wire_text.specs.Tokens.{is_short_token as IsShortToken};
 ghost use Rattle.rtc_sdp_values.specs.Mids.{is_among};
 
-use rtc_fields::ShortToken;
+use rtc_wire_text::ShortToken;
 use rtc_wire::TryCopy;
 use std::alloc::AllocError;
 use std::marker::Model;

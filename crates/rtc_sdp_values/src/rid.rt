@@ -1,8 +1,8 @@
 //! Names of simulcast layers.
 ghost use Rattle.std.specs.Prelude.{◌≡◌, ℕ, List, if◌then◌else◌, Some, None, Option, true, IfOk};
-ghost use Rattle.rtc_fields.specs.Tokens.{is_short_token as IsShortToken};
+ghost use Rattle.rtc_wire_text.specs.Tokens.{is_short_token as IsShortToken};
 
-use rtc_fields::ShortToken;
+use rtc_wire_text::ShortToken;
 use rtc_wire::TryCopy;
 use std::alloc::AllocError;
 use std::marker::Model;

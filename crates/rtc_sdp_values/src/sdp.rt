@@ -2,12 +2,13 @@
 ghost use Rattle.std.specs.Prelude.{◌≡◌, ◌++◌, [], IfOk, None, OnOk, Option, option_map};
 ghost use Rattle.std.specs.Option.{option_copied};
 ghost use Rattle.std.specs.List.{flat_map};
-ghost use Rattle.rtc_fields.specs.Fields.{first};
+ghost use Rattle.rtc_wire_text.specs.Fields.{first};
 ghost use Rattle.rtc_sdp_values.specs.Sdp as spec;
 
 use crate::consistency::inconsistency;
 use crate::{Candidate, Fingerprint, IceCreds, MediaLine, Mid, SdpError, Setup};
-use rtc_wire::{Seq, TryCopy, fill_next, whole};
+use rtc_wire::{Seq, TryCopy};
+use rtc_wire_drops::{fill_next, whole};
 use std::alloc::AllocError;
 
 /// A session description (RFC 8866, section 5).

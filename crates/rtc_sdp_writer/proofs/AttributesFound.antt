@@ -2,7 +2,7 @@
 use Rattle.std.proofs.Common.{◌≡◌, Bool, true, false, eqb, List, [], ◌∷◌, ◌++◌, map, Option, Some, None, refl, sym, ap, ◌∙◌}
 use Rattle.std.specs.Prelude.{option_map}
 use Rattle.std.specs.List.{filter_map}
-use Rattle.rtc_fields.specs.Fields.{first}
+use Rattle.rtc_wire_text.specs.Fields.{first}
 use Rattle.rtc_sdp_grammar.specs.declared.attribute.Attribute.TheVariants.{MidLine, SetupLine, DirectionLine, UfragLine, PasswordLine, FingerprintLine, CandidateLine, MessageSizeLine, SctpInitLine}
 use Rattle.rtc_sdp_grammar.specs.declared.attribute.Attribute.TheVariants.{CodecLine, ParametersLine, ExtensionLine, StreamLine, LayerLine, LayerListLine, SourceLine, SourcePairLine}
 use Rattle.rtc_sdp_grammar.specs.declared.item.Item.{Item}

@@ -6,9 +6,9 @@ use Rattle.std.proofs.lemmas.Bool.Decides.{eqb_tells}
 use Rattle.std.proofs.lemmas.List.{map-append}
 use Rattle.std.proofs.lemmas.List.Elements.{filter_map-append, filter-append}
 use Rattle.std.specs.Option.{option_or}
-use Rattle.rtc_fields.specs.Fields.{first}
-use Rattle.rtc_fields.specs.Lines.{AreLines}
-use Rattle.rtc_fields.proofs.LineLemmas.{AreLines-append}
+use Rattle.rtc_wire_text.specs.Fields.{first}
+use Rattle.rtc_wire_text.specs.Lines.{AreLines}
+use Rattle.rtc_wire_text.proofs.LineLemmas.{AreLines-append}
 use Rattle.rtc_sdp_grammar.specs.declared.attribute.Attribute.{Attribute}
 use Rattle.rtc_sdp_grammar.specs.declared.attribute.Attribute.TheVariants.{MidLine, GroupLine, OtherGroup, SetupLine, DirectionLine, UfragLine, PasswordLine, LiteLine, FingerprintLine, CandidateLine, MessageSizeLine, SctpInitLine}
 use Rattle.rtc_sdp_grammar.specs.declared.attribute.Attribute.TheVariants.{CodecLine, ParametersLine, ExtensionLine, StreamLine, LayerLine, LayerListLine, SourceLine, SourcePairLine}

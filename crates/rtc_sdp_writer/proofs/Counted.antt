@@ -2,7 +2,7 @@
 use Rattle.std.proofs.Common.{◌≡◌, Bool, true, false, List, [], ◌∷◌, Option, None, ℕ, sym, ap, ◌∙◌, refl}
 use Rattle.std.specs.List.{AllByRecursion, filter_map, cons_option}
 use Rattle.std.specs.Option.{option_or}
-use Rattle.rtc_fields.specs.Fields.{first}
+use Rattle.rtc_wire_text.specs.Fields.{first}
 use Rattle.rtc_sdp_grammar.specs.declared.attribute.Attribute.{Attribute}
 use Rattle.rtc_sdp_grammar.specs.declared.attribute.Attribute.TheVariants.{GroupLine, OtherGroup, LiteLine}
 use Rattle.rtc_sdp_grammar.specs.declared.item.Item.{Item}

@@ -5,9 +5,9 @@ use Rattle.std.proofs.Common.{◌≡◌, ℕ, Bool, true, false, not, cond, eqb,
 use Rattle.std.specs.Prelude.{codes, filter, IfSome}
 use Rattle.std.specs.List.{AllByRecursion, filter_map, cons_option, list_any}
 use Rattle.std.proofs.lemmas.List.{map-append}
-use Rattle.rtc_fields.specs.Lines.{lines, AreLines}
-use Rattle.rtc_fields.specs.Tokens.{is_token}
-use Rattle.rtc_fields.proofs.LineLemmas.{lines-text_of, AreLines-append}
+use Rattle.rtc_wire_text.specs.Lines.{lines, AreLines}
+use Rattle.rtc_wire_text.specs.Tokens.{is_token}
+use Rattle.rtc_wire_text.proofs.LineLemmas.{lines-text_of, AreLines-append}
 use Rattle.rtc_sdp_values.specs.declared.fingerprint.Fingerprint.{Fingerprint}
 use Rattle.rtc_sdp_values.specs.declared.ice_creds.IceCreds.{IceCreds}
 use Rattle.rtc_sdp_values.specs.declared.media_line.MediaLine.{MediaLine}

@@ -2,8 +2,8 @@
 use Rattle.std.proofs.Common.{◌≡◌, ℕ, ◌<◌, ◌^◌, Bool, true, false, not, cond, List, [], ◌∷◌, ◌++◌, map, Option, Some, None, refl, sym, ap, subst, ◌∙◌, rules}
 use Rattle.std.specs.Prelude.{codes, IfSome, option_map}
 use Rattle.std.specs.List.{AllByRecursion}
-use Rattle.rtc_fields.specs.Cuts.{Lacks}
-use Rattle.rtc_fields.specs.Lines.{AreLines}
+use Rattle.rtc_wire_text.specs.Cuts.{Lacks}
+use Rattle.rtc_wire_text.specs.Lines.{AreLines}
 use Rattle.rtc_sdp_attributes.specs.Forms.{is_word_up_to}
 use Rattle.rtc_sdp_attributes.specs.PlainValues.{IsPlainMsid}
 use Rattle.rtc_sdp_reader.specs.PlainLayers.{listed}

@@ -3,7 +3,7 @@ use Rattle.std.proofs.Common.{◌≡◌, ℕ, Bool, true, false, not, eqb, List,
 use Rattle.std.specs.Prelude.{option_map, filter}
 use Rattle.std.specs.List.{AllByRecursion, filter_map}
 use Rattle.std.proofs.lemmas.List.{append-nil}
-use Rattle.rtc_fields.specs.Fields.{first}
+use Rattle.rtc_wire_text.specs.Fields.{first}
 use Rattle.rtc_sdp_attributes.specs.declared.fmtp.Fmtp.{Fmtp}
 use Rattle.rtc_sdp_attributes.specs.declared.rid_line.RidLine.{RidLine}
 use Rattle.rtc_sdp_attributes.specs.declared.rtpmap.Rtpmap.{Rtpmap}

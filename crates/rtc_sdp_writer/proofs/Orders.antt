@@ -3,8 +3,8 @@ use Rattle.std.proofs.Common.{◌≡◌, ℕ, ◌+◌, ◌<◌, Bool, true, fals
 use Rattle.std.specs.Prelude.{codes}
 use Rattle.std.specs.Fmt.{decimal}
 use Rattle.std.proofs.lemmas.List.{map-append, append-nil, take_more}
-use Rattle.rtc_fields.specs.Lines.{text_of, crlf}
-use Rattle.rtc_fields.specs.Words.{spaced}
+use Rattle.rtc_wire_text.specs.Lines.{text_of, crlf}
+use Rattle.rtc_wire_text.specs.Words.{spaced}
 use Rattle.rtc_sdp_values.specs.declared.payload_row.PayloadRow.{PayloadRow}
 use Rattle.rtc_sdp_values.specs.declared.ssrc.Ssrc.{Ssrc}
 use Rattle.rtc_sdp_values.specs.declared.simulcast.Simulcast.{Simulcast}
@@ -13,7 +13,7 @@ use Rattle.rtc_sdp_reader.specs.PlainLayers.{rid_line, rid_lines}
 use Rattle.rtc_sdp_reader.specs.PlainPayloads.{formats_of, row_formats}
 use Rattle.rtc_sdp_reader.specs.PlainSources.{source_pair, source_pairs}
 use Rattle.rtc_sdp_writer.specs.MediaRows.{shown_stream}
-use Rattle.rtc_fields.proofs.LineLemmas.{text_of-append}
+use Rattle.rtc_wire_text.proofs.LineLemmas.{text_of-append}
 use Rattle.rtc_sdp_values.specs.declared.media_line.MediaLine.{MediaLine}
 use Rattle.rtc_sdp_values.specs.declared.sdp.Sdp.{Sdp}
 use Rattle.rtc_sdp_grammar.specs.LineTexts.{origin_line, group_line}

@@ -1,6 +1,6 @@
 //! Lines of a connection's attributes, put behind a text.
 ghost use Rattle.std.specs.Prelude.{◌≡◌, ◌++◌, OnOk, string_bytes, map, option_map};
-ghost use Rattle.rtc_fields.specs.Lines.{crlf, text_of};
+ghost use Rattle.rtc_wire_text.specs.Lines.{crlf, text_of};
 ghost use Rattle.rtc_sdp_grammar.specs.ConnectionTexts as spec;
 ghost use Rattle.rtc_sdp_writer.specs.Rows.{optional};
 
@@ -28,7 +28,7 @@ fn put_password(out: &mut String, password: &str) -> Result<(), AllocError>
     out.push_str("\r\n")
 }
 
-#[tactic(auto, using(rtc_fields::proofs::LineLemmas::appends))]
+#[tactic(auto, using(rtc_wire_text::proofs::LineLemmas::appends))]
 pub(crate) fn put_creds_if_any(out: &mut String, creds: &Option<IceCreds>) -> Result<(), AllocError>
     ensures { OnOk result (string_bytes out.new ≡ string_bytes out.old
         ++ text_of (optional spec.ufrag_line (option_map (λ creds. creds.ufrag) creds.now)

@@ -1,8 +1,8 @@
 //! The `m=` line, put behind a text.
 ghost use Rattle.std.specs.Prelude.{◌≡◌, ◌++◌, OnOk, string_bytes, map, ◌∷◌};
 ghost use Rattle.std.specs.Fmt.{decimal};
-ghost use Rattle.rtc_fields.specs.Lines.{crlf};
-ghost use Rattle.rtc_fields.specs.Words.{spaced};
+ghost use Rattle.rtc_wire_text.specs.Lines.{crlf};
+ghost use Rattle.rtc_wire_text.specs.Words.{spaced};
 ghost use Rattle.rtc_sdp_grammar.specs.LineTexts as spec;
 ghost use Rattle.rtc_sdp_values.specs.declared.line_kind.LineKind.TheVariants.{Audio, Video, Application, Unknown};
 ghost use Rattle.rtc_sdp_reader.specs.PlainPayloads.{formats_of, row_formats, optional_number, itself};

@@ -1,6 +1,6 @@
 //! The lines of header extensions, streams and layers, put behind a text.
 ghost use Rattle.std.specs.Prelude.{◌≡◌, ◌++◌, OnOk, string_bytes, map};
-ghost use Rattle.rtc_fields.specs.Lines.{crlf, text_of};
+ghost use Rattle.rtc_wire_text.specs.Lines.{crlf, text_of};
 ghost use Rattle.rtc_sdp_grammar.specs.MediaTexts as spec;
 ghost use Rattle.rtc_sdp_reader.specs.PlainLayers.{rid_line, rid_lines};
 ghost use Rattle.rtc_sdp_writer.specs.MediaRows as rows;
@@ -98,7 +98,7 @@ fn put_layer_list(out: &mut String, simulcast: &Simulcast) -> Result<(), AllocEr
 }
 
 /// The layers, those that are received first, and their lists.
-#[tactic(auto, using(rtc_fields::proofs::LineLemmas::appends))]
+#[tactic(auto, using(rtc_wire_text::proofs::LineLemmas::appends))]
 pub(crate) fn put_simulcast_if_any(
     out: &mut String,
     simulcast: &Option<Simulcast>,

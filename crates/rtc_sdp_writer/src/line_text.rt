@@ -1,6 +1,6 @@
 //! Single lines, put behind a text.
 ghost use Rattle.std.specs.Prelude.{◌≡◌, ◌++◌, OnOk, string_bytes};
-ghost use Rattle.rtc_fields.specs.Lines.{crlf};
+ghost use Rattle.rtc_wire_text.specs.Lines.{crlf};
 ghost use Rattle.rtc_sdp_grammar.specs.LineTexts as spec;
 ghost use Rattle.rtc_sdp_writer.specs.SessionRows.{enabled_mids};
 

@@ -1,6 +1,6 @@
 //! Line parts, put behind a text.
 ghost use Rattle.std.specs.Prelude.{◌≡◌, ◌++◌, OnOk, string_bytes};
-ghost use Rattle.rtc_fields.specs.Lines.{text_of};
+ghost use Rattle.rtc_wire_text.specs.Lines.{text_of};
 ghost use Rattle.rtc_sdp_grammar.specs.LineTexts.{setup_line};
 ghost use Rattle.rtc_sdp_writer.specs.Rows.{in_order, optional};
 ghost use Rattle.rtc_sdp_writer.specs.LineRows as spec;
@@ -26,7 +26,7 @@ fn put_setup_if_any(out: &mut String, setup: Option<Setup>) -> Result<(), AllocE
     Ok(())
 }
 
-#[tactic(auto, using(rtc_fields::proofs::LineLemmas::appends), unfolding(crate::specs::LineRows::transport_groups))]
+#[tactic(auto, using(rtc_wire_text::proofs::LineLemmas::appends), unfolding(crate::specs::LineRows::transport_groups))]
 fn put_transport(out: &mut String, line: &MediaLine) -> Result<(), AllocError>
     ensures { OnOk result (string_bytes out.new ≡ string_bytes out.old ++ text_of (in_order (spec.transport_groups line.now))) }
 {
@@ -40,7 +40,7 @@ fn put_transport(out: &mut String, line: &MediaLine) -> Result<(), AllocError>
     Ok(())
 }
 
-#[tactic(auto, using(rtc_fields::proofs::LineLemmas::appends), unfolding(crate::specs::LineRows::media_groups))]
+#[tactic(auto, using(rtc_wire_text::proofs::LineLemmas::appends), unfolding(crate::specs::LineRows::media_groups))]
 fn put_medium(out: &mut String, kind: LineKind, line: &MediaLine) -> Result<(), AllocError>
     ensures { OnOk result (string_bytes out.new ≡ string_bytes out.old ++ text_of (in_order (spec.media_groups kind line.now))) }
 {
@@ -54,7 +54,7 @@ fn put_medium(out: &mut String, kind: LineKind, line: &MediaLine) -> Result<(), 
     Ok(())
 }
 
-#[tactic(auto, using(rtc_fields::proofs::LineLemmas::appends), unfolding(crate::specs::LineRows::channel_groups))]
+#[tactic(auto, using(rtc_wire_text::proofs::LineLemmas::appends), unfolding(crate::specs::LineRows::channel_groups))]
 fn put_channel(out: &mut String, line: &MediaLine) -> Result<(), AllocError>
     ensures { OnOk result (string_bytes out.new ≡ string_bytes out.old ++ text_of (in_order (spec.channel_groups line.now))) }
 {
@@ -75,7 +75,7 @@ fn put_kind(out: &mut String, line: &MediaLine) -> Result<(), AllocError>
     }
 }
 
-#[tactic(auto, using(rtc_fields::proofs::LineLemmas::appends), unfolding(crate::specs::LineRows::line_rows))]
+#[tactic(auto, using(rtc_wire_text::proofs::LineLemmas::appends), unfolding(crate::specs::LineRows::line_rows))]
 fn put_line(out: &mut String, line: &MediaLine) -> Result<(), AllocError>
     ensures { OnOk result (string_bytes out.new ≡ string_bytes out.old ++ text_of (spec.line_rows line.now)) }
 {

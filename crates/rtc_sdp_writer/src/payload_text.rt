@@ -1,6 +1,6 @@
 //! The lines of payload rows, put behind a text.
 ghost use Rattle.std.specs.Prelude.{◌≡◌, ◌++◌, OnOk, string_bytes, map};
-ghost use Rattle.rtc_fields.specs.Lines.{crlf, text_of};
+ghost use Rattle.rtc_wire_text.specs.Lines.{crlf, text_of};
 ghost use Rattle.rtc_sdp_grammar.specs.MediaTexts as spec;
 ghost use Rattle.rtc_sdp_attributes.specs.AttributeTexts.{red_text, apt_text};
 ghost use Rattle.rtc_sdp_reader.specs.PlainPayloads.{fmtp_row, own_fmtp};
@@ -52,7 +52,7 @@ fn put_feedback_kind(out: &mut String, pt: Pt, kind: &str) -> Result<(), AllocEr
     out.push_str("\r\n")
 }
 
-#[tactic(auto, using(rtc_fields::proofs::LineLemmas::appends))]
+#[tactic(auto, using(rtc_wire_text::proofs::LineLemmas::appends))]
 fn put_video_feedback(out: &mut String, pt: Pt) -> Result<(), AllocError>
     ensures { OnOk result (string_bytes out.new ≡ string_bytes out.old ++ text_of (rows.feedback_lines Video pt.0)) }
 {
@@ -94,7 +94,7 @@ fn put_rtx_parameters(out: &mut String, rtx: Pt, primary: Pt) -> Result<(), Allo
     out.push_str("\r\n")
 }
 
-#[tactic(auto, using(rtc_fields::proofs::LineLemmas::appends))]
+#[tactic(auto, using(rtc_wire_text::proofs::LineLemmas::appends))]
 fn put_red_lines(out: &mut String, row: &PayloadRow) -> Result<(), AllocError>
     ensures { OnOk result (string_bytes out.new ≡ string_bytes out.old ++ text_of (rows.red_lines row.now row.now.red)) }
 {
@@ -105,7 +105,7 @@ fn put_red_lines(out: &mut String, row: &PayloadRow) -> Result<(), AllocError>
     Ok(())
 }
 
-#[tactic(auto, using(rtc_fields::proofs::LineLemmas::appends))]
+#[tactic(auto, using(rtc_wire_text::proofs::LineLemmas::appends))]
 fn put_rtx_lines(out: &mut String, row: &PayloadRow) -> Result<(), AllocError>
     ensures { OnOk result (string_bytes out.new ≡ string_bytes out.old ++ text_of (rows.rtx_lines row.now row.now.rtx)) }
 {
@@ -116,7 +116,7 @@ fn put_rtx_lines(out: &mut String, row: &PayloadRow) -> Result<(), AllocError>
     Ok(())
 }
 
-#[tactic(auto, using(rtc_fields::proofs::LineLemmas::appends))]
+#[tactic(auto, using(rtc_wire_text::proofs::LineLemmas::appends))]
 fn put_payload(out: &mut String, kind: LineKind, row: &PayloadRow) -> Result<(), AllocError>
     ensures { OnOk result (string_bytes out.new ≡ string_bytes out.old ++ text_of (rows.payload_lines kind row.now)) }
 {

@@ -1,7 +1,7 @@
 //! The names of streams, put behind a text.
 ghost use Rattle.std.specs.Prelude.{◌≡◌, ◌++◌, ◌||◌, ℕ, List, OnOk, option_map, string_bytes};
-ghost use Rattle.rtc_fields.specs.Lines.{crlf};
-ghost use Rattle.rtc_fields.specs.Words.{spaced};
+ghost use Rattle.rtc_wire_text.specs.Lines.{crlf};
+ghost use Rattle.rtc_wire_text.specs.Words.{spaced};
 ghost use Rattle.rtc_sdp_grammar.specs.MediaTexts.{semantic_line};
 ghost use Rattle.rtc_sdp_writer.specs.MediaRows.{shown_stream};
 ghost use Rattle.rtc_sdp_writer.specs.SessionRows.{is_stream, stream_names};

@@ -1,6 +1,6 @@
 //! The writer.
 ghost use Rattle.std.specs.Prelude.{◌≡◌, ◌++◌, IfOk, OnOk, string_bytes};
-ghost use Rattle.rtc_fields.specs.Lines.{text_of};
+ghost use Rattle.rtc_wire_text.specs.Lines.{text_of};
 ghost use Rattle.rtc_sdp_writer.specs.SessionRows as spec;
 
 use crate::line_text::{put_group, put_origin};

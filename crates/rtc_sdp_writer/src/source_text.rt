@@ -1,6 +1,6 @@
 //! The lines of sources, put behind a text.
 ghost use Rattle.std.specs.Prelude.{◌≡◌, ◌++◌, OnOk, string_bytes, map};
-ghost use Rattle.rtc_fields.specs.Lines.{crlf, text_of};
+ghost use Rattle.rtc_wire_text.specs.Lines.{crlf, text_of};
 ghost use Rattle.rtc_sdp_grammar.specs.MediaTexts as spec;
 ghost use Rattle.rtc_sdp_reader.specs.PlainSources.{source_pair, source_pairs};
 ghost use Rattle.rtc_sdp_writer.specs.MediaRows as rows;
@@ -48,7 +48,7 @@ fn put_stream_if_any(out: &mut String, ssrc: Ssrc, msid: &Option<Msid>) -> Resul
     Ok(())
 }
 
-#[tactic(auto, using(rtc_fields::proofs::LineLemmas::appends))]
+#[tactic(auto, using(rtc_wire_text::proofs::LineLemmas::appends))]
 fn put_number(out: &mut String, ssrc: Ssrc, line: &MediaLine) -> Result<(), AllocError>
     ensures { OnOk result (string_bytes out.new ≡ string_bytes out.old ++ text_of (rows.number_lines line.now.cname line.now.msid ssrc.0)) }
 {
@@ -67,7 +67,7 @@ fn put_rtx_number(out: &mut String, rtx: Option<Ssrc>, line: &MediaLine) -> Resu
     Ok(())
 }
 
-#[tactic(auto, using(rtc_fields::proofs::LineLemmas::appends))]
+#[tactic(auto, using(rtc_wire_text::proofs::LineLemmas::appends))]
 fn put_source(
     out: &mut String,
     source: (Ssrc, Option<Ssrc>),
@@ -124,7 +124,7 @@ fn put_pairs(out: &mut String, sources: &[(Ssrc, Option<Ssrc>)]) -> Result<(), A
 }
 
 /// The sources of a line that is not disabled, then their pairs.
-#[tactic(auto, using(rtc_fields::proofs::LineLemmas::appends))]
+#[tactic(auto, using(rtc_wire_text::proofs::LineLemmas::appends))]
 pub(crate) fn put_sources_if_shown(out: &mut String, line: &MediaLine) -> Result<(), AllocError>
     ensures { OnOk result (string_bytes out.new ≡ string_bytes out.old
         ++ text_of (rows.all_source_lines line.now.cname line.now.msid (rows.shown_sources line.now)

@@ -4,7 +4,7 @@ use crate::turn::Turn;
 use rtc_cases::is_text;
 use rtc_endpoints::{Reply, Signals};
 use rtc_peer::{RtcError, SdpAnswer};
-use rtc_wire::release;
+use rtc_wire_drops::release;
 use std::alloc::Global;
 
 // What the other side reads in the text of an answer.

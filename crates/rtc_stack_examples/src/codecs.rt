@@ -1,5 +1,5 @@
 //! The codecs of a peer that chooses among those of an offer.
-use rtc_codecs::Codec;
+use rtc_sdp_codecs::Codec;
 use rtc_peer::{CodecConfig, PayloadRow};
 use rtc_wire::Seq;
 use std::alloc::{AllocError, Global};

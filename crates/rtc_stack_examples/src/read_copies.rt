@@ -2,7 +2,7 @@
 use crate::turn::Turn;
 use rtc_cases::{is_copied, is_true};
 use rtc_peer::{SdpError, SdpOffer};
-use rtc_wire::release;
+use rtc_wire_drops::release;
 use std::alloc::Global;
 
 fn is_read_copied(alloc: Global, offer: &str) -> Result<bool, SdpError> {

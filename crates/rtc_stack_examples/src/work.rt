@@ -1,7 +1,8 @@
 //! Amounts of work.
 use crate::numbers::number;
 use rtc_endpoints::{Polled, Signals, Texts, Way, Wire, meet, pass, settle};
-use rtc_wire::{Bytes, ChannelId, Span, release};
+use rtc_wire::{Bytes, ChannelId, Span};
+use rtc_wire_drops::release;
 use std::alloc::{AllocError, Global};
 
 // Checks, the handshake and the openings of channels come one after another.

@@ -1,7 +1,7 @@
 use Rattle.std.proofs.Common.{◌≡◌, ◌∙◌, ◌∷◌, sym, ap, ℕ, List}
 use Rattle.std.specs.Map.Iter.{deref}
 use Rattle.std.proofs.lemmas.Map.Iter.{rest_more, rest_all}
-use Rattle.rtc_free_ids.specs.Ids.{parity_of, all_ids}
+use Rattle.rtc_channels.specs.Ids.{parity_of, all_ids}
 use Rattle.rtc_channels.specs.Granted.{is_granted}
 use Rattle.rtc_channels.proofs.AllocationLemmas.{ids_left, left_taken, left_kept, left_all, filter_all}
 use Rattle.rtc_channels.proofs.allocating.collect_free.Goals as goal

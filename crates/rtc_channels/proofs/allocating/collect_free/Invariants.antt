@@ -1,5 +1,5 @@
 use Rattle.std.proofs.Common.{◌≡◌}
-use Rattle.rtc_free_ids.specs.Ids.{parity_of, all_ids}
+use Rattle.rtc_channels.specs.Ids.{parity_of, all_ids}
 use Rattle.rtc_channels.specs.Granted.{is_granted}
 use Rattle.std.specs.BTreeMap.{keys}
 use Rattle.rtc_channels.proofs.AllocationLemmas.{ids_left}

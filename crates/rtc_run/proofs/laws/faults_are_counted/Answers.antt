@@ -1,5 +1,5 @@
-use Rattle.rtc_history_laws.proofs.PartsSound.{runs_unfaulted}
-use Rattle.rtc_peer_state.specs.Meanings.{meanings}
+use Rattle.rtc_run_laws.proofs.PartsSound.{runs_unfaulted}
+use Rattle.rtc_peer_core.specs.Meanings.{meanings}
 use Rattle.rtc_run.proofs.laws.faults_are_counted.Goals as goal
 
 pub returns : goal.returns

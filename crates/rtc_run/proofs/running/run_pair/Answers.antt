@@ -1,8 +1,8 @@
 use Rattle.std.proofs.Common.{rules}
-use Rattle.rtc_history_laws.proofs.FormedSteps.{runs_read_back}
-use Rattle.rtc_history_laws.proofs.PlainRuns.{runs_plain}
+use Rattle.rtc_run_laws.proofs.FormedSteps.{runs_read_back}
+use Rattle.rtc_run_laws.proofs.PlainRuns.{runs_plain}
 use Rattle.rtc_run.proofs.Sized.{run_begins, run_has_room, run_goes_on}
-use Rattle.rtc_peer_state.specs.Meanings.{meanings}
+use Rattle.rtc_peer_core.specs.Meanings.{meanings}
 use Rattle.rtc_run.proofs.running.run_pair.Goals as goal
 
 pub perform-reply-requires-clause-count : goal.perform-reply-requires-clause-count

@@ -1,6 +1,6 @@
 use Rattle.std.proofs.Common.{◌≡◌, ◌≤◌, take, length, vec_capacity}
-use Rattle.rtc_history.specs.Runs.{Runs}
-use Rattle.rtc_peer_state.specs.Meanings.{meanings}
+use Rattle.rtc_run_history.specs.Runs.{Runs}
+use Rattle.rtc_peer_core.specs.Meanings.{meanings}
 use Rattle.rtc_run.proofs.running.run_pair.Given as goal
 
 -- the steps so far are a run

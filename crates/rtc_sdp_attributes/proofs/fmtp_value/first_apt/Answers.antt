@@ -1,4 +1,4 @@
-use Rattle.rtc_fields.proofs.FieldLemmas.{looks_found, looks_more}
+use Rattle.rtc_wire_text.proofs.FieldLemmas.{looks_found, looks_more}
 use Rattle.rtc_sdp_attributes.specs.AttributeForms.{apt_pair}
 use Rattle.rtc_sdp_attributes.proofs.fmtp_value.first_apt.Goals as goal
 

@@ -1,6 +1,6 @@
 use Rattle.std.proofs.Common.{◌≡◌, drop}
-use Rattle.rtc_fields.specs.Fields.{first}
-use Rattle.rtc_fields.proofs.FieldLemmas.{shown}
+use Rattle.rtc_wire_text.specs.Fields.{first}
+use Rattle.rtc_wire_text.proofs.FieldLemmas.{shown}
 use Rattle.rtc_sdp_attributes.specs.AttributeForms.{apt_pair}
 use Rattle.rtc_sdp_attributes.proofs.fmtp_value.first_apt.Given as goal
 

@@ -1,4 +1,4 @@
-use Rattle.rtc_fields.proofs.HexLemmas.{pair_read, no_pair_left}
+use Rattle.rtc_wire_text.proofs.HexLemmas.{pair_read, no_pair_left}
 use Rattle.rtc_sdp_attributes.proofs.HashLemmas.{room_left}
 use Rattle.rtc_sdp_attributes.proofs.hash_value.bytes_between.Goals as goal
 

@@ -1,6 +1,6 @@
 use Rattle.std.proofs.Common.{◌≡◌, ◌<◌, ◌+◌, ◌*◌, length, vec_len, vec_capacity}
-use Rattle.rtc_fields.specs.Hex.{hex_bytes}
-use Rattle.rtc_fields.proofs.FieldLemmas.{so_far}
+use Rattle.rtc_wire_text.specs.Hex.{hex_bytes}
+use Rattle.rtc_wire_text.proofs.FieldLemmas.{so_far}
 use Rattle.rtc_sdp_attributes.proofs.hash_value.bytes_between.Given as goal
 
 abbrev pub invariant-loop-rest : goal.invariant-loop-rest

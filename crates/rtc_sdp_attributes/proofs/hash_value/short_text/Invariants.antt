@@ -1,8 +1,8 @@
 use Rattle.std.proofs.Common.{◌≡◌, ◌+◌, ◌*◌, ◌++◌, map, drop}
 use Rattle.std.specs.Str.{IsAscii}
 use Rattle.arrayvec.specs.ArrayVec.{array_vec_len}
-use Rattle.rtc_fields.specs.Words.{after_each}
-use Rattle.rtc_fields.specs.Hex.{hex_text, hex_pair_text}
+use Rattle.rtc_wire_text.specs.Words.{after_each}
+use Rattle.rtc_wire_text.specs.Hex.{hex_text, hex_pair_text}
 use Rattle.rtc_sdp_attributes.proofs.hash_value.short_text.Given as goal
 
 abbrev pub invariant-loop-byte : goal.invariant-loop-byte

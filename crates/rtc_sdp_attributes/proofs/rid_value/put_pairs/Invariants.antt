@@ -1,6 +1,6 @@
 use Rattle.std.proofs.Common.{◌≡◌, ◌++◌, map, drop}
 use Rattle.std.specs.Prelude.{string_bytes}
-use Rattle.rtc_fields.specs.Words.{after_each}
+use Rattle.rtc_wire_text.specs.Words.{after_each}
 use Rattle.rtc_sdp_attributes.specs.AttributeTexts.{pair_text, pairs_text}
 use Rattle.rtc_sdp_attributes.proofs.rid_value.put_pairs.Given as goal
 

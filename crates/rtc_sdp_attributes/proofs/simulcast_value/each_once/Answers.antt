@@ -1,7 +1,7 @@
 use Rattle.std.proofs.Common.{◌≡◌, ℕ, Bool, not, List, ap, sym, ◌∙◌, refl, subst}
 use Rattle.std.specs.Str.{bytes_eq}
-use Rattle.rtc_fields.proofs.OnceLemmas.{among, grown, once_more, bytes_tell}
-use Rattle.rtc_fields.proofs.SeenLemmas.{IsSeen, seen_grown, grew}
+use Rattle.rtc_wire_text.proofs.OnceLemmas.{among, grown, once_more, bytes_tell}
+use Rattle.rtc_wire_text.proofs.SeenLemmas.{IsSeen, seen_grown, grew}
 use Rattle.rtc_sdp_attributes.proofs.simulcast_value.each_once.Goals as goal
 use Rattle.rtc_sdp_attributes.proofs.simulcast_value.each_once.Goals.{then-branch+in_ok-push, else-branch}
 

@@ -3,8 +3,8 @@ use Rattle.std.specs.Str.{bytes_eq}
 use Rattle.std.specs.Ordering.{nat_cmp}
 use Rattle.std.specs.Cmp.Lexicographic.{slice_cmp}
 use Rattle.std.specs.BTreeSet as set
-use Rattle.rtc_fields.specs.Once.{each_once}
-use Rattle.rtc_fields.proofs.OnceLemmas.{among}
+use Rattle.rtc_wire_text.specs.Once.{each_once}
+use Rattle.rtc_wire_text.proofs.OnceLemmas.{among}
 use Rattle.rtc_sdp_attributes.proofs.simulcast_value.each_once.Given as goal
 
 abbrev pub invariant-loop-rid : goal.invariant-loop-rid

@@ -1,4 +1,4 @@
-use Rattle.rtc_fields.proofs.FieldLemmas.{reads_more, reads_none}
+use Rattle.rtc_wire_text.proofs.FieldLemmas.{reads_more, reads_none}
 use Rattle.rtc_sdp_attributes.specs.AttributeForms.{layer_name}
 use Rattle.rtc_sdp_attributes.proofs.simulcast_value.layer_rids.Goals as goal
 

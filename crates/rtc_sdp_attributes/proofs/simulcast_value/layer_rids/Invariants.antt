@@ -1,6 +1,6 @@
 use Rattle.std.proofs.Common.{◌≡◌, drop}
-use Rattle.rtc_fields.specs.Fields.{each}
-use Rattle.rtc_fields.proofs.FieldLemmas.{so_far, shown}
+use Rattle.rtc_wire_text.specs.Fields.{each}
+use Rattle.rtc_wire_text.proofs.FieldLemmas.{so_far, shown}
 use Rattle.rtc_sdp_attributes.specs.AttributeForms.{layer_name}
 use Rattle.rtc_sdp_attributes.proofs.simulcast_value.layer_rids.Given as goal
 

@@ -1,6 +1,6 @@
 use Rattle.std.proofs.Common.{◌≡◌, ◌++◌, drop}
 use Rattle.std.specs.Prelude.{string_bytes}
-use Rattle.rtc_fields.specs.Words.{after_each, joined}
+use Rattle.rtc_wire_text.specs.Words.{after_each, joined}
 use Rattle.rtc_sdp_attributes.specs.AttributeTexts.{rids_in}
 use Rattle.rtc_sdp_attributes.proofs.simulcast_value.put_rids.Given as goal
 

@@ -1,4 +1,4 @@
-use Rattle.rtc_fields.proofs.FieldLemmas.{reads_more, reads_none}
+use Rattle.rtc_wire_text.proofs.FieldLemmas.{reads_more, reads_none}
 use Rattle.rtc_sdp_attributes.specs.Forms.{short_token}
 use Rattle.rtc_sdp_grammar.proofs.group_form.mids_of.Goals as goal
 

@@ -1,6 +1,6 @@
 use Rattle.std.proofs.Common.{◌≡◌, drop}
-use Rattle.rtc_fields.specs.Fields.{each}
-use Rattle.rtc_fields.proofs.FieldLemmas.{so_far, shown}
+use Rattle.rtc_wire_text.specs.Fields.{each}
+use Rattle.rtc_wire_text.proofs.FieldLemmas.{so_far, shown}
 use Rattle.rtc_sdp_attributes.specs.Forms.{short_token}
 use Rattle.rtc_sdp_grammar.proofs.group_form.mids_of.Given as goal
 

@@ -1,6 +1,6 @@
 use Rattle.std.proofs.Common.{◌≡◌, ◌∙◌, sym, ap, refl, get_or, true, false, eqb}
 use Rattle.std.proofs.lemmas.Bool.Decides.{eqb_tells}
-use Rattle.rtc_fields.proofs.OnceLemmas.{among, grown, once_more, is_grown}
+use Rattle.rtc_wire_text.proofs.OnceLemmas.{among, grown, once_more, is_grown}
 use Rattle.rtc_sdp_grammar.proofs.media_form.each_once.Goals as goal
 use Rattle.rtc_sdp_grammar.proofs.media_form.each_once.Goals.{then-not-contains+in_ok-push, else-not-contains}
 

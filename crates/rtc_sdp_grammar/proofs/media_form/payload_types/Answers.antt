@@ -1,5 +1,5 @@
-use Rattle.rtc_fields.specs.Numbers.{number_up_to}
-use Rattle.rtc_fields.proofs.FieldLemmas.{reads_more, reads_none}
+use Rattle.rtc_wire_text.specs.Numbers.{number_up_to}
+use Rattle.rtc_wire_text.proofs.FieldLemmas.{reads_more, reads_none}
 use Rattle.rtc_sdp_grammar.proofs.media_form.payload_types.Goals as goal
 
 pub returns-in_default : goal.returns-in_default

@@ -1,5 +1,5 @@
 use Rattle.std.proofs.Common.{◌≡◌, drop}
-use Rattle.rtc_fields.specs.Fields.{first}
+use Rattle.rtc_wire_text.specs.Fields.{first}
 use Rattle.rtc_sdp_reader.specs.Payloads as spec
 use Rattle.rtc_sdp_reader.proofs.payloads.codec_place.Given as goal
 

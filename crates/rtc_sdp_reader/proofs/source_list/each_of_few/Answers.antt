@@ -1,6 +1,6 @@
 use Rattle.std.proofs.Common.{◌≡◌, ◌∙◌, sym, ap, refl, get_or, true, false, eqb}
 use Rattle.std.proofs.lemmas.Bool.Decides.{eqb_tells}
-use Rattle.rtc_fields.proofs.OnceLemmas.{among, grown, once_more, is_grown}
+use Rattle.rtc_wire_text.proofs.OnceLemmas.{among, grown, once_more, is_grown}
 use Rattle.rtc_sdp_reader.proofs.source_list.each_of_few.Goals as goal
 use Rattle.rtc_sdp_reader.proofs.source_list.each_of_few.Goals.{then-not-contains+in_ok-push, else-not-contains}
 

@@ -1,5 +1,5 @@
 use Rattle.std.proofs.Common.{◌≡◌, take, eqb}
-use Rattle.rtc_fields.specs.Once.{each_once}
+use Rattle.rtc_wire_text.specs.Once.{each_once}
 use Rattle.rtc_sdp_reader.proofs.source_list.each_of_few.Given as goal
 
 abbrev pub invariant-loop-number : goal.invariant-loop-number

@@ -1,6 +1,6 @@
 use Rattle.std.proofs.Common.{◌≡◌, ℕ, eqb, Bool, not, List, sym, ◌∙◌, refl, subst, get_or}
 use Rattle.std.proofs.lemmas.Bool.Decides.{eqb_tells}
-use Rattle.rtc_fields.proofs.OnceLemmas.{among, grown, once_more}
+use Rattle.rtc_wire_text.proofs.OnceLemmas.{among, grown, once_more}
 use Rattle.rtc_sdp_reader.proofs.NumberLemmas.{HasNumbers, numbers_grown, grew}
 use Rattle.rtc_sdp_reader.proofs.source_list.each_of_many.Goals as goal
 use Rattle.rtc_sdp_reader.proofs.source_list.each_of_many.Goals.{then-branch+in_ok-push, else-branch}

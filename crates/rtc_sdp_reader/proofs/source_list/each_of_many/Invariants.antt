@@ -1,8 +1,8 @@
 use Rattle.std.proofs.Common.{◌≡◌, ℕ, take, eqb}
 use Rattle.std.specs.Ordering.{nat_cmp}
 use Rattle.std.specs.BTreeSet as set
-use Rattle.rtc_fields.specs.Once.{each_once}
-use Rattle.rtc_fields.proofs.OnceLemmas.{among}
+use Rattle.rtc_wire_text.specs.Once.{each_once}
+use Rattle.rtc_wire_text.proofs.OnceLemmas.{among}
 use Rattle.rtc_sdp_reader.proofs.source_list.each_of_many.Given as goal
 
 abbrev pub invariant-loop-number : goal.invariant-loop-number

@@ -3,7 +3,7 @@ use Rattle.std.proofs.Common.{ℕ, List, length, string_bytes}
 use Rattle.std.proofs.lemmas.Iterator.Splits.{YieldsList-from_lines}
 use Rattle.std.proofs.lemmas.Iterator.Consumers.{YieldsList-turn, YieldsList-end}
 use Rattle.std.proofs.lemmas.List.{length_push}
-use Rattle.rtc_fields.specs.Lines.{lines}
+use Rattle.rtc_wire_text.specs.Lines.{lines}
 use Rattle.rtc_sdp_text.specs.Explanation.{begun, rows_from}
 use Rattle.rtc_sdp_text.proofs.RowSteps.{goes_on, ends_here, ends_behind}
 use Rattle.rtc_sdp_text.proofs.explaining.rows_of.Goals as goal

@@ -1,6 +1,6 @@
 -- The rows that were put, with those of the lines that are left, are the rows of the text.
 use Rattle.std.proofs.Common.{◌≡◌, ◌++◌, length, drop, string_bytes}
-use Rattle.rtc_fields.specs.Lines.{lines}
+use Rattle.rtc_wire_text.specs.Lines.{lines}
 use Rattle.rtc_sdp_text.specs.Explanation.{begun, rows_from}
 use Rattle.rtc_sdp_text.proofs.explaining.rows_of.Given as goal
 

@@ -1,5 +1,5 @@
 use Rattle.std.proofs.Common.{◌≡◌, drop}
-use Rattle.rtc_fields.specs.Fields.{first}
+use Rattle.rtc_wire_text.specs.Fields.{first}
 use Rattle.rtc_sdp_values.proofs.sdp.line_creds.Given as goal
 
 abbrev pub invariant-loop-line : goal.invariant-loop-line

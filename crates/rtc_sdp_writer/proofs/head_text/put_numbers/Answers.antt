@@ -1,7 +1,7 @@
 use Rattle.std.proofs.Common.{map}
 use Rattle.std.specs.Prelude.{string_bytes}
 use Rattle.std.specs.Fmt.{decimal}
-use Rattle.rtc_fields.specs.Words.{spaced}
+use Rattle.rtc_wire_text.specs.Words.{spaced}
 use Rattle.rtc_sdp_reader.specs.PlainPayloads.{formats_of, row_formats}
 use Rattle.rtc_sdp_writer.proofs.Orders.{numbers_behind}
 use Rattle.rtc_sdp_writer.proofs.Orders.{more_put}

@@ -1,6 +1,6 @@
 use Rattle.std.proofs.Common.{map, refl, get_or}
 use Rattle.std.specs.Prelude.{string_bytes}
-use Rattle.rtc_fields.specs.Lines.{text_of, crlf}
+use Rattle.rtc_wire_text.specs.Lines.{text_of, crlf}
 use Rattle.rtc_sdp_grammar.specs.MediaTexts.{extension_line}
 use Rattle.rtc_sdp_values.specs.declared.extension.Extension.TheVariants.{AudioLevel}
 use Rattle.rtc_sdp_writer.proofs.Orders.{more_put}

@@ -1,6 +1,6 @@
 use Rattle.std.proofs.Common.{map, refl}
 use Rattle.std.specs.Prelude.{string_bytes}
-use Rattle.rtc_fields.specs.Lines.{text_of, crlf}
+use Rattle.rtc_wire_text.specs.Lines.{text_of, crlf}
 use Rattle.rtc_sdp_grammar.specs.MediaTexts.{layer_line}
 use Rattle.rtc_sdp_reader.specs.PlainLayers.{rid_line}
 use Rattle.rtc_sdp_writer.proofs.Orders.{more_put}

@@ -1,6 +1,6 @@
 use Rattle.std.proofs.Common.{◌≡◌, ◌++◌, drop, codes}
 use Rattle.std.specs.Prelude.{string_bytes}
-use Rattle.rtc_fields.specs.Words.{spaced}
+use Rattle.rtc_wire_text.specs.Words.{spaced}
 use Rattle.rtc_sdp_writer.specs.SessionRows.{enabled_mids}
 use Rattle.rtc_sdp_writer.proofs.line_text.put_group.Given as goal
 

@@ -1,5 +1,5 @@
 use Rattle.std.proofs.Common.{append_assoc}
-use Rattle.rtc_fields.proofs.LineLemmas.{text_of-append}
+use Rattle.rtc_wire_text.proofs.LineLemmas.{text_of-append}
 use Rattle.rtc_sdp_writer.specs.LineRows.{line_rows}
 use Rattle.rtc_sdp_writer.proofs.Orders.{in_order-append}
 use Rattle.rtc_sdp_writer.proofs.media_text.put_line.Goals as goal

@@ -1,6 +1,6 @@
 use Rattle.std.proofs.Common.{◌≡◌, ◌++◌, drop}
 use Rattle.std.specs.Prelude.{string_bytes}
-use Rattle.rtc_fields.specs.Lines.{text_of}
+use Rattle.rtc_wire_text.specs.Lines.{text_of}
 use Rattle.rtc_sdp_writer.specs.LineRows.{all_line_rows}
 use Rattle.rtc_sdp_writer.proofs.media_text.put_lines.Given as goal
 

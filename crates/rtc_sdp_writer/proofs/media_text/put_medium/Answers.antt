@@ -1,6 +1,6 @@
 use Rattle.std.proofs.Common.{append_assoc}
 use Rattle.std.proofs.lemmas.List.{append-nil}
-use Rattle.rtc_fields.proofs.LineLemmas.{text_of-append}
+use Rattle.rtc_wire_text.proofs.LineLemmas.{text_of-append}
 use Rattle.rtc_sdp_writer.specs.LineRows.{media_groups}
 use Rattle.rtc_sdp_writer.proofs.media_text.put_medium.Goals as goal
 

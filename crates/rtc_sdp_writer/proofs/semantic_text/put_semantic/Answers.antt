@@ -1,6 +1,6 @@
 use Rattle.std.proofs.Common.{◌++◌, ◌∙◌, ap, List, ℕ, take}
 use Rattle.std.specs.Prelude.{string_bytes}
-use Rattle.rtc_fields.specs.Words.{spaced}
+use Rattle.rtc_wire_text.specs.Words.{spaced}
 use Rattle.rtc_sdp_writer.specs.MediaRows.{shown_stream}
 use Rattle.rtc_sdp_writer.proofs.Orders.{name_put}
 use Rattle.rtc_sdp_writer.proofs.StreamLemmas.{new_same, found_more}

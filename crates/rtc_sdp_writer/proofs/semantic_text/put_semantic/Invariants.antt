@@ -1,6 +1,6 @@
 use Rattle.std.proofs.Common.{◌≡◌, ◌++◌, take, drop, codes}
 use Rattle.std.specs.Prelude.{string_bytes}
-use Rattle.rtc_fields.specs.Words.{spaced}
+use Rattle.rtc_wire_text.specs.Words.{spaced}
 use Rattle.rtc_sdp_writer.specs.SessionRows.{names_behind, stream_names}
 use Rattle.rtc_sdp_writer.proofs.StreamLemmas.{FoundIn}
 use Rattle.rtc_sdp_writer.proofs.semantic_text.put_semantic.Given as goal

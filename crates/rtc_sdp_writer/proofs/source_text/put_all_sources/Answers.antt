@@ -1,7 +1,7 @@
 use Rattle.std.proofs.Common.{refl, get_or}
 use Rattle.std.specs.Prelude.{string_bytes}
-use Rattle.rtc_fields.specs.Lines.{text_of}
-use Rattle.rtc_fields.proofs.LineLemmas.{text_of-append}
+use Rattle.rtc_wire_text.specs.Lines.{text_of}
+use Rattle.rtc_wire_text.proofs.LineLemmas.{text_of-append}
 use Rattle.std.proofs.Common.{None}
 use Rattle.rtc_sdp_writer.specs.MediaRows.{source_lines, all_source_lines}
 use Rattle.rtc_sdp_writer.proofs.Orders.{more_put}

@@ -1,5 +1,5 @@
 use Rattle.std.proofs.Common.{sym, arith}
-use Rattle.rtc_free_ids.specs.Ids.{parity_of}
+use Rattle.rtc_channels.specs.Ids.{parity_of}
 use Rattle.rtc_channels.proofs.OpeningLemmas.{none_given}
 use Rattle.rtc_channels.proofs.channel_handler.ChannelHandler.can_allocate.Goals as goal
 

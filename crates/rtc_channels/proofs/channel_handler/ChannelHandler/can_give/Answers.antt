@@ -1,7 +1,7 @@
 use Rattle.std.proofs.Common.{◌≡◌, ◌∙◌, sym, ap, refl, arith, true, false, ℕ, List, Option}
 use Rattle.std.specs.Prelude.{is_some, slice_get}
 use Rattle.std.specs.List.{list_any}
-use Rattle.rtc_free_ids.specs.Ids.{parity_of}
+use Rattle.rtc_channels.specs.Ids.{parity_of}
 use Rattle.rtc_channels.specs.Channels.{Channel}
 use Rattle.rtc_channels.specs.Allocation.{sought_at, can_be_given}
 use Rattle.rtc_channels.proofs.OpeningLemmas.{given_step, drop_past}

@@ -1,6 +1,6 @@
 use Rattle.std.proofs.Common.{◌≡◌, ◌≤◌, ◌-◌, drop}
 use Rattle.std.specs.List.{list_any}
-use Rattle.rtc_free_ids.specs.Ids.{parity_of}
+use Rattle.rtc_channels.specs.Ids.{parity_of}
 use Rattle.rtc_channels.specs.Allocation.{can_be_given}
 use Rattle.rtc_channels.proofs.channel_handler.ChannelHandler.can_give.Given as goal
 

@@ -1,6 +1,6 @@
 use Rattle.std.proofs.Common.{◌∙◌, ◌<◌, sym, ap, arith, length, take}
 use Rattle.std.specs.Prelude.{slice_get}
-use Rattle.rtc_free_ids.specs.Ids.{IdPool, parity_of}
+use Rattle.rtc_channels.specs.Ids.{IdPool, parity_of}
 use Rattle.rtc_channels.specs.Channels.{Channels}
 use Rattle.rtc_channels.specs.Allocation.{is_given, free_streams, sought_at}
 use Rattle.rtc_channels.proofs.GivingLemmas.{none_waiting, sought_not_given, step_none, step_some, free_less, ok_of, err_of}

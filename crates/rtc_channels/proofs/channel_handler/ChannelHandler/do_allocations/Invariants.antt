@@ -1,6 +1,6 @@
 use Rattle.std.proofs.Common.{◌≡◌, ◌≤◌, ◌-◌, length, take, ℕ}
 use Rattle.std.specs.Prelude.{slice_get}
-use Rattle.rtc_free_ids.specs.Ids.{parity_of}
+use Rattle.rtc_channels.specs.Ids.{parity_of}
 use Rattle.rtc_channels.specs.Allocation.{free_streams, all_allocated}
 use Rattle.rtc_channels.proofs.channel_handler.ChannelHandler.do_allocations.Given as goal
 

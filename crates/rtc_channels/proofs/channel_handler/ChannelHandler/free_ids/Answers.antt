@@ -1,5 +1,5 @@
 use Rattle.std.proofs.Common.{◌∙◌, ap}
-use Rattle.rtc_free_ids.specs.Ids.{parity_of}
+use Rattle.rtc_channels.specs.Ids.{parity_of}
 use Rattle.rtc_channels.specs.Channels.{Channels}
 use Rattle.rtc_channels.specs.Allocation.{free_streams}
 use Rattle.rtc_channels.proofs.AllocationLemmas.{free_granted, side_parity}

@@ -1,8 +1,8 @@
 use Rattle.std.proofs.Common.{◌≡◌, refl, subst}
 use Rattle.std.specs.Borrow.{MutBor}
-use Rattle.rtc_media.specs.NoStream.{StreamAnswers}
-use Rattle.rtc_connection.specs.declared.polled_peer.PolledPeer.{PolledPeer}
-use Rattle.rtc_direct.specs.Streams.{DeclaresTx, gives_no_tx}
+use Rattle.rtc_part_media.specs.NoStream.{StreamAnswers}
+use Rattle.rtc_peer_transport.specs.declared.polled_peer.PolledPeer.{PolledPeer}
+use Rattle.rtc_peer_direct.specs.Streams.{DeclaresTx, gives_no_tx}
 use Rattle.rtc_peer.proofs.HandleLoans.{made_beside, refused_beside}
 use Rattle.rtc_peer.proofs.direct_api.DirectApi.make_stream_tx.Goals as goal
 

@@ -1,7 +1,7 @@
 use Rattle.std.proofs.Common.{◌≡◌, ◌∙◌, refl, ap}
 use Rattle.std.specs.Borrow.{MutBor}
-use Rattle.rtc_connection.specs.declared.polled_peer.PolledPeer.{PolledPeer}
-use Rattle.rtc_direct.specs.Streams.{LendsRx}
+use Rattle.rtc_peer_transport.specs.declared.polled_peer.PolledPeer.{PolledPeer}
+use Rattle.rtc_peer_direct.specs.Streams.{LendsRx}
 use Rattle.rtc_peer.proofs.HandleLoans.{lent_beside}
 use Rattle.rtc_peer.proofs.direct_api.DirectApi.stream_rx.Goals as goal
 

@@ -1,6 +1,6 @@
 use Rattle.std.proofs.Common.{rules, ◌<◌, ◌^◌, ap}
-use Rattle.rtc_peer_state.specs.Meanings.{meanings}
-use Rattle.rtc_peer_state.proofs.BuiltPeers.{built_formed}
+use Rattle.rtc_peer_core.specs.Meanings.{meanings}
+use Rattle.rtc_peer_core.proofs.BuiltPeers.{built_formed}
 use Rattle.rtc_peer.proofs.rtc.Rtc.build.Goals as goal
 
 pub returns-clause-formed : goal.returns-clause-formed

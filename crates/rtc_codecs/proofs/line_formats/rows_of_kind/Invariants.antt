@@ -1,6 +1,0 @@
-use Rattle.std.proofs.Common.{◌≡◌, ◌++◌, drop}
-use Rattle.rtc_codecs.specs.LineFormats as spec
-use Rattle.rtc_codecs.proofs.line_formats.rows_of_kind.Given as goal
-
-abbrev pub invariant-loop-row : goal.invariant-loop-row
-invariant-loop-row l = l.found.items ++ spec.rows_of_kind l.kind (drop l.row-index l.rows) ≡ spec.rows_of_kind l.kind l.rows

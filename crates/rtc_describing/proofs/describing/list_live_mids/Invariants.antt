@@ -1,6 +1,0 @@
-use Rattle.std.proofs.Common.{◌≡◌, ◌++◌, drop, map}
-use Rattle.rtc_peer_state.specs.MadeSdp.{live_mids, row_told}
-use Rattle.rtc_describing.proofs.describing.list_live_mids.Given as goal
-
-abbrev pub invariant-loop-told : goal.invariant-loop-told
-invariant-loop-told l = l.mids.items ++ live_mids (map row_told (drop l.told-index l.rows)) ≡ live_mids (map row_told l.rows)

@@ -1,6 +1,0 @@
-use Rattle.std.proofs.Common.{sym, ◌∙◌, ap, Some}
-use Rattle.rtc_fields.proofs.NumberLemmas.{number_is}
-use Rattle.rtc_fields.proofs.numeral.number.Goals as goal
-
-pub returns : goal.returns
-returns c = ap Some c.unwrap_or.ensures ∙ number_is c.args.text.now c.parse.result (sym c.is_numeral.ensures ∙ c.if-not-is_numeral.false) c.parse.ensures.value.0

@@ -1,2 +1,0 @@
-//! That every run of two peers keeps what the history promises.
-#![tactic(auto)]

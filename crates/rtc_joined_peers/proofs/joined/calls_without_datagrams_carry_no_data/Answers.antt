@@ -1,8 +1,0 @@
-use Rattle.rtc_joined_peers.proofs.JoinedLemmas.{none_carries, begun_carries}
-use Rattle.rtc_joined_peers.proofs.joined.calls_without_datagrams_carry_no_data.Goals as goal
-
-pub returns-clause-none : goal.returns-clause-none
-returns-clause-none c = none_carries
-
-pub returns-clause-begun : goal.returns-clause-begun
-returns-clause-begun c = begun_carries

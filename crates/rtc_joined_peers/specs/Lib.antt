@@ -1,3 +1,0 @@
-pub mod JoinedPeers
-pub mod ShownData
-pub mod Exchanging

@@ -1,3 +1,0 @@
-pub mod SentContents
-pub mod PlainPairs
-pub mod NewPairs

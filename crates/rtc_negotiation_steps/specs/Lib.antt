@@ -1,4 +1,0 @@
-pub mod Brings
-pub mod Keeping
-pub mod RefusedChannel
-pub mod Stages

@@ -1,0 +1,25 @@
+//! How the events of an association follow each other.
+ghost use Rattle.std.specs.Prelude.{◌≡◌, ◌++◌, ℕ, List, false, true};
+ghost use Rattle.rtc_part_values.specs.Among.{Member};
+ghost use Rattle.rtc_part_association.specs.declared.assoc_event.AssocEvent.TheVariants.{Readable};
+ghost use Rattle.rtc_part_association.specs.AssociationActs.{AssociationAct, Moved};
+ghost use Rattle.rtc_part_association.specs.AssociationEvents.{InOrder, AddsEvents};
+ghost use Rattle.rtc_part_association.specs.AssociationWords.{told, completions};
+
+use crate::Association;
+
+/// Any acts add events behind those that are due. Of the events that a fresh association told and those that are due,
+/// each ResetComplete of a stream comes behind a Finished of its own, a stream's generation is the number of its
+/// ResetCompletes, and there is a Readable of each stream that has a whole message unread.
+pub fn events_follow_each_other<S: Association>()
+    ensures adds { (p q : S) (acts : List AssociationAct) → Moved S.association p acts q
+        → AddsEvents S.association p acts q }
+    ensures in_order { (p q : S) (acts : List AssociationAct) (s : ℕ) → S.association.fresh p
+        → Moved S.association p acts q → InOrder s false (told acts ++ S.association.due q) (S.association.finished q s) }
+    ensures completions { (p q : S) (acts : List AssociationAct) (s : ℕ) → S.association.fresh p
+        → Moved S.association p acts q
+        → completions s (told acts ++ S.association.due q) ≡ S.association.generation q s }
+    ensures readable { (p q : S) (acts : List AssociationAct) (s g : ℕ) → S.association.fresh p
+        → Moved S.association p acts q → S.association.has_unread q s g ≡ true
+        → Member (Readable s) (told acts ++ S.association.due q) }
+{}

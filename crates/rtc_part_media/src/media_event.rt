@@ -1,0 +1,16 @@
+//! Events of the media part.
+use crate::RawPacket;
+
+/// An event that a media part tells.
+pub trait MediaEvent {
+    ghost use Rattle.std.specs.Prelude.{◌≡◌, Option};
+    ghost use Rattle.std.specs.Option.{option_copied};
+    ghost use Rattle.rtc_part_media.specs.declared.raw_packet.RawPacket.{RawPacket};
+
+    /// The packet that an event shows, if it shows one.
+    ghost packet_of: { Self → Option RawPacket };
+
+    /// The packet that this event shows, where raw packets are on and it is one.
+    fn raw_packet(&self) -> Option<&RawPacket>
+        ensures { option_copied result ≡ packet_of self.now };
+}

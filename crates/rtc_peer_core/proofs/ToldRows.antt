@@ -1,0 +1,161 @@
+-- Rows as they are told: which rows they are, what negotiation reads of their lines, and that formed lines are told of formed media.
+use Rattle.std.proofs.Common.{◌≡◌, ◌+◌, inl, inr, true, false, ℕ, List, [], ◌∷◌, ◌++◌, map, length, Option, Some, None, refl, ap, ◌∙◌}
+use Rattle.std.specs.Prelude.{IfSome}
+use Rattle.std.specs.List.{AllByRecursion}
+use Rattle.rtc_sdp_values.specs.LineRow.{row_mid}
+use Rattle.rtc_sdp_values.specs.declared.line_row.LineRow.{LineRow}
+use Rattle.rtc_sdp_values.specs.declared.line_row.LineRow.TheVariants.{Media, App}
+use Rattle.rtc_sdp_values.specs.declared.sdp.Sdp.{Sdp}
+use Rattle.rtc_sdp_codecs.proofs.FormedLemmas.{kind_formed, extensions_formed}
+use Rattle.rtc_part_media.specs.declared.media_update.MediaUpdate.{MediaUpdate}
+use Rattle.rtc_change.specs.declared.add_media.AddMedia.{AddMedia as AddedMedia}
+use Rattle.rtc_change.specs.declared.change.Change.{Change}
+use Rattle.rtc_change.specs.declared.change.Change.TheVariants.{AddMedia, AddApp, AddChannel, Direction as SetDirection, IceRestart}
+use Rattle.rtc_change.specs.PendingOffer.{added_rows}
+use Rattle.rtc_change.specs.TableAfter.{table_after}
+use Rattle.rtc_peer_rows.specs.ParsedLines.{parsed_line, parsed_lines}
+use Rattle.rtc_peer_core.specs.declared.formats.Formats.{Formats}
+use Rattle.rtc_peer_core.specs.declared.line_media.LineMedia.{LineMedia}
+use Rattle.rtc_peer_core.specs.declared.sdp_head.SdpHead.{SdpHead}
+use Rattle.rtc_peer_core.specs.declared.told_row.ToldRow.{ToldRow}
+use Rattle.rtc_peer_core.specs.Formats.{AreFormedFormats}
+use Rattle.rtc_peer_core.specs.Formed.{IsFormedMedia, IsFormedUpdate, IsFormedAdded, AreFormedChanges, IsFormed}
+use Rattle.rtc_peer_core.specs.MadeSdp.{
+  no_media,
+  media_held,
+  media_of_added,
+  media_told,
+  newest,
+  updates_behind,
+  told_rows,
+  added_told,
+  offered_rows,
+  offered_told,
+  answered_told,
+  row_line,
+  row_told,
+}
+use Rattle.rtc_peer_core.specs.Stance.{Stance}
+use Rattle.rtc_peer_core.proofs.Alls.{all-append}
+
+-- ---- which rows are told
+
+pub rows_of_told : (line : List ℕ → Option MediaUpdate) (updates : List MediaUpdate) (rows : List LineRow)
+    → map row_told (told_rows line updates rows) ≡ rows
+rows_of_told line updates [] = refl
+rows_of_told line updates (row ∷ rows) = ap (λ rest. row ∷ rest) (rows_of_told line (updates_behind row updates) rows)
+
+pub rows_of_added : (formats : Formats) (place : ℕ) (changes : List Change)
+    → map row_told (added_told formats place changes) ≡ added_rows place changes
+rows_of_added formats place [] = refl
+rows_of_added formats place (AddMedia media ∷ changes) =
+    ap (λ rest. Media place media.mid media.kind media.dir false false ∷ rest) (rows_of_added formats (place + 1) changes)
+rows_of_added formats place (AddApp mid ∷ changes) = ap (λ rest. App place mid ∷ rest) (rows_of_added formats (place + 1) changes)
+rows_of_added formats place (AddChannel id config ∷ changes) = rows_of_added formats place changes
+rows_of_added formats place (SetDirection mid dir ∷ changes) = rows_of_added formats place changes
+rows_of_added formats place (IceRestart creds keeps ∷ changes) = rows_of_added formats place changes
+
+rows_joined : (front behind : List ToldRow) → map row_told (front ++ behind) ≡ map row_told front ++ map row_told behind
+rows_joined [] behind = refl
+rows_joined (told ∷ front) behind = ap (λ rest. told.row ∷ rest) (rows_joined front behind)
+
+join_same : {A : Type 0} (xs xs' ys ys' : List A) → xs ≡ xs' → ys ≡ ys' → xs ++ ys ≡ xs' ++ ys'
+join_same xs xs' ys ys' a b = rw (a, b) refl
+
+-- an offer tells the rows that are there, then those that it adds
+pub rows_of_offered : (s : Stance) → map row_told (offered_told s) ≡ offered_rows s
+rows_of_offered s =
+    rows_joined (told_rows s.line [] s.lines) (added_told s.formats (length s.lines) s.staged)
+    ∙ join_same _ _ _ _ (rows_of_told s.line [] s.lines) (rows_of_added s.formats (length s.lines) s.staged)
+
+-- an answer tells the rows that its offer leaves
+pub rows_of_answered : (s : Stance) (updates : List MediaUpdate) (offer : Sdp)
+    → map row_told (answered_told s updates offer) ≡ table_after s.lines (parsed_lines offer) true
+rows_of_answered s updates offer = rows_of_told s.line updates (table_after s.lines (parsed_lines offer) true)
+
+-- ---- what negotiation reads of a line does not depend on what it carries
+
+pub parsed_bare : (groups : List (List (List ℕ))) (head : SdpHead) (media : LineMedia) (row : LineRow)
+    → parsed_line groups (row_line head media row) ≡ parsed_line groups (row_line head no_media row)
+parsed_bare groups head media (Media place mid kind dir stopped remote_created) = refl
+parsed_bare groups head media (App place mid) = refl
+
+pub mid_of_line : (head : SdpHead) (media : LineMedia) (row : LineRow) → (row_line head media row).mid ≡ row_mid row
+mid_of_line head media (Media place mid kind dir stopped remote_created) = refl
+mid_of_line head media (App place mid) = refl
+
+-- ---- formed lines are told of formed media
+
+pub no_media_formed : IsFormedMedia no_media
+no_media_formed = record {
+  payloads = record { each = tt; numbers = record { small = tt; apart = tt }; formats = tt };
+  exts = tt;
+  simulcast = tt;
+  msid = tt;
+  cname = tt;
+  named = inl refl;
+  ssrcs = tt;
+}
+
+abbrev pub IsToldFormed : ToldRow → Type 0
+IsToldFormed told = IsFormedMedia told.media
+
+newest_formed : (updates : List MediaUpdate) (held : Option MediaUpdate) → AllByRecursion IsFormedUpdate updates
+    → IfSome held IsFormedUpdate → IsFormedMedia (media_held (newest updates held))
+newest_formed [] None all formed = no_media_formed
+newest_formed [] (Some update) all formed = formed.carried
+newest_formed (update ∷ updates) held all formed = all.0.carried
+
+media_told_formed : (line : List ℕ → Option MediaUpdate) (updates : List MediaUpdate) (row : LineRow)
+    → ((mid : List ℕ) → IfSome (line mid) IsFormedUpdate) → AllByRecursion IsFormedUpdate updates
+    → IsFormedMedia (media_told line updates row)
+media_told_formed line updates (Media place mid kind dir stopped remote_created) formed all = newest_formed updates (line mid) all (formed mid)
+media_told_formed line updates (App place mid) formed all = no_media_formed
+
+behind_formed : (row : LineRow) (updates : List MediaUpdate) → AllByRecursion IsFormedUpdate updates
+    → AllByRecursion IsFormedUpdate (updates_behind row updates)
+behind_formed (Media place mid kind dir stopped remote_created) [] all = tt
+behind_formed (Media place mid kind dir stopped remote_created) (update ∷ updates) all = all.1
+behind_formed (App place mid) updates all = all
+
+pub told_formed : (line : List ℕ → Option MediaUpdate) (updates : List MediaUpdate) (rows : List LineRow)
+    → ((mid : List ℕ) → IfSome (line mid) IsFormedUpdate) → AllByRecursion IsFormedUpdate updates
+    → AllByRecursion IsToldFormed (told_rows line updates rows)
+told_formed line updates [] formed all = tt
+told_formed line updates (row ∷ rows) formed all = (
+  media_told_formed line updates row formed all,
+  told_formed line (updates_behind row updates) rows formed (behind_formed row updates all),
+)
+
+media_of_added_formed : (formats : Formats) (media : AddedMedia) → AreFormedFormats formats → IsFormedAdded media
+    → IsFormedMedia (media_of_added formats media)
+media_of_added_formed formats media own staged = record {
+  payloads = kind_formed media.kind formats.codecs.rows own.codecs;
+  exts = extensions_formed media.kind formats.extensions.rows own.extensions;
+  simulcast = staged.simulcast;
+  msid = staged.msid;
+  cname = staged.cname;
+  named = inr (refl, refl);
+  ssrcs = staged.ssrcs;
+}
+
+pub added_formed : (formats : Formats) (place : ℕ) (changes : List Change) → AreFormedFormats formats → AreFormedChanges changes
+    → AllByRecursion IsToldFormed (added_told formats place changes)
+added_formed formats place [] own all = tt
+added_formed formats place (AddMedia media ∷ changes) own all =
+    (media_of_added_formed formats media own all.0.media, added_formed formats (place + 1) changes own all.1)
+added_formed formats place (AddApp mid ∷ changes) own all = (no_media_formed, added_formed formats (place + 1) changes own all.1)
+added_formed formats place (AddChannel id config ∷ changes) own all = added_formed formats place changes own all.1
+added_formed formats place (SetDirection mid dir ∷ changes) own all = added_formed formats place changes own all.1
+added_formed formats place (IceRestart creds keeps ∷ changes) own all = added_formed formats place changes own all.1
+
+-- what the offers and answers of a formed peer tell
+pub offered_media_formed : (s : Stance) → IsFormed s → AllByRecursion IsToldFormed (offered_told s)
+offered_media_formed s formed =
+    all-append IsToldFormed (told_rows s.line [] s.lines) (added_told s.formats (length s.lines) s.staged)
+    (told_formed s.line [] s.lines formed.media tt) (added_formed s.formats (length s.lines) s.staged formed.formats formed.changes)
+
+pub answered_media_formed : (s : Stance) (updates : List MediaUpdate) (offer : Sdp) → IsFormed s
+    → AllByRecursion IsFormedUpdate updates → AllByRecursion IsToldFormed (answered_told s updates offer)
+answered_media_formed s updates offer formed all =
+    told_formed s.line updates (table_after s.lines (parsed_lines offer) true) formed.media all

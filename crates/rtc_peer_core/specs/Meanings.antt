@@ -1,0 +1,36 @@
+-- What the five parts of a peer mean, together.
+use Rattle.rtc_part_ice.specs.IceMeaning.{IceMeaning}
+use Rattle.rtc_part_ice.specs.IceLaws.{IceLaws}
+use Rattle.rtc_part_dtls.specs.DtlsMeaning.{DtlsMeaning}
+use Rattle.rtc_part_dtls.specs.DtlsLaws.{DtlsLaws}
+use Rattle.rtc_part_association.specs.AssociationMeaning.{AssociationMeaning}
+use Rattle.rtc_part_association.specs.AssociationLaws.{AssociationLaws}
+use Rattle.rtc_part_media.specs.MediaMeaning.{MediaMeaning}
+use Rattle.rtc_part_media.specs.MediaLaws.{MediaLaws}
+use Rattle.rtc_part_draws.specs.Draws.{Draws}
+
+-- I is the ICE agent, D the DTLS part, S the association and M the media part, whose events, streams and writers are E, X, T
+-- and W; N is the source of numbers
+pub record Meanings (I D S M E X T W N : Type 0) : Type 1 where
+  pub ice : IceMeaning I
+  pub dtls : DtlsMeaning D
+  pub association : AssociationMeaning S
+  pub media : MediaMeaning M E X T W
+  pub ids : Draws N
+
+abbrev pub meanings : {I D S M E X T W N : Type 0} → IceMeaning I → DtlsMeaning D → AssociationMeaning S → MediaMeaning M E X T W
+    → Draws N → Meanings I D S M E X T W N
+meanings ice dtls association media ids = record {
+  ice = ice;
+  dtls = dtls;
+  association = association;
+  media = media;
+  ids = ids;
+}
+
+-- what holds of the parts that negotiation moves
+pub record PartsLaws {I D S M E X T W N : Type 0} (m : Meanings I D S M E X T W N) : Type 0 where
+  pub ice : IceLaws m.ice
+  pub dtls : DtlsLaws m.dtls
+  pub association : AssociationLaws m.association
+  pub media : MediaLaws m.media

@@ -1,0 +1,58 @@
+//! The state of a peer.
+use crate::{Formats, Phase, Staged};
+use rtc_change::Lines;
+use rtc_channels::ChannelHandler;
+use rtc_part_dtls::Dtls;
+use rtc_sctp::RtcSctp;
+use rtc_sdp_values::Fingerprint;
+use rtc_wire::Moment;
+use std::alloc::Global;
+
+/// The state of a peer. Its fields are public for the crates that work on it; callers hold an `Rtc`.
+pub struct Peer<I, D, S, M, N> {
+    pub alloc: Global,
+    /// The codecs and header extensions that it was built with.
+    pub formats: Formats,
+    pub lines: Lines,
+    /// What is staged and not yet applied.
+    pub staged: Staged,
+    pub channels: ChannelHandler,
+    /// How many offers were made or given, also those refused; it wraps.
+    pub counter: u64,
+    /// The number of the session, of the `o=` line.
+    pub session_id: u64,
+    pub phase: Phase,
+    /// The fingerprint that the other side told first.
+    pub fingerprint: Option<Fingerprint>,
+    /// The greatest moment that was given.
+    pub greatest: Moment,
+    pub ice: I,
+    pub dtls: Dtls<D>,
+    /// The streams of the data channels, over the association.
+    pub sctp: RtcSctp<S>,
+    pub media: M,
+    pub ids: N,
+}
+
+// Written out, so that the proof of what owns a peer sees one call and not the drop of each field.
+impl<I: Drop, D: Drop, S: Drop, M: Drop, N: Drop> Drop for Peer<I, D, S, M, N> {
+    fn drop(self) {
+        let Peer {
+            alloc: _alloc,
+            formats: _formats,
+            lines: _lines,
+            staged: _staged,
+            channels: _channels,
+            counter: _counter,
+            session_id: _session_id,
+            phase: _phase,
+            fingerprint: _fingerprint,
+            greatest: _greatest,
+            ice: _ice,
+            dtls: _dtls,
+            sctp: _sctp,
+            media: _media,
+            ids: _ids,
+        } = self;
+    }
+}

@@ -1,0 +1,14 @@
+use Rattle.std.proofs.Common.{refl}
+use Rattle.std.specs.Borrow.{MutBor}
+use Rattle.rtc_peer_direct.proofs.LoanLemmas.{loan_ends, nothing_lent}
+use Rattle.rtc_peer_direct.proofs.streams.lend_stream_tx.Goals as goal
+
+pub returns : goal.returns
+returns g c = (
+  (
+    refl,
+    (λ w. loan_ends c.args.peer.now c.stream_tx.result (λ (lent : MutBor g.row.M-Tx.Denot) (m : g.row.M.Denot). g.M.MediaSession.media.tx_lent c.args.peer.now.core.media c.args.ssrc lent.now w m) (c.stream_tx.follows.lender w) (c.stream_tx.follows.holds w)),
+    nothing_lent c.args.peer.now c.stream_tx.follows.lender-at-none c.stream_tx.follows.holds-at-none,
+  ),
+  record { leaves = tt; found = c.stream_tx.ensures.found },
+)

@@ -1,0 +1,60 @@
+//! Sources that are drawn, and what is sent to the media of the other side.
+ghost use Rattle.rtc_peer_direct.specs.SourcesAndFeedback.{DrawsSource, SetsRed, EnablesTwcc, SendsAppFeedback, SendsPli};
+
+use rtc_peer_transport::PolledPeer;
+use rtc_peer_draws::{EarlierNumbers, draw_source};
+use rtc_part_draws::Ids;
+use rtc_part_media::MediaSession;
+use rtc_sdp_values::{Mid, Ssrc};
+use std::alloc::AllocError;
+
+/// Draws a source that no stream has; where there is none, the answer is that of the number drawn.
+pub fn draw_ssrc<I, D, S, M: MediaSession, N: Ids>(peer: &mut PolledPeer<I, D, S, M, N>) -> Ssrc
+    ensures { DrawsSource M.media N.ids peer.old result peer.new }
+{
+    let earlier = EarlierNumbers::new(peer.core.alloc);
+    draw_source(&mut peer.core.ids, &peer.core.media, &earlier)
+}
+
+/// Switches redundancy of what a line sends on or off (RFC 2198). False where the line has none.
+pub fn set_red_send<I, D, S, M: MediaSession, N>(
+    peer: &mut PolledPeer<I, D, S, M, N>,
+    mid: Mid,
+    on: bool,
+) -> bool
+    ensures { SetsRed M.media mid on peer.old result peer.new }
+{
+    peer.core.media.set_red_send(mid, on)
+}
+
+/// Switches on feedback on the congestion of the whole transport.
+pub fn enable_twcc_feedback<I, D, S, M: MediaSession, N>(peer: &mut PolledPeer<I, D, S, M, N>)
+    ensures { EnablesTwcc M.media peer.old peer.new }
+{
+    peer.core.media.enable_twcc_feedback();
+}
+
+/// Sends feedback that the application defines (RFC 4585, section 6.4).
+pub fn send_app_specific_feedback<I, D, S, M: MediaSession, N>(
+    peer: &mut PolledPeer<I, D, S, M, N>,
+    sender: Ssrc,
+    media_source: Ssrc,
+    payload: &[u8],
+) -> Result<(), AllocError>
+    ensures { SendsAppFeedback M.media sender media_source payload.now peer.old result peer.new }
+{
+    peer.core
+        .media
+        .send_app_specific_feedback(sender, media_source, payload)
+}
+
+/// Asks for a new picture (RFC 4585, section 6.3.1).
+pub fn send_pli_feedback<I, D, S, M: MediaSession, N>(
+    peer: &mut PolledPeer<I, D, S, M, N>,
+    sender: Ssrc,
+    media_source: Ssrc,
+) -> Result<(), AllocError>
+    ensures { SendsPli M.media sender media_source peer.old result peer.new }
+{
+    peer.core.media.send_pli_feedback(sender, media_source)
+}

@@ -1,0 +1,54 @@
+//! Media lines that a user declares and removes.
+ghost use Rattle.std.specs.Prelude.{◌≡◌};
+ghost use Rattle.rtc_peer_direct.specs.DeclaredRows.{has_media_row, DeclaresMedia, RemovesMedia};
+
+use rtc_change::Lines;
+use rtc_peer_transport::PolledPeer;
+use rtc_part_media::MediaSession;
+use rtc_peer_core::count_lines;
+use rtc_sdp_values::{LineRow, MediaKind, Mid};
+use std::alloc::AllocError;
+
+/// Whether a row of media has a mid.
+pub(crate) fn has_media(lines: &Lines, mid: Mid) -> bool
+    ensures { result ≡ has_media_row mid lines.now }
+{
+    match lines.find(mid) {
+        Some(row) => match row {
+            LineRow::Media { .. } => true,
+            LineRow::App { .. } => false,
+        },
+        None => false,
+    }
+}
+
+/// Declares a media line behind the others, which sends and receives and was created here. False where a row has the mid.
+pub fn declare_media<I, D, S, M, N>(
+    peer: &mut PolledPeer<I, D, S, M, N>,
+    mid: Mid,
+    kind: MediaKind,
+) -> Result<bool, AllocError>
+    ensures { DeclaresMedia mid kind peer.old result peer.new }
+{
+    let _count = count_lines(&peer.core.lines, 0)?;
+    match peer.core.lines.declare(mid, kind) {
+        Ok(declared) => Ok(declared),
+        Err(error) => Err(error),
+    }
+}
+
+/// Removes a media line with its streams: the last row goes, and another is stopped for good. False where no row of media has
+/// the mid.
+pub fn remove_media<I, D, S, M: MediaSession, N>(
+    peer: &mut PolledPeer<I, D, S, M, N>,
+    mid: Mid,
+) -> bool
+    ensures { RemovesMedia M.media mid peer.old result peer.new }
+{
+    if !has_media(&peer.core.lines, mid) {
+        return false;
+    }
+    peer.core.lines.remove(mid);
+    peer.core.media.remove_line(mid);
+    true
+}

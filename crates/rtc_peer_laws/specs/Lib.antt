@@ -1,0 +1,11 @@
+pub mod Relay
+pub mod Drained
+pub mod PeerActs
+pub mod RowsChanged
+pub mod ChannelStreams
+pub mod Acts
+pub mod KeptChannels
+pub mod JoinedPeers
+pub mod ShownData
+pub mod Exchanging
+pub mod MediaRows

@@ -1,0 +1,68 @@
+//! What each call does to the parts of a peer, as lists of acts.
+ghost use Rattle.std.specs.Prelude.{ℕ, Bool, List, []};
+ghost use Rattle.rtc_sdp_values.specs.declared.candidate.Candidate.{Candidate as Reachable};
+ghost use Rattle.rtc_sdp_values.specs.declared.sdp.Sdp.{Sdp as Description};
+ghost use Rattle.rtc_change.specs.PendingOffer.{PendingOffer};
+ghost use Rattle.rtc_peer_core.specs.declared.peer.Peer.{Peer};
+ghost use Rattle.rtc_peer_core.specs.Acceptances.{AcceptsAnswer, AcceptsOffer};
+ghost use Rattle.rtc_peer_core.specs.Meanings.{meanings};
+ghost use Rattle.rtc_peer_transport.specs.declared.input.Input.{Input as Given};
+ghost use Rattle.rtc_peer_transport.specs.declared.polled_peer.PolledPeer.{PolledPeer as Polled};
+ghost use Rattle.rtc_peer_transport.specs.ChannelCalls.{ClosesDataChannel, SetsChannelThreshold, WritesChannel};
+ghost use Rattle.rtc_peer_transport.specs.Closing.{ClosesPeer};
+ghost use Rattle.rtc_peer_polling.specs.Inputs.{HandlesInput};
+ghost use Rattle.rtc_peer_polling.specs.Walk.{PollsPeer};
+ghost use Rattle.rtc_peer_laws.specs.Acts.{CallActs, InputActs, NegotiationActs, PollActs, message_of_write, with_agent, with_core};
+
+use rtc_part_association::Association;
+use rtc_part_dtls::DtlsInstance;
+use rtc_part_ice::IceAgent;
+use rtc_part_draws::Ids;
+use rtc_part_media::MediaSession;
+
+/// Each call is a list of acts of each part. A poll gives the parts nothing that came from outside, shows only what they gave,
+/// and tells the last message that it read for a channel, if any: the last of the stream of this channel, in the generation that
+/// the stream has. An input gives its datagram to one part at most, and no moment but its own. A write that is taken is one
+/// message written. Where a data channel is closed, nothing comes, and no message is written or read.
+pub fn calls_act<I: IceAgent, D: DtlsInstance, S: Association, M: MediaSession, N: Ids>()
+    ensures polls { (p q : Polled I D S M N) (answer : _)
+        → PollsPeer (meanings I.ice D.dtls S.association M.media N.ids) p answer q
+        → PollActs (meanings I.ice D.dtls S.association M.media N.ids) p answer q }
+    ensures inputs { (p q : Polled I D S M N) (input : Given) (answer : _)
+        → HandlesInput (meanings I.ice D.dtls S.association M.media N.ids) input p answer q
+        → InputActs (meanings I.ice D.dtls S.association M.media N.ids) input p q }
+    ensures closes { (p q : Polled I D S M N) (answer : _)
+        → ClosesPeer (meanings I.ice D.dtls S.association M.media N.ids) p answer q
+        → CallActs (meanings I.ice D.dtls S.association M.media N.ids) [] p q }
+    ensures writes { (p q : Polled I D S M N) (stream : ℕ) (binary : Bool) (bytes : List ℕ) (answer : _)
+        → WritesChannel (meanings I.ice D.dtls S.association M.media N.ids) stream binary bytes p answer q
+        → CallActs (meanings I.ice D.dtls S.association M.media N.ids)
+        (message_of_write stream (S.association.generation p.core.sctp.association stream) binary bytes answer) p q }
+    ensures thresholds { (p q : Polled I D S M N) (stream n : ℕ) → SetsChannelThreshold stream n p q
+        → CallActs (meanings I.ice D.dtls S.association M.media N.ids) [] p q }
+    ensures channel_closes { (p q : Polled I D S M N) (id : ℕ) (answer : _)
+        → ClosesDataChannel (meanings I.ice D.dtls S.association M.media N.ids) id p answer q
+        → CallActs (meanings I.ice D.dtls S.association M.media N.ids) [] p q }
+{}
+
+/// So is each offer and each answer that is accepted, refused or stopped: no packet comes from outside and none goes, no message is
+/// written or read, and no moment is handed on but the greatest that was taken.
+pub fn acceptances_act<I: IceAgent, D: DtlsInstance, S: Association, M: MediaSession, N: Ids>()
+    ensures offers { (p : Polled I D S M N) (core : Peer I D S M N) (offer : Description) (answer : _)
+        → AcceptsOffer (meanings I.ice D.dtls S.association M.media N.ids) p.core offer answer core
+        → NegotiationActs (meanings I.ice D.dtls S.association M.media N.ids) p (with_core core p) }
+    ensures answers { (p : Polled I D S M N) (core : Peer I D S M N) (token : PendingOffer) (description : Description) (answer : _)
+        → AcceptsAnswer (meanings I.ice D.dtls S.association M.media N.ids) p.core token description answer core
+        → NegotiationActs (meanings I.ice D.dtls S.association M.media N.ids) p (with_core core p) }
+{}
+
+/// A candidate that is added, of this side or of the other one, is one act of the agent: it is given no message and no moment, and
+/// the other parts are as they were.
+pub fn candidates_act<I: IceAgent, D: DtlsInstance, S: Association, M: MediaSession, N: Ids>()
+    ensures own { (p : Polled I D S M N) (ice : I) (candidate : Reachable) (answer : _)
+        → I.ice.local_added p.core.ice candidate answer ice
+        → CallActs (meanings I.ice D.dtls S.association M.media N.ids) [] p (with_agent ice p) }
+    ensures others { (p : Polled I D S M N) (ice : I) (candidate : Reachable) (answer : _)
+        → I.ice.remote_added p.core.ice candidate answer ice
+        → CallActs (meanings I.ice D.dtls S.association M.media N.ids) [] p (with_agent ice p) }
+{}

@@ -1,0 +1,25 @@
+//! Laws of peers: what their calls do to their parts, what they leave of streams, what a drained peer answers, and what two joined peers read of each other.
+#![tactic(auto)]
+
+mod acts;
+mod drained;
+mod exchanging;
+mod joined;
+mod kept;
+mod laws;
+mod once;
+mod rows;
+mod shown;
+
+pub use acts::{acceptances_act, calls_act, candidates_act};
+pub use drained::{drained_peers_have_heard, drained_peers_rest, wakes_are_not_past};
+pub use exchanging::exchanges_keep_peers_joined;
+pub use joined::{
+    calls_keep_peers_joined, calls_without_datagrams_carry_no_data,
+    joined_peers_read_what_was_written, messages_are_those_of_calls,
+};
+pub use kept::{acceptances_keep_streams, other_calls_keep_streams, stagings_keep_streams};
+pub use laws::calls_relay;
+pub use once::channels_open_once;
+pub use rows::named_rows_are_media_lines;
+pub use shown::shown_data_is_of_dtls;

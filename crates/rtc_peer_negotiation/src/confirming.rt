@@ -1,0 +1,60 @@
+//! Channels that are confirmed.
+ghost use Rattle.std.specs.Prelude.{◌≡◌, ◌∷◌, []};
+ghost use Rattle.rtc_change.specs.declared.change.Change.TheVariants.{AddChannel};
+ghost use Rattle.rtc_channels.specs.Channels.{all_confirmed, is_overlong as IsOverlong};
+ghost use Rattle.rtc_peer_core.specs.Calls.{fitting_channels, fits_open as FitsOpen};
+
+use rtc_change::{Change, Changes};
+use rtc_channels::ChannelHandler;
+use rtc_wire::{ChannelConfig, ChannelId, Text};
+
+// An open message has two bytes for the length of a label or protocol (RFC 8832, section 5.1).
+const LONGEST_TEXT: usize = 65535;
+
+fn is_overlong(text: &Text) -> bool
+    ensures { result ≡ IsOverlong text.now }
+{
+    text.as_str().len() > LONGEST_TEXT
+}
+
+// Whether an open message has room for the label and the protocol of a channel.
+fn fits_open(config: &ChannelConfig) -> bool
+    ensures { result ≡ FitsOpen config.now }
+{
+    if is_overlong(&config.label) {
+        return false;
+    }
+    !is_overlong(&config.protocol)
+}
+
+fn confirm_channel(channels: &mut ChannelHandler, id: ChannelId, config: ChannelConfig)
+    ensures { channels.new ≡ all_confirmed (fitting_channels (AddChannel id config ∷ [])) channels.old }
+{
+    if !fits_open(&config) {
+        return;
+    }
+    if !channels.has_channel(id) {
+        return;
+    }
+    channels.confirm(id, config);
+}
+
+fn confirm_change(channels: &mut ChannelHandler, change: Change)
+    ensures { channels.new ≡ all_confirmed (fitting_channels (change ∷ [])) channels.old }
+{
+    match change {
+        Change::AddChannel(id, config) => confirm_channel(channels, id, config),
+        Change::AddMedia(media) => drop(media),
+        Change::IceRestart(creds, _) => drop(creds),
+        Change::AddApp(_) | Change::Direction(_, _) => {}
+    }
+}
+
+/// Confirms the channels that changes add, where they are still there. Nothing is allocated.
+pub fn confirm_channels(channels: &mut ChannelHandler, changes: Changes)
+    ensures { channels.new ≡ all_confirmed (fitting_channels changes.0) channels.old }
+{
+    for change in changes.0.into_vec() {
+        confirm_change(channels, change);
+    }
+}

@@ -1,0 +1,10 @@
+pub mod Certificates
+pub mod IceStages
+pub mod DtlsStages
+pub mod StreamStages
+pub mod MediaStages
+pub mod SendStages
+pub mod Walk
+pub mod Inputs
+pub mod Kept
+pub mod Numbers

@@ -1,0 +1,38 @@
+//! Moments that the streams and the channels are handed.
+ghost use Rattle.rtc_peer_polling.specs.Inputs.{StreamsTimed, ChannelsTimed};
+
+use rtc_part_association::Association;
+use rtc_channels::ChannelHandler;
+use rtc_ready::Readiness;
+use rtc_sctp::RtcSctp;
+use rtc_wire::Moment;
+use std::alloc::AllocError;
+
+/// Hands a moment to the association and the streams over it. A poll visits every part, so that no mark of the wake is kept.
+pub(crate) fn time_sctp<S: Association>(
+    sctp: &mut RtcSctp<S>,
+    now: Moment,
+) -> Result<(), AllocError>
+    ensures { StreamsTimed S.association now sctp.old result sctp.new }
+{
+    let mut readiness = Readiness::armed();
+    let mut wake = readiness.wake();
+    let timed = sctp.handle_timeout(now, &mut wake);
+    readiness.fold(wake);
+    timed
+}
+
+/// Gives streams to channels, and opens those that are confirmed.
+pub(crate) fn time_handler<S: Association>(
+    channels: &mut ChannelHandler,
+    sctp: &mut RtcSctp<S>,
+    now: Moment,
+) -> Result<(), AllocError>
+    ensures { ChannelsTimed S.association channels.old sctp.old result channels.new sctp.new }
+{
+    let mut readiness = Readiness::armed();
+    let mut wake = readiness.wake();
+    let timed = channels.handle_timeout(now, sctp, &mut wake);
+    readiness.fold(wake);
+    timed
+}

@@ -1,0 +1,203 @@
+//! Peers that are built.
+ghost use Rattle.std.specs.Prelude.{◌≡◌, ◌≤◌, ◌<◌, ◌^◌, false, IfOk, OnOk, length, ℕ};
+ghost use Rattle.std.specs.Option.{option_copied};
+ghost use Rattle.rtc_part_dtls.specs.DtlsState.{BeginsDtls};
+ghost use Rattle.rtc_peer_core.specs.Built.{Builds, creds_or, after_creds, cert_or, after_cert};
+ghost use Rattle.rtc_peer_core.specs.Built.{empty_peer as EmptyPeer, limited_streams, allowed_halves, streams_of_config};
+ghost use Rattle.rtc_peer_core.specs.Meanings.{meanings};
+
+use rtc_part_association::Association;
+use rtc_change::Lines;
+use rtc_channels::ChannelHandler;
+use rtc_peer_draws::make_creds;
+use rtc_part_dtls::{Dtls, DtlsInstance};
+use rtc_part_ice::IceAgent;
+use rtc_part_draws::Ids;
+use rtc_part_media::MediaSession;
+use rtc_peer_core::{Formats, Peer, Phase, RtcConfig, Staged};
+use rtc_sctp::RtcSctp;
+use rtc_sdp_values::IceCreds;
+use rtc_wire::{Bytes, Moment, TryCopy};
+use std::alloc::{AllocError, Global};
+
+// The sizes of datagrams that the DTLS part and the association aim at, and that the DTLS part warns of, in bytes.
+const MTU: (usize, usize) = (1150, 1280);
+
+// The credentials that are given, or else those that are drawn.
+fn take_creds<N: Ids>(
+    alloc: Global,
+    ids: &mut N,
+    given: &Option<IceCreds>,
+) -> Result<IceCreds, AllocError>
+    ensures creds { IfOk result (λ creds. creds ≡ creds_or N.ids given.now ids.old) }
+    ensures after { OnOk result (ids.new ≡ after_creds N.ids given.now ids.old) }
+{
+    match given {
+        Some(creds) => creds.copy(),
+        None => {
+            let n = ids.draw();
+            make_creds(alloc, n)
+        }
+    }
+}
+
+// The certificate that is given, or else one that is drawn.
+fn make_cert<N: Ids>(alloc: Global, ids: &mut N, given: Option<&[u8]>) -> Result<Bytes, AllocError>
+    ensures cert { IfOk result (λ cert. cert ≡ cert_or N.ids (option_copied given.entry) ids.old) }
+    ensures after { OnOk result (ids.new ≡ after_cert N.ids (option_copied given.entry) ids.old) }
+{
+    match given {
+        Some(cert) => {
+            let copied = Vec::from_slice(alloc, cert)?;
+            Ok(Bytes::new(copied))
+        }
+        None => {
+            let n = ids.draw();
+            let bytes = Vec::from_slice(alloc, &n.to_be_bytes())?;
+            Ok(Bytes::new(bytes))
+        }
+    }
+}
+
+// What a peer tells of itself, and the DTLS part that has its certificate.
+#[derive(Drop)]
+struct OwnSide<D> {
+    creds: IceCreds,
+    dtls: Dtls<D>,
+}
+
+// The credentials, and the DTLS part that is given the certificate. Those that the config has not are drawn.
+fn draw_own<D: DtlsInstance + Drop, N: Ids>(
+    alloc: Global,
+    config: &RtcConfig,
+    ids: &mut N,
+    dtls: D,
+) -> Result<OwnSide<D>, AllocError>
+    ensures creds { IfOk result (λ own. own.creds ≡ creds_or N.ids config.now.creds ids.old) }
+    ensures dtls { IfOk result (λ own. BeginsDtls D.dtls
+        (cert_or N.ids config.now.cert (after_creds N.ids config.now.creds ids.old)) dtls (1150, 1280) own.dtls) }
+    ensures after { OnOk result (ids.new ≡ after_cert N.ids config.now.cert (after_creds N.ids config.now.creds ids.old)) }
+{
+    let creds = take_creds(alloc, ids, config.local_ice_credentials())?;
+    let cert = make_cert(alloc, ids, config.dtls_cert())?;
+    let dtls = Dtls::new(alloc, cert.as_slice(), dtls, MTU)?;
+    Ok(OwnSide { creds, dtls })
+}
+
+// Streams over a fresh association, with the limits that a config says.
+fn limit_streams<S: Association>(
+    alloc: Global,
+    config: &RtcConfig,
+    start: Moment,
+    association: S,
+) -> RtcSctp<S>
+    requires { S.association.fresh association }
+    ensures limits { S.association.limits_set association 1062 config.now.max_message_size result.association }
+    ensures made { result ≡ limited_streams config.now start result.association }
+    ensures unstarted { S.association.started result.association ≡ false }
+{
+    let size = config.sctp_max_message_size();
+    let mut sctp = RtcSctp::new(alloc, MTU.0, size, start, association);
+    sctp.set_max_buffered_amount(config.sctp_max_buffered_amount());
+    sctp
+}
+
+// Allows a start by session descriptions, or does not.
+fn allow_snap<S: Association>(sctp: &mut RtcSctp<S>, allowed: bool)
+    requires { S.association.started sctp.old.association ≡ false }
+    ensures { sctp.new ≡ record sctp.old { snap = allowed_halves allowed sctp.old.local_max sctp.old.snap } }
+{
+    if allowed {
+        sctp.enable_snap();
+    }
+}
+
+// The streams of a peer over a fresh association, as its config says.
+fn make_streams<S: Association>(
+    alloc: Global,
+    config: &RtcConfig,
+    start: Moment,
+    association: S,
+) -> RtcSctp<S>
+    requires { S.association.fresh association }
+    ensures limits { S.association.limits_set association 1062 config.now.max_message_size result.association }
+    ensures made { result ≡ streams_of_config config.now start result.association }
+{
+    let mut sctp = limit_streams(alloc, config, start, association);
+    allow_snap(&mut sctp, config.snap_enabled());
+    sctp
+}
+
+fn empty_peer<I, D, S, M, N>(
+    alloc: Global,
+    formats: Formats,
+    session_id: u64,
+    start: Moment,
+    ice: I,
+    dtls: Dtls<D>,
+    sctp: RtcSctp<S>,
+    media: M,
+    ids: N,
+) -> Peer<I, D, S, M, N>
+    ensures { result ≡ EmptyPeer alloc formats session_id start ice dtls sctp media ids }
+{
+    Peer {
+        alloc,
+        formats,
+        lines: Lines::new(alloc),
+        staged: Staged::new(alloc),
+        channels: ChannelHandler::new(alloc),
+        counter: 0,
+        session_id,
+        phase: Phase::Alive,
+        fingerprint: None,
+        greatest: start,
+        ice,
+        dtls,
+        sctp,
+        media,
+        ids,
+    }
+}
+
+/// A peer with no rows over fresh parts, as its config says: the number of its session is drawn, and its credentials and its certificate
+/// where none are set.
+pub fn build_peer<
+    I: IceAgent + Drop,
+    D: DtlsInstance + Drop,
+    S: Association + Drop,
+    M: MediaSession + Drop,
+    N: Ids + Drop,
+>(
+    alloc: Global,
+    config: RtcConfig,
+    start: Moment,
+    ice: I,
+    dtls: D,
+    association: S,
+    media: M,
+    ids: N,
+) -> Result<Peer<I, D, S, M, N>, AllocError>
+    requires { S.association.fresh association }
+    ensures { IfOk result (λ p. Builds (meanings I.ice D.dtls S.association M.media N.ids)
+        alloc config start ice dtls association media ids p) }
+{
+    let mut ids = ids;
+    let mut ice = ice;
+    let session_id = ids.draw();
+    let own = match draw_own(alloc, &config, &mut ids, dtls) {
+        Ok(own) => own,
+        Err(error) => {
+            drop((config, ice, association, media, ids));
+            return Err(error);
+        }
+    };
+    let OwnSide { creds, dtls } = own;
+    ice.set_ice_lite(config.ice_lite());
+    ice.set_local_credentials(creds);
+    let sctp = make_streams(alloc, &config, start, association);
+    let formats = config.into_formats();
+    Ok(empty_peer(
+        alloc, formats, session_id, start, ice, dtls, sctp, media, ids,
+    ))
+}

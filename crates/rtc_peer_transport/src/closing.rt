@@ -1,0 +1,105 @@
+//! How a peer is closed.
+ghost use Rattle.std.specs.Prelude.{◌≡◌};
+ghost use Rattle.rtc_peer_core.specs.Meanings.{meanings};
+ghost use Rattle.rtc_peer_transport.specs.Closing.{ShutsStreams, ShutsDtls};
+ghost use Rattle.rtc_peer_transport.specs.Closing.{ClosesPeer, is_phase_closing, is_closing_complete};
+
+use crate::PolledPeer;
+use rtc_part_association::Association;
+use rtc_part_dtls::{DtlsError, DtlsInstance};
+use rtc_part_ice::IceAgent;
+use rtc_part_draws::Ids;
+use rtc_part_media::MediaSession;
+use rtc_peer_core::{Phase, RtcError};
+use rtc_sctp::{ProtoError, SctpError};
+
+/// Whether a peer is in the middle of closing.
+pub fn is_closing(phase: Phase) -> bool
+    ensures { result ≡ is_phase_closing phase }
+{
+    match phase {
+        Phase::Closing => true,
+        Phase::Alive | Phase::Closed => false,
+    }
+}
+
+impl<I: IceAgent, D: DtlsInstance, S: Association, M: MediaSession, N: Ids> PolledPeer<
+    I,
+    D,
+    S,
+    M,
+    N,
+> {
+    #[tactic(auto, unfolding(crate::specs::Closing::ShutsStreams))]
+    fn shut_streams(&mut self) -> Result<(), RtcError>
+        ensures { ShutsStreams (meanings I.ice D.dtls S.association M.media N.ids) self.old result self.new }
+    {
+        match self.core.sctp.close() {
+            Ok(()) => Ok(()),
+            Err(error) => {
+                self.core.phase = Phase::Closed;
+                match error {
+                    SctpError::Proto(ProtoError::Fault) => {
+                        Err(RtcError::Sctp(SctpError::Proto(ProtoError::Fault)))
+                    }
+                    SctpError::Alloc => Err(RtcError::Alloc),
+                    _ => unreachable!(),
+                }
+            }
+        }
+    }
+
+    #[tactic(auto, unfolding(crate::specs::Closing::ShutsDtls))]
+    fn shut_dtls(&mut self) -> Result<(), RtcError>
+        ensures { ShutsDtls (meanings I.ice D.dtls S.association M.media N.ids) self.old result self.new }
+    {
+        match self.core.dtls.close() {
+            Ok(()) => Ok(()),
+            Err(DtlsError::WouldBlock) => unreachable!(),
+            Err(DtlsError::Fault) => {
+                self.core.phase = Phase::Closed;
+                Err(RtcError::Dtls(DtlsError::Fault))
+            }
+            Err(DtlsError::Alloc) => {
+                self.core.phase = Phase::Closed;
+                Err(RtcError::Alloc)
+            }
+        }
+    }
+
+    /// Begins to close the peer, which polls then bring to its end: media says goodbye (RFC 3550, section 6.6), the association
+    /// is shut down (RFC 9260, section 9.2), and the DTLS connection is closed (RFC 5246, section 7.2.1). Nothing happens where
+    /// this has begun. An error leaves the peer closed.
+    pub fn close(&mut self) -> Result<(), RtcError>
+        ensures { ClosesPeer (meanings I.ice D.dtls S.association M.media N.ids) self.old result self.new }
+    {
+        match self.core.phase {
+            Phase::Alive => {}
+            Phase::Closing | Phase::Closed => return Ok(()),
+        }
+        match self.core.media.close_rtp() {
+            Ok(()) => {}
+            Err(_) => {
+                self.core.phase = Phase::Closed;
+                return Err(RtcError::Alloc);
+            }
+        }
+        match self.shut_streams() {
+            Ok(()) => {}
+            Err(error) => return Err(error),
+        }
+        match self.shut_dtls() {
+            Ok(()) => {}
+            Err(error) => return Err(error),
+        }
+        self.core.phase = Phase::Closing;
+        Ok(())
+    }
+
+    /// Whether nothing of a closing is left to do.
+    pub fn is_closing_done(&self) -> bool
+        ensures { result ≡ is_closing_complete (meanings I.ice D.dtls S.association M.media N.ids) self.now }
+    {
+        is_closing(self.core.phase) && self.core.dtls.is_closed() && self.core.media.is_rtp_closed()
+    }
+}

@@ -1,9 +1,0 @@
-use Rattle.rtc_peer_state.specs.Formats.{AreFormedFormats}
-use Rattle.rtc_peer_state.specs.Formed.{IsFormed}
-use Rattle.rtc_peer_state.specs.Stance.{stance_of}
-use Rattle.rtc_plain_pair.specs.ProgramPair.{plain_parts}
-use Rattle.rtc_plain_pair.proofs.PlainPeers.{formed_without_creds}
-use Rattle.rtc_plain_pair.proofs.plain_pair.build_peer.Goals as goal
-
-pub returns-clause-formed : goal.returns-clause-formed
-returns-clause-formed c = formed_without_creds c.args.config.creds c.build.result (λ rtc. AreFormedFormats c.args.config.formats → IsFormed (stance_of plain_parts rtc.core)) c.build.ensures.formed

@@ -1,9 +1,0 @@
-use Rattle.rtc_plain_streams.proofs.PlainGenerations.{plain_generations}
-use Rattle.rtc_plain_streams.proofs.PlainReadings.{plain_named}
-use Rattle.rtc_plain_streams.proofs.plain.plain_streams_keep_laws.Goals as goal
-
-pub returns-clause-generations : goal.returns-clause-generations
-returns-clause-generations c = plain_generations
-
-pub returns-clause-named : goal.returns-clause-named
-returns-clause-named c = plain_named

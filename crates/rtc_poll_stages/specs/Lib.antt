@@ -1,6 +1,0 @@
-pub mod Certificates
-pub mod IceStages
-pub mod DtlsStages
-pub mod StreamStages
-pub mod MediaStages
-pub mod SendStages

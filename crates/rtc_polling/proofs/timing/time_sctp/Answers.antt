@@ -1,4 +1,0 @@
-use Rattle.rtc_polling.proofs.timing.time_sctp.Goals as goal
-
-pub returns : goal.returns
-returns g c = (c.handle_timeout-timed.new.wake, rw c.wake-wake.ensures at c.handle_timeout-timed.ensures)

@@ -1,4 +1,0 @@
-pub mod Walk
-pub mod Inputs
-pub mod Kept
-pub mod Numbers

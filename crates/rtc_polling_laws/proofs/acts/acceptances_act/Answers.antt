@@ -1,9 +1,0 @@
-use Rattle.rtc_peer_state.specs.Meanings.{meanings}
-use Rattle.rtc_polling_laws.proofs.ActedAcceptances.{offer_did, answer_did}
-use Rattle.rtc_polling_laws.proofs.acts.acceptances_act.Goals as goal
-
-pub returns-clause-offers : goal.returns-clause-offers
-returns-clause-offers g c = λ p core offer answer h. offer_did (meanings g.I.IceAgent.ice g.D.DtlsInstance.dtls g.S.Association.association g.M.MediaSession.media g.N.Ids.ids) p offer answer core h
-
-pub returns-clause-answers : goal.returns-clause-answers
-returns-clause-answers g c = λ p core token description answer h. answer_did (meanings g.I.IceAgent.ice g.D.DtlsInstance.dtls g.S.Association.association g.M.MediaSession.media g.N.Ids.ids) p token description answer core h

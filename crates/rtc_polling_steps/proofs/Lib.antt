@@ -1,4 +1,0 @@
-pub mod Drained
-pub mod PollsKeep
-pub mod Answered
-pub mod AnsweredWrites

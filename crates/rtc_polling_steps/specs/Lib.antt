@@ -1,3 +1,0 @@
-pub mod OutcomeOf
-pub mod Turns
-pub mod Written

@@ -1,0 +1,292 @@
+-- Which replies a step may have, given the steps and replies before it.
+use Rattle.std.specs.Prelude.{◌≡◌, ℕ, Bool, true, false, not, ◌&&◌, List, [], ◌∷◌, ◌++◌, map, length, All, ◌<◌}
+use Rattle.std.specs.Prelude.{Option, Some, None, is_some, slice_get}
+use Rattle.rtc_wire.specs.declared.channel_config.ChannelConfig.{ChannelConfig}
+use Rattle.rtc_channels.specs.Channels.{Channels, is_bad_channel}
+use Rattle.rtc_sdp_values.specs.LineRow.{row_mid}
+use Rattle.rtc_sdp_values.specs.declared.line_row.LineRow.{LineRow}
+use Rattle.rtc_sdp_values.specs.declared.sdp_error.SdpError.TheVariants.{Parse}
+use Rattle.rtc_sdp_values.specs.Mids.{is_among}
+use Rattle.rtc_change.specs.Held.{Held, Asked}
+use Rattle.rtc_peer_rows.specs.RowChanges.{RowChange, directed_row, stopped_row, is_changed, changed_at, media_mid}
+use Rattle.rtc_peer_rows.specs.ParsedLines.{parsed_lines}
+use Rattle.rtc_change.specs.TableAfter.{table_after, with_front}
+use Rattle.rtc_change.specs.Plans.{verdict}
+use Rattle.rtc_change.specs.declared.refusal.Refusal.TheVariants.{RemoteSdp as RefusedSdp, Sdp as RefusedAsSdp}
+use Rattle.rtc_part_dtls.specs.declared.dtls_error.DtlsError.TheVariants.{Fault}
+use Rattle.rtc_sctp_values.specs.declared.proto_error.ProtoError.TheVariants.{Fault as AssociationFault}
+use Rattle.rtc_sctp_values.specs.declared.sctp_error.SctpError.TheVariants.{Proto}
+use Rattle.rtc_peer_core.specs.Stance.{Stance, held_by}
+use Rattle.rtc_peer_core.specs.declared.rtc_error.RtcError.{RtcError}
+use Rattle.rtc_peer_core.specs.declared.rtc_error.RtcError.TheVariants.{RemoteSdp, Sdp as SdpRefused, Dtls, Sctp, Net, Media}
+use Rattle.rtc_peer_core.specs.declared.rtc_error.RtcError.TheVariants.{ChangesOutOfOrder, BadChannel as NoChannel, Alloc as PeerAlloc}
+use Rattle.rtc_run_history.specs.declared.side.Side.{Side}
+use Rattle.rtc_run_history.specs.declared.op.Op.{Op}
+use Rattle.rtc_run_history.specs.declared.op.Op.TheVariants.{AddMedia, SetDirection, StopMedia, AddChannel, IceRestart}
+use Rattle.rtc_run_history.specs.declared.step.Step.{Step}
+use Rattle.rtc_run_history.specs.declared.step.Step.TheVariants.{Negotiate, AcceptOffer, AcceptAnswer, Time, Datagram, Poll, Drain}
+use Rattle.rtc_run_history.specs.declared.step.Step.TheVariants.{Write, CloseChannel, Close}
+use Rattle.rtc_run_history.specs.declared.op_answer.OpAnswer.{OpAnswer}
+use Rattle.rtc_run_history.specs.declared.op_answer.OpAnswer.TheVariants.{Mid, Changed, NoLine, Channel, BadChannel, Creds, Alloc as OpAlloc}
+use Rattle.rtc_run_history.specs.declared.made.Made.{Made}
+use Rattle.rtc_run_history.specs.declared.made.Made.TheVariants.{NotAsked, Nothing, Offer, Alloc as MadeAlloc}
+use Rattle.rtc_run_history.specs.declared.outcome.Outcome.{Outcome}
+use Rattle.rtc_run_history.specs.declared.outcome.Outcome.TheVariants.{Negotiated, Answered, Finished, Done, Wrote, Polled, Refused}
+use Rattle.rtc_run_history.specs.declared.outcome.Outcome.TheVariants.{NoSuch, Alloc}
+use Rattle.rtc_run_history.specs.declared.table.Table.{Table}
+use Rattle.rtc_run_history.specs.Memory.{answers_lack, error_lacks}
+use Rattle.rtc_run_history.specs.Signalled.{Signalled, NotMade, Unreadable, Readable}
+use Rattle.rtc_run_history.specs.Answers.{has_app_row, do_need_offer, with_numbered, rows_waiting}
+use Rattle.rtc_run_history.specs.Past.{
+  Entry,
+  MadeSdp,
+  before,
+  channels_shown,
+  numbers_told,
+  sdps,
+  remote_sdp,
+  holds_token,
+  is_right,
+  new_app,
+  added_by,
+  restarts_by,
+}
+use Rattle.rtc_run_history.specs.Views.{Stances, init_told_by, view_in}
+
+-- no media row stands at a place
+abbrev pub HasNoLine : ℕ → List LineRow → Type 0
+HasNoLine place rows = media_mid (slice_get rows place) ≡ None
+
+-- a media row stands at a place, and this is whether it is changed
+abbrev pub TellsChange : RowChange → ℕ → List LineRow → Bool → Type 0
+TellsChange change place rows changed =
+    (is_some (media_mid (slice_get rows place)) ≡ true) × (changed ≡ is_changed change (slice_get rows place))
+
+-- What a side has midway through the ops of a step.
+pub record Midway : Type 0 where
+  pub rows : List LineRow
+  -- the mids of its rows, and of the lines that the step has staged
+  pub held : List (List ℕ)
+  -- the mid of the line of data channels that is still to be staged, where one is needed and its mid is told
+  pub app : Option (List ℕ)
+  pub channels : Channels
+  -- the channel numbers that its replies tell
+  pub numbers : List ℕ
+
+-- with one more mid held
+abbrev pub holding_mid : List ℕ → Midway → Midway
+holding_mid mid m = record m { held = mid ∷ m.held }
+
+-- with other rows
+abbrev pub having_rows : List LineRow → Midway → Midway
+having_rows rows m = record m { rows = rows }
+
+-- with one more channel, and the line that it brings
+abbrev pub having_channel : ℕ → ChannelConfig → Midway → Midway
+having_channel id config m = record m {
+  held = with_front m.app m.held;
+  app = None;
+  channels = with_numbered id config m.channels;
+  numbers = id ∷ m.numbers;
+}
+
+-- a mid that may be there is in no row and no staged line
+abbrev pub IsUnheld : Option (List ℕ) → List (List ℕ) → Type 0
+IsUnheld None held = Unit {0}
+IsUnheld (Some mid) held = is_among held mid ≡ false
+
+-- a channel may be made of a config, and has a number above all that the side told
+abbrev pub GivesNumber : Midway → ChannelConfig → ℕ → Type 0
+GivesNumber m config id = (is_bad_channel m.channels config ≡ false) × All (λ number. number < id) m.numbers
+
+-- Ops act in order, each on what the one before left, and leave these rows. The mid of a staged line is in no row and no earlier staged
+-- line of the step; a channel that brings a line stages it first; the first `Alloc` ends the answers.
+abbrev pub OpsAnswered : Midway → List Op → List OpAnswer → List LineRow → Type 0
+OpsAnswered m [] [] after = after ≡ m.rows
+OpsAnswered m (AddMedia kind dir ∷ ops) (Mid mid ∷ answers) after =
+    (is_among m.held mid ≡ false) × OpsAnswered (holding_mid mid m) ops answers after
+OpsAnswered m (SetDirection place dir ∷ ops) (NoLine ∷ answers) after = HasNoLine place m.rows × OpsAnswered m ops answers after
+OpsAnswered m (SetDirection place dir ∷ ops) (Changed changed ∷ answers) after =
+    TellsChange (directed_row dir) place m.rows changed
+    × OpsAnswered (having_rows (changed_at (directed_row dir) place m.rows) m) ops answers after
+OpsAnswered m (StopMedia place ∷ ops) (NoLine ∷ answers) after = HasNoLine place m.rows × OpsAnswered m ops answers after
+OpsAnswered m (StopMedia place ∷ ops) (Changed changed ∷ answers) after =
+    TellsChange stopped_row place m.rows changed × OpsAnswered (having_rows (changed_at stopped_row place m.rows) m) ops answers after
+OpsAnswered m (AddChannel config ∷ ops) (Channel id ∷ answers) after =
+    GivesNumber m config id
+    × IsUnheld m.app m.held
+    × OpsAnswered (having_channel id config m) ops answers after
+OpsAnswered m (AddChannel config ∷ ops) (BadChannel ∷ answers) after =
+    (is_bad_channel m.channels config ≡ true) × OpsAnswered m ops answers after
+OpsAnswered m (IceRestart keep ∷ ops) (Creds creds ∷ answers) after = OpsAnswered m ops answers after
+OpsAnswered m (op ∷ ops) (OpAlloc ∷ []) after = after ≡ m.rows
+OpsAnswered m ops answers after = ⊥
+
+-- what a side has before the ops of a step, given what it holds and the mid of the line that its channels bring
+abbrev pub at_first : {E : Type 0} → Stance → Side → List (Entry E) → Option (List ℕ) → Midway
+at_first stance at past app = record {
+  rows = before at past;
+  held = map row_mid (before at past);
+  app = app;
+  channels = stance.channels;
+  numbers = numbers_told at past;
+}
+
+-- An offer is made exactly where the step applies staged changes and some have to be offered, unless memory runs out.
+abbrev pub MadeOf : Bool → Bool → Made → ℕ → Type 0
+MadeOf false offers NotAsked next = Unit {0}
+MadeOf true true (Offer k) next = k ≡ next
+MadeOf true false Nothing next = Unit {0}
+MadeOf true offers MadeAlloc next = Unit {0}
+MadeOf asked offers made next = ⊥
+
+-- The outcome of accepting an offer: its answer and the rows that it leaves, or the first cause that refuses it: the line that cannot be
+-- read, or what the peer says.
+abbrev pub RepliesToOffer : {E : Type 0} → Signalled → Held → ℕ → Outcome E → List LineRow → Type 0
+RepliesToOffer NotMade view next NoSuch after = after ≡ view.lines
+RepliesToOffer (Unreadable line) view next (Refused error) after = (error ≡ SdpRefused (Parse line)) × (after ≡ view.lines)
+RepliesToOffer (Readable sdp) view next (Answered k) after =
+    (verdict view None sdp ≡ None) × (after ≡ table_after view.lines (parsed_lines sdp) true) × (k ≡ next)
+RepliesToOffer (Readable sdp) view next (Refused (RemoteSdp why)) after =
+    (verdict view None sdp ≡ Some (RefusedSdp why)) × (after ≡ view.lines)
+RepliesToOffer (Readable sdp) view next (Refused (SdpRefused error)) after =
+    (verdict view None sdp ≡ Some (RefusedAsSdp error)) × (after ≡ view.lines)
+RepliesToOffer (Readable sdp) view next (Refused (Dtls Fault)) after = (verdict view None sdp ≡ None) × (after ≡ view.lines)
+RepliesToOffer (Readable sdp) view next (Refused (Sctp error)) after =
+    (error ≡ Proto AssociationFault) × (verdict view None sdp ≡ None) × (after ≡ view.lines)
+RepliesToOffer (Readable sdp) view next (Refused PeerAlloc) after = after ≡ view.lines
+RepliesToOffer sdp view next outcome after = ⊥
+
+-- The outcome of accepting an answer: the rows that it leaves, where the token is held and right, or the first cause that refuses it.
+abbrev pub RepliesToAnswer : {E : Type 0} → Bool → Bool → Asked → Signalled → Held → Outcome E → List LineRow → Type 0
+RepliesToAnswer false right asked sdp view NoSuch after = after ≡ view.lines
+RepliesToAnswer true right asked NotMade view NoSuch after = after ≡ view.lines
+RepliesToAnswer true right asked (Unreadable line) view (Refused error) after =
+    (error ≡ SdpRefused (Parse line)) × (after ≡ view.lines)
+RepliesToAnswer true false asked (Readable sdp) view (Refused ChangesOutOfOrder) after = after ≡ view.lines
+RepliesToAnswer true true asked (Readable sdp) view Finished after =
+    (verdict view (Some asked) sdp ≡ None) × (after ≡ table_after view.lines (parsed_lines sdp) false)
+RepliesToAnswer true true asked (Readable sdp) view (Refused (RemoteSdp why)) after =
+    (verdict view (Some asked) sdp ≡ Some (RefusedSdp why)) × (after ≡ view.lines)
+RepliesToAnswer true true asked (Readable sdp) view (Refused (SdpRefused error)) after =
+    (verdict view (Some asked) sdp ≡ Some (RefusedAsSdp error)) × (after ≡ view.lines)
+RepliesToAnswer true true asked (Readable sdp) view (Refused (Dtls Fault)) after =
+    (verdict view (Some asked) sdp ≡ None) × (after ≡ view.lines)
+RepliesToAnswer true true asked (Readable sdp) view (Refused (Sctp error)) after =
+    (error ≡ Proto AssociationFault) × (verdict view (Some asked) sdp ≡ None) × (after ≡ view.lines)
+RepliesToAnswer true true asked (Readable sdp) view (Refused PeerAlloc) after = after ≡ view.lines
+RepliesToAnswer held right asked sdp view outcome after = ⊥
+
+-- what the offer of a token asks of its answer: the rows that it added, placed after the rows of its side, whether it restarted ICE, and
+-- whether it told a chunk for a start of the association
+abbrev pub asked_in : {E : Type 0} → Side → ℕ → List (Entry E) → Asked
+asked_in at t past = record {
+  added = added_by (length (before at past)) t past;
+  restarts = restarts_by t past;
+  says_init = init_told_by t past;
+}
+
+-- an input was taken, or a close begun, or either was refused
+abbrev pub is_handled : {E : Type 0} → Outcome E → Bool
+is_handled (Negotiated answers made) = false
+is_handled (Answered k) = false
+is_handled Finished = false
+is_handled Done = true
+is_handled (Wrote taken) = false
+is_handled (Polled outputs end) = false
+is_handled (Refused error) = true
+is_handled NoSuch = false
+is_handled Alloc = false
+
+-- a datagram was taken or refused, or is not there
+abbrev pub is_heard : {E : Type 0} → Outcome E → Bool
+is_heard (Negotiated answers made) = false
+is_heard (Answered k) = false
+is_heard Finished = false
+is_heard Done = true
+is_heard (Wrote taken) = false
+is_heard (Polled outputs end) = false
+is_heard (Refused error) = true
+is_heard NoSuch = true
+is_heard Alloc = false
+
+-- polls gave outputs, and something ended them
+abbrev pub is_polled : {E : Type 0} → Outcome E → Bool
+is_polled (Negotiated answers made) = false
+is_polled (Answered k) = false
+is_polled Finished = false
+is_polled Done = false
+is_polled (Wrote taken) = false
+is_polled (Polled outputs end) = true
+is_polled (Refused error) = false
+is_polled NoSuch = false
+is_polled Alloc = false
+
+-- whether an error is of the streams, or tells that memory ran out
+abbrev pub is_of_streams : RtcError → Bool
+is_of_streams (RemoteSdp why) = false
+is_of_streams (SdpRefused error) = false
+is_of_streams (Dtls error) = false
+is_of_streams (Sctp error) = true
+is_of_streams ChangesOutOfOrder = false
+is_of_streams (Net cause) = false
+is_of_streams (Media cause) = false
+is_of_streams NoChannel = false
+is_of_streams PeerAlloc = true
+
+-- a message was taken or not, or its write refused, or the channel is not open
+abbrev pub is_written : {E : Type 0} → Outcome E → Bool
+is_written (Negotiated answers made) = false
+is_written (Answered k) = false
+is_written Finished = false
+is_written Done = false
+is_written (Wrote taken) = true
+is_written (Polled outputs end) = false
+is_written (Refused error) = is_of_streams error
+is_written NoSuch = true
+is_written Alloc = false
+
+-- a channel was closed, or memory ran out in its close, or it is not open
+abbrev pub is_channel_closed : {E : Type 0} → Outcome E → Bool
+is_channel_closed (Negotiated answers made) = false
+is_channel_closed (Answered k) = false
+is_channel_closed Finished = false
+is_channel_closed Done = true
+is_channel_closed (Wrote taken) = false
+is_channel_closed (Polled outputs end) = false
+is_channel_closed (Refused error) = error_lacks error
+is_channel_closed NoSuch = true
+is_channel_closed Alloc = false
+
+-- the table that is shown has the lines from before
+abbrev pub ShowsOldLines : {E : Type 0} → Side → List (Entry E) → Table → Type 0
+ShowsOldLines at past table = table.lines ≡ before at past
+
+-- The outcome and table of a step after this past, given the SDP that it made, the sides of the fresh pair, and the sides between the
+-- past and the step. Negotiation shows the channels from before, and one more that waits for each that was added. Inputs, polls, writes and
+-- closes change no line.
+abbrev pub IsSound : {E : Type 0} → Stances → List (Entry E) → Stances → Step → Outcome E → Option Table → List MadeSdp → Type 0
+IsSound fresh past between (Time at now) outcome (Some table) said = (is_handled outcome ≡ true) × ShowsOldLines at past table
+IsSound fresh past between (Datagram at packet now) outcome (Some table) said = (is_heard outcome ≡ true) × ShowsOldLines at past table
+IsSound fresh past between (Poll at) outcome (Some table) said = (is_polled outcome ≡ true) × ShowsOldLines at past table
+IsSound fresh past between (Drain at) outcome (Some table) said = (is_polled outcome ≡ true) × ShowsOldLines at past table
+IsSound fresh past between (Write at channel binary bytes) outcome (Some table) said =
+    (is_written outcome ≡ true) × ShowsOldLines at past table
+IsSound fresh past between (CloseChannel at channel) outcome (Some table) said =
+    (is_channel_closed outcome ≡ true) × ShowsOldLines at past table
+IsSound fresh past between (Close at) outcome (Some table) said = (is_handled outcome ≡ true) × ShowsOldLines at past table
+IsSound fresh past between step Alloc None said = Unit {0}
+IsSound fresh past between (Negotiate at ops apply) (Negotiated answers made) (Some table) said =
+    OpsAnswered (at_first (between at) at past (new_app table.lines said)) ops answers table.lines
+    × MadeOf (apply && not (answers_lack answers)) (do_need_offer (has_app_row (before at past)) answers) made (length (sdps past))
+    × (table.channels ≡ channels_shown at past ++ rows_waiting answers)
+IsSound fresh past between (AcceptOffer at offer) outcome (Some table) said =
+    RepliesToOffer
+    (remote_sdp true at offer past) (view_in fresh at past (held_by (between at))) (length (sdps past)) outcome table.lines
+    × (table.channels ≡ channels_shown at past)
+IsSound fresh past between (AcceptAnswer at token answer) outcome (Some table) said =
+    RepliesToAnswer
+    (holds_token at token past) (is_right at token past) (asked_in at token past)
+    (remote_sdp false at answer past) (view_in fresh at past (held_by (between at))) outcome table.lines
+    × (table.channels ≡ channels_shown at past)
+IsSound fresh past between step outcome table said = ⊥

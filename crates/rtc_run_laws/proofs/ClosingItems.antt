@@ -1,0 +1,203 @@
+-- What an item that comes to an end of the plain association does to the closes of generations.
+use Rattle.std.proofs.Common.{◌≡◌, ◌∙◌, inl, inr, ◌+◌, ◌<◌, ◌==◌, ◌&&◌, ◌||◌, nat_lt, ℕ, not, cond, Bool, true, false, List, [], ◌∷◌, ◌++◌, append-nil, Option, Some, refl, sym, ap, subst, arith}
+use Rattle.std.proofs.lemmas.Bool.{eqb-true}
+use Rattle.std.proofs.lemmas.Bool.Decides.{nat_tests}
+use Rattle.rtc_assoc_packets.specs.declared.item.Item.{Item}
+use Rattle.rtc_assoc_packets.specs.declared.item_part.ItemPart.{ItemPart}
+use Rattle.rtc_assoc_packets.specs.declared.item_part.ItemPart.TheVariants.{More, Last, Close}
+use Rattle.rtc_assoc_packets.specs.declared.frame.Frame.{Frame}
+use Rattle.rtc_assoc_packets.specs.declared.frame.Frame.TheVariants.{Data}
+use Rattle.rtc_assoc_packets.specs.Pieces.{close_of}
+use Rattle.rtc_assoc_state.specs.declared.close_state.CloseState.{CloseState}
+use Rattle.rtc_assoc_state.specs.declared.close_state.CloseState.TheVariants.{Unclosed, Queued, Acknowledged}
+use Rattle.rtc_assoc_state.specs.declared.stream_row.StreamRow.{StreamRow}
+use Rattle.rtc_assoc_state.specs.Contents.{Contents, is_ending}
+use Rattle.rtc_assoc_state.specs.Streams.{is_closed_here, is_unclosed, put, reset_row, stream_of, takes_messages}
+use Rattle.rtc_assoc_state.specs.Outbox.{Outbox}
+use Rattle.rtc_assoc_state.specs.Settling.{can_reset}
+use Rattle.rtc_assoc_state.specs.Calls.{sent, item_counted, more_kept, last_kept, piece_kept, finished, reset_told, close_came_at, part_came, item_taken, is_ahead, item_came, answered}
+use Rattle.rtc_assoc_state.proofs.RaiseLemmas.{stream_of-stream}
+use Rattle.rtc_assoc.proofs.MessageLemmas.{Closes, HasClose, close-left}
+use Rattle.rtc_assoc.proofs.FrameLemmas.{Brings}
+use Rattle.rtc_run_laws.proofs.ClosingRows.{RowKeeps, row_answered, row_finished, row_more, row_next}
+use Rattle.rtc_run_laws.proofs.ClosingSteps.{TakeGo, take_as, take_put, take_same}
+
+-- an item is taken
+no_more : More ≡ Close → ⊥
+no_more h = cc
+
+no_last : Last ≡ Close → ⊥
+no_last h = cc
+
+module _ (n number : ℕ) (item : Item) (p : Contents) (number_is : number ≡ p.inbox.received + 1) where
+  abbrev old : StreamRow
+  old = stream_of item.stream p.streams
+
+  abbrev row : StreamRow
+  row = record (stream_of item.stream p.streams) { there = true }
+
+  row_is : (w r : List Item) → RowKeeps item.stream old p.outbox.items w r → RowKeeps item.stream row p.outbox.items w r
+  row_is w r h = record {
+    below = h.below;
+    own = h.own;
+    known = h.known;
+    queued = h.queued;
+    rests = h.rests;
+    follows = h.follows;
+    bounded = h.bounded;
+  }
+
+  own_stream : (s g : ℕ) → HasClose s g (item ∷ []) → s ≡ item.stream
+  own_stream s g (inl c) = sym c.stream_is
+  own_stream s g (inr c) = absurd c
+
+  brought : Brings p.inbox.received (item ∷ []) (Some (Data n number item))
+  brought = (refl, number_is, refl)
+
+  -- no close that tells anything
+  counted : (q : Contents) → q.streams ≡ p.streams → q.outbox ≡ p.outbox → q.inbox.received ≡ p.inbox.received
+      → ((g : ℕ) → Closes item.stream g item → g < row.generation) → TakeGo (Some (Data n number item)) p (item_counted row q)
+  unfolding item_counted
+  counted q s o i news =
+      take_put item.stream row [] (item ∷ []) (Some (Data n number item)) p (item_counted row q)
+      (record {
+        stream_is = stream_of-stream item.stream p.streams;
+        streams = ap (λ (l : List StreamRow). put row l) s;
+        acked = ap (λ (x : Outbox). x.acked) o;
+        items = ap (λ (x : Outbox). x.items) o ∙ sym (append-nil p.outbox.items);
+        received = omega (arith, i);
+        brings = brought;
+        own = own_stream;
+        keeps = λ w r h.
+            row_more item.stream old row p.outbox.items (p.outbox.items ++ []) w [] r (item ∷ [])
+            (record { generation_is = refl; close_is = refl; finished_is = refl }) (λ g c. close-left item.stream g p.outbox.items [] c)
+            (λ g c. inl (only g c)) h;
+      })
+    where
+      only : (g : ℕ) → HasClose item.stream g (item ∷ []) → g < row.generation
+      only g (inl c) = news g c
+      only g (inr c) = absurd c
+
+  kept : (part : ItemPart) (q : Contents) → TakeGo (Some (Data n number item)) p q → TakeGo (Some (Data n number item)) p (piece_kept part item q)
+  unfolding more_kept last_kept
+  kept Last q h = take_as (Some (Data n number item)) p q (last_kept item q) refl refl refl h
+  kept More q h = take_as (Some (Data n number item)) p q (more_kept item q) refl refl refl h
+  kept Close q h = take_as (Some (Data n number item)) p q (more_kept item q) refl refl refl h
+
+  piece_came : (b : Bool) → TakeGo (Some (Data n number item)) p (item_counted row p)
+      → TakeGo (Some (Data n number item)) p (cond b (piece_kept item.part item (item_counted row p)) (item_counted row p))
+  piece_came true h = kept item.part (item_counted row p) h
+  piece_came false h = h
+
+  -- a close of the generation that the stream has
+  module _ (part_is : item.part ≡ Close) (generation_is : item.generation ≡ row.generation) where
+    closes_it : Closes item.stream row.generation item
+    closes_it = record { part_is = part_is; stream_is = refl; generation_is = generation_is }
+
+    by_generation : (g : ℕ) → HasClose item.stream g (item ∷ []) → g ≡ row.generation
+    by_generation g (inl c) = sym c.generation_is ∙ generation_is
+    by_generation g (inr c) = absurd c
+
+    done : is_closed_here row ≡ true → (row.close ≡ Acknowledged → can_reset row ≡ false)
+        → TakeGo (Some (Data n number item)) p (item_counted (record row { finished = true }) (finished row p))
+    unfolding item_counted finished
+    done closed last =
+        take_put item.stream (record row { finished = true }) [] (item ∷ []) (Some (Data n number item)) p
+        (item_counted (record row { finished = true }) (finished row p))
+        (record {
+          stream_is = stream_of-stream item.stream p.streams;
+          streams = refl;
+          acked = refl;
+          items = sym (append-nil p.outbox.items);
+          received = refl;
+          brings = brought;
+          own = own_stream;
+          keeps = λ w r h.
+              row_finished item.stream row item p.outbox.items (p.outbox.items ++ []) w r (λ g c. close-left item.stream g p.outbox.items [] c) closed
+              last closes_it (row_is w r h);
+        })
+
+    reset : (b : Bool) → can_reset row ≡ b → is_closed_here row ≡ true → TakeGo (Some (Data n number item)) p
+        (cond b (reset_told row (item_counted (reset_row row) (finished row p))) (item_counted (record row { finished = true }) (finished row p)))
+    unfolding item_counted finished reset_told
+    reset true can closed =
+        take_put item.stream (reset_row row) [] (item ∷ []) (Some (Data n number item)) p (reset_told row (item_counted (reset_row row) (finished row p)))
+        (record {
+          stream_is = stream_of-stream item.stream p.streams;
+          streams = refl;
+          acked = refl;
+          items = sym (append-nil p.outbox.items);
+          received = refl;
+          brings = brought;
+          own = own_stream;
+          keeps = λ w r h.
+              row_next item.stream row p.outbox.items (p.outbox.items ++ []) w r (item ∷ []) closed can by_generation (row_is w r h);
+        })
+    reset false can closed = done closed (λ e. can)
+
+    answer : TakeGo (Some (Data n number item)) p (close_came_at Unclosed 0 row (finished row p))
+    unfolding item_counted finished sent
+    answer =
+        take_put item.stream (record row { close = Queued; finished = true }) (close_of row.stream row.generation ∷ []) (item ∷ [])
+        (Some (Data n number item)) p (close_came_at Unclosed 0 row (finished row p))
+        (record {
+          stream_is = stream_of-stream item.stream p.streams;
+          streams = refl;
+          acked = refl;
+          items = refl;
+          received = refl;
+          brings = brought;
+          own = own_stream;
+          keeps = λ w r h.
+              row_answered item.stream row (close_of row.stream row.generation) item p.outbox.items w r
+              (record { part_is = refl; stream_is = stream_of-stream item.stream p.streams; generation_is = refl }) closes_it (row_is w r h);
+        })
+
+    answered_at : (now : ℕ) → TakeGo (Some (Data n number item)) p (close_came_at Unclosed now row (finished row p))
+    unfolding sent
+    answered_at now =
+        take_as (Some (Data n number item)) p (close_came_at Unclosed 0 row (finished row p)) (close_came_at Unclosed now row (finished row p)) refl refl
+        refl answer
+
+    no_rest : Queued ≡ Acknowledged → ⊥
+    no_rest h = cc
+
+    close_at : (close : CloseState) (now : ℕ) → row.close ≡ close → TakeGo (Some (Data n number item)) p (close_came_at close now row (finished row p))
+    close_at Unclosed now is = answered_at now
+    close_at Queued now is = done (ap (λ (c : CloseState). not (is_unclosed c)) is) (λ e. absurd (no_rest (sym is ∙ e)))
+    close_at Acknowledged now is = reset (can_reset row) refl (ap (λ (c : CloseState). not (is_unclosed c)) is)
+
+  close_came : (b : Bool) (now : ℕ) → item.part ≡ Close → (item.generation == row.generation) ≡ b → is_ahead item p ≡ false
+      → TakeGo (Some (Data n number item)) p (cond b (close_came_at row.close now row (finished row p)) (item_counted row p))
+  close_came true now part_is e behind = close_at part_is (eqb-true item.generation row.generation e) row.close now refl
+  close_came false now part_is e behind =
+      counted p refl refl refl (λ g c. subst (λ (k : ℕ). k < row.generation) c.generation_is (below item.generation row.generation e behind))
+    where
+      below : (a b : ℕ) → (a == b) ≡ false → nat_lt b a ≡ false → a < b
+      below a b ne le = grind (arith, nat_tests, ne, le)
+
+  part_came_so : (part : ItemPart) (now : ℕ) → item.part ≡ part → is_ahead item p ≡ false
+      → TakeGo (Some (Data n number item)) p (part_came part now item row p)
+  part_came_so Close now is behind = close_came (item.generation == row.generation) now is refl behind
+  part_came_so More now is behind =
+      piece_came (takes_messages row item.generation) (counted p refl refl refl (λ g c. absurd (no_more (sym is ∙ c.part_is))))
+  part_came_so Last now is behind =
+      piece_came (takes_messages row item.generation) (counted p refl refl refl (λ g c. absurd (no_last (sym is ∙ c.part_is))))
+
+  item_taken_so : (now : ℕ) → is_ahead item p ≡ false → TakeGo (Some (Data n number item)) p (item_taken now item p)
+  item_taken_so now behind = part_came_so item.part now refl behind
+
+item_if : (next ending ahead : Bool) (n now number : ℕ) (item : Item) (p : Contents) → (number == p.inbox.received + 1) ≡ next → is_ahead item p ≡ ahead
+    → TakeGo (Some (Data n number item)) p (cond (next && not (ending || ahead)) (item_taken now item p) p)
+item_if true true ahead n now number item p e a = take_same (Some (Data n number item)) p p refl refl refl
+item_if true false true n now number item p e a = take_same (Some (Data n number item)) p p refl refl refl
+item_if true false false n now number item p e a = item_taken_so n number item p (eqb-true number (p.inbox.received + 1) e) now a
+item_if false ending ahead n now number item p e a = take_same (Some (Data n number item)) p p refl refl refl
+
+pub item_come : (n now number : ℕ) (item : Item) (p : Contents) → TakeGo (Some (Data n number item)) p (item_came now number item p)
+unfolding item_came
+item_come n now number item p = item_if (number == p.inbox.received + 1) (is_ending p) (is_ahead item p) n now number item p refl refl
+
+pub take_answered : (f : Option Frame) (p q : Contents) → TakeGo f p q → TakeGo f p (answered q)
+unfolding answered
+take_answered f p q h = take_as f p q (answered q) refl refl refl h

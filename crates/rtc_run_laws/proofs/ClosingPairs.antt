@@ -1,0 +1,284 @@
+-- Two ends of the plain association between which nothing is under way have each stream in one generation, and closed at neither.
+use Rattle.std.proofs.Common.{◌≡◌, ◌∙◌, ◌⊎◌, inl, inr, ◌<◌, ◌≤◌, ◌==◌, ◌||◌, nat_lt, ℕ, zero, suc, not, Bool, true, false, true≢false, List, [], ◌∷◌, ◌++◌, drop, take, length, append-nil, append_assoc, Option, Some, None, refl, sym, ap, subst, arith}
+use Rattle.std.proofs.lemmas.Bool.Decides.{leb_tells, nat_tests}
+use Rattle.std.proofs.lemmas.List.{append_cancel_left, take-append-le}
+use Rattle.rtc_part_values.specs.Among.{Among}
+use Rattle.rtc_part_association.specs.AssociationActs.{AssociationAct, Given, Taken, Moved}
+use Rattle.rtc_part_association.specs.AssociationWords.{ended, given, taken}
+use Rattle.rtc_assoc_packets.specs.declared.item.Item.{Item}
+use Rattle.rtc_assoc_packets.specs.declared.frame.Frame.{Frame}
+use Rattle.rtc_assoc_packets.specs.declared.frame.Frame.TheVariants.{Hello, Welcome, Data, Acknowledgement, Shutdown}
+use Rattle.rtc_assoc_state.specs.declared.close_state.CloseState.{CloseState}
+use Rattle.rtc_assoc_state.specs.declared.close_state.CloseState.TheVariants.{Unclosed, Queued, Acknowledged}
+use Rattle.rtc_assoc_state.specs.declared.stream_row.StreamRow.{StreamRow}
+use Rattle.rtc_assoc_state.specs.Contents.{Contents, closed_here, fresh_contents, generation_of, is_ending}
+use Rattle.rtc_assoc_state.specs.PlainMeaning.{plain_meaning}
+use Rattle.rtc_assoc_state.specs.Settling.{can_reset}
+use Rattle.rtc_assoc_state.specs.Streams.{LAST_GENERATION, any_at_last_generation, is_at_last_generation, is_closed_here, is_unclosed, stream_of}
+use Rattle.rtc_assoc.specs.Joined.{Ends, fresh_ends, Move, LeftMoves, RightMoves, Goes, Run}
+use Rattle.rtc_assoc.proofs.FrameLemmas.{Brings}
+use Rattle.rtc_assoc.proofs.CoreLemmas.{Causes, Step}
+use Rattle.rtc_assoc.proofs.StepLemmas.{step_of}
+use Rattle.rtc_assoc.proofs.DirectedLemmas.{Directed, brings_of, next_of, receiver_moves, sender_moves}
+use Rattle.rtc_assoc.proofs.RunLemmas.{both_run}
+use Rattle.rtc_run_laws.proofs.ClosingRows.{Keeps, RowKeeps}
+use Rattle.rtc_run_laws.proofs.ClosingEnds.{act_frame, act_go}
+use Rattle.rtc_run_laws.proofs.ClosingSteps.{EndGo}
+
+-- what each end sent the other in all, and what of closes that makes of their rows
+pub record Level (a b : Contents) (v u : List AssociationAct) : Type 0 where
+  pub there : List Item
+  pub back : List Item
+  pub forth_is : Directed there a b v u
+  pub back_is : Directed back b a u v
+  pub left : Keeps a.streams a.outbox.items there (take a.inbox.received back)
+  pub right : Keeps b.streams b.outbox.items back (take b.inbox.received there)
+
+level_swap : (a b : Contents) (v u : List AssociationAct) → Level a b v u → Level b a u v
+level_swap a b v u h = record { there = h.back; back = h.there; forth_is = h.back_is; back_is = h.forth_is; left = h.right; right = h.left }
+
+-- what came by an act, by its packet and its count
+no_length : (x : Item) (xs : List Item) → length (x ∷ xs) ≡ 0 → ⊥
+no_length x xs h = omega (arith, h)
+
+same_got : (f : Option Frame) (r : ℕ) (xs ys : List Item) → Brings r xs f → Brings r ys f → length xs ≡ length ys → xs ≡ ys
+same_got f r [] [] h k e = refl
+same_got f r [] (y ∷ ys) h k e = absurd (no_length y ys (sym e))
+same_got f r (x ∷ xs) [] h k e = absurd (no_length x xs e)
+same_got None r (x ∷ xs) (y ∷ ys) h k e = absurd h
+same_got (Some Hello) r (x ∷ xs) (y ∷ ys) h k e = absurd h
+same_got (Some Welcome) r (x ∷ xs) (y ∷ ys) h k e = absurd h
+same_got (Some (Data n number item)) r (x ∷ xs) (y ∷ ys) h k e =
+    ap (λ (i : Item). i ∷ xs) (h.0 ∙ sym k.0) ∙ ap (λ (l : List Item). y ∷ l) (h.2 ∙ sym k.2)
+same_got (Some (Acknowledgement n)) r (x ∷ xs) (y ∷ ys) h k e = absurd h
+same_got (Some Shutdown) r (x ∷ xs) (y ∷ ys) h k e = absurd h
+
+brings_nil : (r : ℕ) (got : List Item) → got ≡ [] → Brings r got None
+brings_nil r got e = subst (λ (l : List Item). Brings r l None) (sym e) tt
+
+brings_by : (act : AssociationAct) (p : Contents) (count : ℕ) (got : List Item) → Causes p act count got → Brings p.inbox.received got (act_frame act)
+brings_by (Given b) p count got h = h.1
+brings_by (Taken b) p count got h = brings_nil p.inbox.received got h.1
+brings_by (_) p count got h = brings_nil p.inbox.received got h.1
+
+-- one end acts
+swapped : (v u : List AssociationAct) (t g : ℕ) → (ended t g u ≡ true) ⊎ (ended t g v ≡ true) → (ended t g v ≡ true) ⊎ (ended t g u ≡ true)
+swapped v u t g (inl e) = inr e
+swapped v u t g (inr e) = inl e
+
+level_step : (a c b : Contents) (act : AssociationAct) (v u : List AssociationAct) → EndGo (act_frame act) a c → Step a act c
+    → Among (given (act ∷ [])) (taken u) → Level a b v u → Level c b (v ++ act ∷ []) u
+level_step a c b act v u k s m h = record {
+  there = h.there ++ s.core.more;
+  back = h.back;
+  forth_is =
+      sender_moves h.there a c b act v u s m (λ t g x. swapped v u t g (brings_of h.back b a c act u v s m h.back_is t g x)) h.forth_is;
+  back_is = receiver_moves h.back b a c act u v s m h.back_is;
+  left =
+      subst (λ (l : List Item). Keeps c.streams c.outbox.items (h.there ++ l) (take c.inbox.received h.back)) more_is
+      (subst (λ (l : List Item). Keeps c.streams c.outbox.items (h.there ++ k.more) l) (sym came) (k.keeps h.there (take a.inbox.received h.back) h.left));
+  right =
+      subst (λ (l : List Item). Keeps b.streams b.outbox.items h.back l)
+      (sym (take-append-le b.inbox.received h.there s.core.more h.forth_is.receiver.within)) h.right;
+}
+  where
+    count_is : k.count ≡ s.core.count
+    count_is = let x = k.acked in let y = s.core.acked in omega (arith, x, y)
+
+    more_is : k.more ≡ s.core.more
+    more_is =
+        append_cancel_left (drop s.core.count a.outbox.items) k.more s.core.more
+        (ap (λ (n : ℕ). drop n a.outbox.items ++ k.more) (sym count_is) ∙ sym k.items ∙ s.core.items)
+
+    got_is : k.got ≡ s.core.got
+    got_is =
+        same_got (act_frame act) a.inbox.received k.got s.core.got k.brings (brings_by act a s.core.count s.core.got s.core.causes)
+        (let x = k.received in let y = s.core.gets.count in omega (arith, x, y))
+
+    came : take c.inbox.received h.back ≡ take a.inbox.received h.back ++ k.got
+    came =
+        ap (λ (n : ℕ). take n h.back) s.core.gets.count ∙ (next_of h.back b a c act u v s m h.back_is).is
+        ∙ ap (λ (l : List Item). take a.inbox.received h.back ++ l) (sym got_is)
+
+pub among_first : (act : AssociationAct) (acts : List AssociationAct) (packets : List (List ℕ)) → Among (given (act ∷ acts)) packets
+    → Among (given (act ∷ [])) packets
+among_first (Given b) acts packets m = record { each = λ x k. elim k [ inl e ↦ m.each x (inl e) | inr n ↦ absurd n ] }
+among_first (_) acts packets m = record { each = λ x k. absurd k }
+
+pub among_rest : (act : AssociationAct) (acts : List AssociationAct) (packets : List (List ℕ)) → Among (given (act ∷ acts)) packets
+    → Among (given acts) packets
+among_rest (Given b) acts packets m = record { each = λ x k. m.each x (inr k) }
+among_rest (_) acts packets m = m
+
+level_acts : (a c b : Contents) (acts v u : List AssociationAct) → Moved plain_meaning a acts c → Among (given acts) (taken u) → Level a b v u
+    → Level c b (v ++ acts) u
+level_acts a c b [] v u h m k =
+    subst (λ (x : Contents). Level x b (v ++ []) u) (sym h) (subst (λ (l : List AssociationAct). Level a b l u) (sym (append-nil v)) k)
+level_acts a c b (act ∷ acts) v u h m k =
+    let first : Level h.0 b (v ++ act ∷ []) u =
+    level_step a h.0 b act v u (act_go a h.0 act h.1.0) (step_of a h.0 act h.1.0) (among_first act acts (taken u) m) k in
+    subst (λ (l : List AssociationAct). Level c b l u) (append_assoc v (act ∷ []) acts)
+    (level_acts h.0 c b acts (v ++ act ∷ []) u h.1.1 (among_rest act acts (taken u) m) first)
+
+level_goes : (d e : Ends) (move : Move) → Goes d move e → Level d.left d.right d.left_acts d.right_acts → Level e.left e.right e.left_acts e.right_acts
+level_goes d e (LeftMoves acts) g h =
+    let P : Ends → Type 0 = λ x. Level x.left x.right x.left_acts x.right_acts in
+    subst P (sym g.2) (level_acts d.left e.left d.right acts d.left_acts d.right_acts g.0 g.1 h)
+level_goes d e (RightMoves acts) g h =
+    let P : Ends → Type 0 = λ x. Level x.left x.right x.left_acts x.right_acts in
+    subst P (sym g.2)
+    (level_swap e.right d.left (d.right_acts ++ acts) d.left_acts
+    (level_acts d.right e.right d.left acts d.right_acts d.left_acts g.0 g.1 (level_swap d.left d.right d.left_acts d.right_acts h)))
+
+no_open : Unclosed ≡ Queued → ⊥
+no_open h = cc
+
+no_open_rest : Unclosed ≡ Acknowledged → ⊥
+no_open_rest h = cc
+
+least : (n : ℕ) → 0 ≤ n
+least n = omega arith
+
+keeps_fresh : (w : List Item) → Keeps [] [] w []
+keeps_fresh w = λ s. record {
+  below = λ g less. absurd (omega (arith, less));
+  own = λ e. absurd (true≢false (sym e));
+  known = λ g c. absurd c;
+  queued = λ e. absurd (no_open e);
+  rests = λ e f. absurd (no_open_rest e);
+  follows = λ e. absurd (true≢false (sym e));
+  bounded = least LAST_GENERATION;
+}
+
+level_fresh : Level fresh_contents fresh_contents [] []
+level_fresh =
+    let h = both_run [] fresh_ends refl in
+    record { there = h.there; back = h.back; forth_is = h.forth_is; back_is = h.back_is; left = keeps_fresh h.there; right = keeps_fresh h.back }
+
+pub level_run : (moves : List Move) (e : Ends) → Run moves e → Level e.left e.right e.left_acts e.right_acts
+level_run [] e r = let P : Ends → Type 0 = λ x. Level x.left x.right x.left_acts x.right_acts in subst P (sym r) level_fresh
+level_run (move ∷ moves) e r = level_goes r.0 e move r.1.1 (level_run moves r.0 r.1.0)
+
+-- ---- nothing is under way
+
+-- a row by which neither end closed its generation
+record LevelRows (x y : StreamRow) : Type 0 where
+  generation_is : y.generation ≡ x.generation
+  here : is_closed_here x ≡ false
+  there : is_closed_here y ≡ false
+
+not_less : (n : ℕ) → n < n → ⊥
+not_less n h = omega (arith, h)
+
+-- with nothing unacknowledged, the other end's close of the own generation has not come
+not_finished : (s : ℕ) (x : StreamRow) (w r : List Item) → RowKeeps s x [] w r → (can_reset x ≡ false → ⊥) → x.finished ≡ true → ⊥
+not_finished s x w r h lasts f = by x.close refl
+  where
+    closed : is_closed_here x ≡ true
+    closed = h.follows f
+
+    no_closed : (c : CloseState) → x.close ≡ c → is_unclosed c ≡ true → ⊥
+    no_closed c e o = absurd (true≢false (sym closed ∙ ap (λ (d : CloseState). not (is_unclosed d)) e ∙ ap not o))
+
+    by : (c : CloseState) → x.close ≡ c → ⊥
+    by Unclosed e = no_closed Unclosed e refl
+    by Queued e = h.queued e
+    by Acknowledged e = lasts (h.rests e f)
+
+not_behind : (s : ℕ) (x y : StreamRow) (w r : List Item) → RowKeeps s x [] w r → RowKeeps s y [] r w → (can_reset x ≡ false → ⊥)
+    → x.generation < y.generation → ⊥
+not_behind s x y w r h k lasts less = by (h.known x.generation (k.below x.generation less))
+  where
+    by : (x.generation < x.generation) ⊎ ((x.generation ≡ x.generation) × (x.finished ≡ true)) → ⊥
+    by (inl m) = not_less x.generation m
+    by (inr m) = not_finished s x w r h lasts m.1
+
+not_closed_there : (s : ℕ) (x y : StreamRow) (w r : List Item) → RowKeeps s x [] w r → RowKeeps s y [] r w → (can_reset y ≡ false → ⊥)
+    → y.generation ≡ x.generation → is_closed_here x ≡ true → ⊥
+not_closed_there s x y w r h k lasts same closed = by (k.known x.generation (h.own closed))
+  where
+    by : (x.generation < y.generation) ⊎ ((x.generation ≡ y.generation) × (y.finished ≡ true)) → ⊥
+    by (inl m) = not_less x.generation (subst (λ (n : ℕ). x.generation < n) same m)
+    by (inr m) = not_finished s y r w k lasts m.1
+
+false_by : (b : Bool) → (b ≡ true → ⊥) → b ≡ false
+false_by true h = absurd (h refl)
+false_by false h = refl
+
+by_order : (n k : ℕ) → (n < k → ⊥) → (k < n → ⊥) → k ≡ n
+by_order n k f g = elim (leb_tells n k) [
+  | inl e ↦ elim (leb_tells k n) [ inl d ↦ (let x = e.1 in let y = d.1 in omega (arith, x, y)) | inr d ↦ absurd (f d.1) ]
+  | inr e ↦ absurd (g e.1)
+]
+
+level_rows : (s : ℕ) (x y : StreamRow) (w r : List Item) → RowKeeps s x [] w r → RowKeeps s y [] r w → (can_reset x ≡ false → ⊥)
+    → (can_reset y ≡ false → ⊥) → LevelRows x y
+level_rows s x y w r h k here there =
+    let same : y.generation ≡ x.generation =
+    by_order x.generation y.generation (not_behind s x y w r h k here) (not_behind s y x r w k h there) in
+    record {
+      generation_is = same;
+      here = false_by (is_closed_here x) (not_closed_there s x y w r h k there same);
+      there = false_by (is_closed_here y) (not_closed_there s y x r w k h here (sym same));
+    }
+
+-- at the last generation the association is closing
+at_last : (n l : ℕ) → nat_lt n l ≡ false → n ≤ l → (n == l) ≡ true
+at_last n l h k = grind (arith, nat_tests, h, k)
+
+or_left : (a b : Bool) → a ≡ true → (a || b) ≡ true
+or_left a b e = rw e refl
+
+or_right : (a b : Bool) → b ≡ true → (a || b) ≡ true
+or_right true b e = refl
+or_right false b e = e
+
+any_stream : (s : ℕ) (streams : List StreamRow) → is_at_last_generation (stream_of s streams) ≡ true → any_at_last_generation streams ≡ true
+any_stream s [] h = absurd (true≢false (sym h))
+any_stream s (row ∷ rows) h = by (row.stream == s) refl (any_stream s rows)
+  where
+    by : (b : Bool) → (row.stream == s) ≡ b
+        → (is_at_last_generation (stream_of s rows) ≡ true → any_at_last_generation rows ≡ true) → (is_at_last_generation row || any_at_last_generation rows) ≡ true
+    by true e rest = or_left (is_at_last_generation row) (any_at_last_generation rows) (rw e at h)
+    by false e rest = or_right (is_at_last_generation row) (any_at_last_generation rows) (rest (rw e at h))
+
+can_not : (p : Contents) (s : ℕ) (items w r : List Item) → RowKeeps s (stream_of s p.streams) items w r → is_ending p ≡ false
+    → can_reset (stream_of s p.streams) ≡ false → ⊥
+can_not p s items w r h lasting e =
+    true≢false
+    (sym (or_left _ p.standing.lost (or_right _ (any_at_last_generation p.streams)
+    (any_stream s p.streams (at_last (stream_of s p.streams).generation LAST_GENERATION e h.bounded)))) ∙ lasting)
+
+take-whole : (n : ℕ) (xs : List Item) → n ≡ length xs → take n xs ≡ xs
+take-whole zero [] e = refl
+take-whole (suc n) [] e = refl
+take-whole zero (x ∷ xs) e = absurd (no_length x xs (sym e))
+take-whole (suc n) (x ∷ xs) e = ap (λ (l : List Item). x ∷ l) (take-whole n xs (omega (arith, e)))
+
+came_whole : (w : List Item) (a b : Contents) (v u : List AssociationAct) → Directed w a b v u → a.outbox.items ≡ [] → take b.inbox.received w ≡ w
+came_whole w a b v u h none =
+    let count = h.sender.count in
+    let empty : length a.outbox.items ≡ 0 = ap length none in
+    let behind = h.sender.behind in
+    let within = h.receiver.within in
+    take-whole b.inbox.received w (omega (arith, count, empty, behind, within))
+
+-- two ends of which neither has an unacknowledged item or is closing or closed have a stream in one generation, and neither closed it
+pub record LevelStream (a b : Contents) (s : ℕ) : Type 0 where
+  pub generation_is : generation_of b s ≡ generation_of a s
+  pub here : closed_here a s ≡ false
+  pub there : closed_here b s ≡ false
+
+pub level_rest : (a b : Contents) (v u : List AssociationAct) → Level a b v u → a.outbox.items ≡ [] → b.outbox.items ≡ [] → is_ending a ≡ false
+    → is_ending b ≡ false → (s : ℕ) → LevelStream a b s
+level_rest a b v u h none nothing lasting lasts s =
+    let left : Keeps a.streams [] h.there h.back =
+    subst (λ (l : List Item). Keeps a.streams l h.there h.back) none
+    (subst (λ (l : List Item). Keeps a.streams a.outbox.items h.there l) (came_whole h.back b a u v h.back_is nothing) h.left) in
+    let right : Keeps b.streams [] h.back h.there =
+    subst (λ (l : List Item). Keeps b.streams l h.back h.there) nothing
+    (subst (λ (l : List Item). Keeps b.streams b.outbox.items h.back l) (came_whole h.there a b v u h.forth_is none) h.right) in
+    let rows : LevelRows (stream_of s a.streams) (stream_of s b.streams) =
+    level_rows s (stream_of s a.streams) (stream_of s b.streams) h.there h.back (left s) (right s) (can_not a s [] h.there h.back (left s) lasting)
+    (can_not b s [] h.back h.there (right s) lasts) in
+    record { generation_is = rows.generation_is; here = rows.here; there = rows.there }

@@ -1,0 +1,145 @@
+-- Where a side was drained, all was got that was sent.
+use Rattle.std.proofs.Common.{◌≡◌, ◌∙◌, ◌∷◌, ap, if◌then◌else◌, ℕ, Bool, false, true≢false, List, [], refl, sym, subst}
+use Rattle.rtc_part_association.specs.AssociationActs.{LimitsSet, Stirred}
+use Rattle.rtc_part_values.specs.Why.{Other}
+use Rattle.rtc_assoc_state.proofs.PlainLaws.{plain_laws}
+use Rattle.rtc_assoc_state.specs.Contents.{Contents, fresh_contents, is_started}
+use Rattle.rtc_plain_dtls.specs.Contents.{DtlsContents}
+use Rattle.rtc_plain_ice.specs.Contents.{IceContents}
+use Rattle.rtc_plain_media.specs.MediaContents.{MediaContents}
+use Rattle.rtc_plain_media.specs.declared.plain_media_event.PlainMediaEvent.{PlainMediaEvent}
+use Rattle.rtc_part_draws.specs.Draws.{Draws}
+use Rattle.rtc_sctp.specs.Streams.{SctpStreams}
+use Rattle.rtc_peer_core.specs.declared.peer.Peer.{Peer}
+use Rattle.rtc_run_history.specs.declared.outcome.Outcome.{Outcome}
+use Rattle.rtc_run_history.specs.declared.reply.Reply.{Reply}
+use Rattle.rtc_run_history.specs.declared.side.Side.{Side}
+use Rattle.rtc_run_history.specs.declared.side.Side.TheVariants.{Left, Right}
+use Rattle.rtc_run_history.specs.declared.step.Step.{Step}
+use Rattle.rtc_run_history.specs.PairState.{rtc_at}
+use Rattle.rtc_run_history.specs.Past.{Entry}
+use Rattle.rtc_run_history.specs.Runs.{Reached, Runs}
+use Rattle.rtc_run_history.specs.Sides.{other_side, same_side, side_of}
+use Rattle.rtc_run_history.specs.Performs.{Enters}
+use Rattle.rtc_run_laws.proofs.EmptyStreams.{AreUnused, went_unused}
+use Rattle.rtc_run_laws.proofs.UnusedStreams.{IsUnused}
+use Rattle.rtc_run_laws.specs.NewPairs.{IsNewPair, IsNewPeer}
+use Rattle.rtc_run_laws.specs.PlainPairs.{PlainPair, PlainPolled, plain_over}
+use Rattle.rtc_run_laws.proofs.StepsExchange.{plain_over_laws}
+use Rattle.rtc_run_laws.specs.ChannelUses.{ChannelUse}
+use Rattle.rtc_run_laws.specs.DrainedSides.{DrainedByEntry, DrainedByStep, IsDrained}
+use Rattle.rtc_run_laws.specs.HandedOut.{AreAllHandedOut, HandsOut}
+use Rattle.rtc_run_laws.specs.SentMessages.{sent_over}
+use Rattle.rtc_run_laws.specs.ToldMessages.{MessagesTold, told_over}
+use Rattle.rtc_run_laws.specs.UsesOfRuns.{reached_by, uses_acted, uses_in_run, uses_of}
+use Rattle.rtc_run_laws.proofs.DrainedSteps.{acts_heard}
+use Rattle.rtc_run_laws.proofs.HeardSides.{HeardSide, heard_there}
+use Rattle.rtc_run_laws.proofs.StandingSides.{Sent}
+use Rattle.rtc_run_laws.proofs.RunsTold.{PairTold, StoodIn, new_pair_told, pair_handed, pair_once, pair_told_whole, pair_whole, pair_wholly, reached_told, stood_in}
+
+module _ {N : Type 0} (draws : Draws N) where
+  -- a new pair has no stream in use, and has started no association
+  new_streams : (p : PlainPolled N) (h : IsNewPeer draws p.core) → p.core.sctp ≡ h.built.sctp
+  new_streams p h = ap (λ (x : Peer IceContents DtlsContents Contents MediaContents N). x.sctp) h.rest
+
+  pub new_unstarted : (p : PlainPolled N) → IsNewPeer draws p.core → is_started p.core.sctp.association ≡ false
+  new_unstarted p h =
+      ap (λ (x : SctpStreams Contents). is_started x.association) (new_streams p h)
+      ∙ (plain_laws.same_start fresh_contents h.built.sctp.association (Stirred Other) refl
+      (LimitsSet 1062 h.config.max_message_size h.by_build.by_limits)).0
+
+  new_empty : (p : PlainPolled N) → IsNewPeer draws p.core → IsUnused (plain_over draws) (plain_over_laws draws) p.core
+  new_empty p h = record {
+    empty = λ unstarted.
+        ap (λ (x : SctpStreams Contents). x.entries) (new_streams p h)
+        ∙ ap (λ (x : SctpStreams Contents). x.entries) h.by_build.streams;
+    role = λ started. absurd (true≢false (sym started ∙ new_unstarted p h));
+  }
+
+  pub new_unused : (pair : PlainPair N) → IsNewPair draws pair → AreUnused (plain_over draws) (plain_over_laws draws) pair
+  new_unused pair h Left = new_empty pair.left h.left
+  new_unused pair h Right = new_empty pair.right h.right
+
+  -- a step of one side, as either of them sees it
+  heard_after : (at x : Side) (between pair : PlainPair N) (uses : Side → List ChannelUse) (acted : List ChannelUse → List ChannelUse) (step : Step)
+      (outcome : Outcome PlainMediaEvent) (earlier : Side → Type 0) → rtc_at (other_side at) pair ≡ rtc_at (other_side at) between
+      → ((earlier at → HeardSide (uses at) (rtc_at at between)) → DrainedByStep step outcome (earlier at)
+      → HeardSide (acted (uses at)) (rtc_at at pair))
+      → (earlier x → HeardSide (uses x) (rtc_at x between))
+      → DrainedByEntry (same_side at x) step outcome (earlier x)
+      → HeardSide (if same_side at x then acted (uses x) else uses x) (rtc_at x pair)
+  heard_after Left Left between pair uses acted step outcome earlier other acts before d = acts before d
+  heard_after Left Right between pair uses acted step outcome earlier other acts before d =
+      subst (λ (p : PlainPolled N). HeardSide (uses Right) p) (sym other) (before d)
+  heard_after Right Left between pair uses acted step outcome earlier other acts before d =
+      subst (λ (p : PlainPolled N). HeardSide (uses Left) p) (sym other) (before d)
+  heard_after Right Right between pair uses acted step outcome earlier other acts before d = acts before d
+
+  heard_reached : (stun : List ℕ → Bool) (start : PlainPair N) (past : List (Entry PlainMediaEvent)) (pair : PlainPair N)
+      (ran : Reached (plain_over draws) stun start past pair) → PairTold draws start (λ x. []) (λ x s g. []) (λ x c s g. []) → AreUnused (plain_over draws) (plain_over_laws draws) start
+      → (at : Side) → IsDrained at past → HeardSide (uses_of (plain_over draws) stun start at past pair ran) (rtc_at at pair)
+  heard_reached stun start [] pair ran h unused at d = absurd d
+  heard_reached stun start (entry ∷ past) pair ran h unused at d =
+      heard_after (side_of entry.step) at ran.0 pair uses acted entry.step entry.outcome
+      (λ x. IsDrained x past) ran.2.performs.other
+      (λ before e.
+      acts_heard draws there.other (rtc_at (other_side (side_of entry.step)) ran.0) (sent (side_of entry.step)) stun entry.step (rtc_at (side_of entry.step) ran.0) ran.0.sdps
+      ran.0.packets entry.outcome entry.table (rtc_at (side_of entry.step) pair) pair.sdps pair.packets (uses (side_of entry.step))
+      (told (side_of entry.step)) ran.2.performs.acts there.stood (IsDrained (side_of entry.step) past) before e
+      (empty (side_of entry.step)))
+      (λ e. heard_reached stun start past ran.0 ran.1 h unused at e) d
+    where
+      uses : Side → List ChannelUse
+      uses x = uses_of (plain_over draws) stun start x past ran.0 ran.1
+
+      sent : Side → Sent
+      sent x = sent_over (plain_over draws) stun start x past ran.0 ran.1
+
+      told : Side → MessagesTold
+      told x = told_over (plain_over draws) stun start x past ran.0 ran.1
+
+      acted : List ChannelUse → List ChannelUse
+      acted l =
+          uses_acted (plain_over draws) stun entry.step (rtc_at (side_of entry.step) ran.0) ran.0.sdps ran.0.packets entry.outcome entry.table
+          (rtc_at (side_of entry.step) pair) pair.sdps pair.packets ran.2.performs.acts l
+
+      empty : AreUnused (plain_over draws) (plain_over_laws draws) pair
+      empty =
+          went_unused (plain_over draws) (plain_over_laws draws) (λ earlier between one after. Enters (plain_over draws) stun between one after)
+          (λ earlier between one after k. (stun, k)) start (entry ∷ past) pair unused ran
+
+      there : StoodIn draws (side_of entry.step) ran.0 uses sent told
+      there = stood_in draws (side_of entry.step) ran.0 uses sent told (reached_told draws stun start past ran.0 ran.1 h)
+
+  pub pair_drained : (stun : List ℕ → Bool) (start : PlainPair N) (past : List (Entry PlainMediaEvent)) (pair : PlainPair N)
+      (ran : Reached (plain_over draws) stun start past pair) → PairTold draws start (λ x. []) (λ x s g. []) (λ x c s g. []) → AreUnused (plain_over draws) (plain_over_laws draws) start
+      → (at : Side) → IsDrained at past
+      → AreAllHandedOut draws (uses_of (plain_over draws) stun start at past pair ran) (rtc_at at pair)
+      (uses_of (plain_over draws) stun start (other_side at) past pair ran) (rtc_at (other_side at) pair)
+  pair_drained stun start past pair ran h unused at d = λ x y mine theirs joined acknowledged.
+      pair_wholly draws pair (λ z. uses_of (plain_over draws) stun start z past pair ran) (λ z. sent_over (plain_over draws) stun start z past pair ran)
+      (λ z. told_over (plain_over draws) stun start z past pair ran) at (reached_told draws stun start past pair ran h) x y mine theirs
+      joined acknowledged
+      (heard_there draws (uses_of (plain_over draws) stun start at past pair ran) (rtc_at at pair) x (heard_reached stun start past pair ran h unused at d) mine
+      joined.reader_in_band joined.reader)
+
+  pub run_hands_out : (stun : List ℕ → Bool) (start pair : PlainPair N) (steps : List Step) (replies : List (Reply PlainMediaEvent)) → IsNewPair draws start
+      → (run : Runs (plain_over draws) stun start steps replies pair) → HandsOut draws stun start steps replies pair run
+  run_hands_out stun start pair steps replies new run =
+      let ran : Reached (plain_over draws) stun start run.past pair = reached_by (plain_over draws) stun start run.past pair run.went in
+      let told : PairTold draws pair (uses_in_run (plain_over draws) stun start steps replies pair run) (λ z. sent_over (plain_over draws) stun start z run.past pair ran)
+      (λ z. told_over (plain_over draws) stun start z run.past pair ran) =
+      reached_told draws stun start run.past pair ran (new_pair_told draws start new) in
+      record {
+        once = λ at. pair_once draws pair (uses_in_run (plain_over draws) stun start steps replies pair run) (λ z. sent_over (plain_over draws) stun start z run.past pair ran)
+            (λ z. told_over (plain_over draws) stun start z run.past pair ran) at told;
+        whole = λ at. pair_whole draws pair (uses_in_run (plain_over draws) stun start steps replies pair run) (λ z. sent_over (plain_over draws) stun start z run.past pair ran)
+            (λ z. told_over (plain_over draws) stun start z run.past pair ran) at told;
+        told = λ at. pair_told_whole draws pair (uses_in_run (plain_over draws) stun start steps replies pair run) (λ z. sent_over (plain_over draws) stun start z run.past pair ran)
+            (λ z. told_over (plain_over draws) stun start z run.past pair ran) at told;
+        handed = λ at. pair_handed draws pair (uses_in_run (plain_over draws) stun start steps replies pair run) (λ z. sent_over (plain_over draws) stun start z run.past pair ran)
+            (λ z. told_over (plain_over draws) stun start z run.past pair ran) at told;
+        all = λ at. pair_wholly draws pair (uses_in_run (plain_over draws) stun start steps replies pair run) (λ z. sent_over (plain_over draws) stun start z run.past pair ran)
+            (λ z. told_over (plain_over draws) stun start z run.past pair ran) at told;
+        drained = λ at d. pair_drained stun start run.past pair ran (new_pair_told draws start new) (new_unused start new) at d;
+      }

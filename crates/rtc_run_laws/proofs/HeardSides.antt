@@ -1,0 +1,115 @@
+-- A side of which no announced channel has a whole message unread: it stays so until more comes.
+use Rattle.std.proofs.Common.{◌≡◌, ◌∙◌, ◌⊎◌, ℕ, Bool, true, false, true≢false, List, [], Some, None, inl, inr, refl, sym, ap, subst}
+use Rattle.rtc_part_association.specs.AssociationWords.{given}
+use Rattle.rtc_part_values.specs.Among.{Member}
+use Rattle.rtc_part_dtls.specs.DtlsWords.{dtls_got}
+use Rattle.rtc_assoc_state.specs.Contents.{Contents, generation_of, has_unread}
+use Rattle.rtc_part_draws.specs.Draws.{Draws}
+use Rattle.rtc_sctp_laws.specs.StreamMessages.{StreamMessage}
+use Rattle.rtc_peer_core.specs.declared.phase.Phase.TheVariants.{Closed}
+use Rattle.rtc_peer_laws.specs.Acts.{PeerDid}
+use Rattle.rtc_peer_laws.specs.ChannelStreams.{IsGone}
+use Rattle.rtc_peer_laws.specs.PeerActs.{Came}
+use Rattle.rtc_peer_laws.proofs.ChannelsOver.{none_under}
+use Rattle.rtc_run_laws.specs.PlainPairs.{PlainPolled, plain_over}
+use Rattle.rtc_run_laws.specs.ChannelUses.{ChannelUse, with_got_message, with_sent_message}
+use Rattle.rtc_run_laws.specs.OpenUses.{StaysOpen}
+use Rattle.rtc_run_laws.proofs.FinishedSides.{none_among}
+use Rattle.rtc_run_laws.proofs.QuietActs.{HoldsNoOutput, StaysHeard, dtls_quiet, quiet_moved}
+use Rattle.rtc_run_laws.proofs.OpenStreams.{open_free, open_placed}
+use Rattle.rtc_run_laws.proofs.UseLists.{AllUses, all_got, all_kept, all_member, all_sent}
+
+-- a stream of which nothing stands unread, by acts that bring nothing
+still_heard : (a b : Contents) (s : ℕ) → StaysHeard a b → has_unread a s (generation_of a s) ≡ false → has_unread b s (generation_of b s) ≡ false
+still_heard a b s h none = ap (λ (n : ℕ). has_unread b s n) (h.same s) ∙ by (has_unread b s (generation_of a s)) refl
+  where
+    by : (c : Bool) → has_unread b s (generation_of a s) ≡ c → c ≡ false
+    by true e = absurd (true≢false (sym (h.unraised s (generation_of a s) e) ∙ none))
+    by false e = refl
+
+-- the channel has gone, or no whole message of the generation of its stream stands unread
+abbrev pub HeardUse : {N : Type 0} → PlainPolled N → ChannelUse → Type 0
+HeardUse p x =
+    x.in_band ≡ true
+    → (s : ℕ)
+    → x.stream ≡ Some s
+    → IsGone x.channel p.core.channels ⊎ (has_unread p.core.sctp.association s (generation_of p.core.sctp.association s) ≡ false)
+
+pub record HeardUses {N : Type 0} (uses : List ChannelUse) (p : PlainPolled N) : Type 0 where
+  pub quiet : HoldsNoOutput p.core.dtls.instance
+  pub each : AllUses (HeardUse p) uses
+
+-- the channel has gone, where it was opened in-band
+abbrev pub GoneUse : {N : Type 0} → PlainPolled N → ChannelUse → Type 0
+GoneUse p x = x.in_band ≡ true → IsGone x.channel p.core.channels
+
+abbrev pub HeardSide : {N : Type 0} → List ChannelUse → PlainPolled N → Type 0
+HeardSide uses p = (p.core.phase ≡ Closed) ⊎ (HeardUses uses p ⊎ AllUses (GoneUse p) uses)
+
+pub heard_got : {N : Type 0} (c : ℕ) (message : Bool × List ℕ) (uses : List ChannelUse) (p : PlainPolled N) → HeardSide uses p
+    → HeardSide (with_got_message c message uses) p
+heard_got c message uses p (inl closed) = inl closed
+heard_got c message uses p (inr (inl h)) =
+    inr (inl (record { quiet = h.quiet; each = all_got (HeardUse p) (HeardUse p) c message uses (λ x e k. k) (λ x e k. k) h.each }))
+heard_got c message uses p (inr (inr gone)) = inr (inr (all_got (GoneUse p) (GoneUse p) c message uses (λ x e k. k) (λ x e k. k) gone))
+
+pub heard_sent : {N : Type 0} (c : ℕ) (message : Bool × List ℕ) (uses : List ChannelUse) (p : PlainPolled N) → HeardSide uses p
+    → HeardSide (with_sent_message c message uses) p
+heard_sent c message uses p (inl closed) = inl closed
+heard_sent c message uses p (inr (inl h)) =
+    inr (inl (record { quiet = h.quiet; each = all_sent (HeardUse p) (HeardUse p) c message uses (λ x e k. k) (λ x e k. k) h.each }))
+heard_sent c message uses p (inr (inr gone)) = inr (inr (all_sent (GoneUse p) (GoneUse p) c message uses (λ x e k. k) (λ x e k. k) gone))
+
+pub heard_same : {N : Type 0} (uses : List ChannelUse) (p q : PlainPolled N) → q ≡ p → HeardSide uses p → HeardSide uses q
+heard_same {N} uses p q same h = subst (λ (x : PlainPolled N). HeardSide uses x) (sym same) h
+
+no_some : (n : ℕ) → None ≡ Some n → ⊥
+no_some n h = cc
+
+pub some_is : (n k : ℕ) → Some n ≡ Some k → n ≡ k
+some_is n k h = cc
+
+module _ {N : Type 0} (draws : Draws N) where
+  -- acts to which no packet came, or one of no bytes
+  pub heard_kept : (came : Came) (moments : List ℕ) (shown : List (List ℕ)) (wrote heard : List StreamMessage) (p q : PlainPolled N)
+      (uses : List ChannelUse) → PeerDid (plain_over draws) came moments shown wrote heard p q
+      → ((x : List ℕ) → Member x came.dtls → x ≡ []) → ((c : ℕ) → IsGone c p.core.channels → IsGone c q.core.channels)
+      → (p.core.phase ≡ Closed → q.core.phase ≡ Closed) → HeardSide uses p → HeardSide uses q
+  heard_kept came moments shown wrote heard p q uses did empty gones closes (inl closed) = inl (closes closed)
+  heard_kept came moments shown wrote heard p q uses did empty gones closes (inr (inr gone)) =
+      inr (inr (all_kept (GoneUse p) (GoneUse q) uses (λ x k. λ band. gones x.channel (k band)) gone))
+  heard_kept came moments shown wrote heard p q uses did empty gones closes (inr (inl h)) =
+      inr (inl (record { quiet = dtls.0; each = all_kept (HeardUse p) (HeardUse q) uses (λ x k. λ band s of. left x.channel s (k band s of)) h.each }))
+    where
+      dtls : HoldsNoOutput q.core.dtls.instance × (dtls_got did.acts.dtls ≡ [])
+      dtls = dtls_quiet did.acts.dtls p.core.dtls.instance q.core.dtls.instance did.went.dtls (λ x k. empty x (did.given_dtls.each x k)) h.quiet
+
+      acts : StaysHeard p.core.sctp.association q.core.sctp.association
+      acts =
+          quiet_moved did.acts.association p.core.sctp.association q.core.sctp.association did.went.association
+          (none_among (given did.acts.association) _ did.handed dtls.1)
+
+      left : (c s : ℕ) → IsGone c p.core.channels ⊎ (has_unread p.core.sctp.association s (generation_of p.core.sctp.association s) ≡ false)
+          → IsGone c q.core.channels ⊎ (has_unread q.core.sctp.association s (generation_of q.core.sctp.association s) ≡ false)
+      left c s (inl gone) = inl (gones c gone)
+      left c s (inr none) = inr (still_heard p.core.sctp.association q.core.sctp.association s acts none)
+
+  -- ---- at the end
+
+  pub heard_there : (uses : List ChannelUse) (p : PlainPolled N) (x : ChannelUse) → HeardSide uses p → Member x uses → x.in_band ≡ true
+      → (h : StaysOpen (plain_over draws) x p) → has_unread p.core.sctp.association h.stream x.generation ≡ false
+  heard_there uses p x (inl closed) there band h = absurd (open_free x.channel h.stream p h.there closed)
+  heard_there uses p x (inr (inr gone)) there band h =
+      absurd
+      (no_some h.stream
+      (sym (none_under x.channel p.core.channels.rows (all_member (GoneUse p) uses x gone there band).1) ∙ open_placed x.channel h.stream p h.there))
+  heard_there uses p x (inr (inl heard)) there band h = by (all_member (HeardUse p) uses x heard.each there band h.stream h.of)
+    where
+      by : IsGone x.channel p.core.channels
+          ⊎ (has_unread p.core.sctp.association h.stream (generation_of p.core.sctp.association h.stream) ≡ false)
+          → has_unread p.core.sctp.association h.stream x.generation ≡ false
+      by (inl gone) =
+          absurd
+          (no_some h.stream
+          (sym (none_under x.channel p.core.channels.rows gone.1) ∙ open_placed x.channel h.stream p h.there))
+      by (inr none) = ap (λ (n : ℕ). has_unread p.core.sctp.association h.stream n) (sym h.generation) ∙ none

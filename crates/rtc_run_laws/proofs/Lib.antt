@@ -1,0 +1,191 @@
+pub mod NumberedChannels
+pub mod StanceSteps
+pub mod StandingPolls
+pub mod StandingChannels
+pub mod UnusedStreams
+pub mod StepKinds
+pub mod EmptyStreams
+pub mod RoleStarts
+pub mod StandingSteps
+pub mod RestartChanges
+pub mod Bounds
+pub mod OpRows
+pub mod AddedRows
+pub mod PlacedRows
+pub mod StagedApps
+pub mod StagedChanges
+pub mod StagedOps
+pub mod StagedChannelOps
+pub mod Staging
+pub mod AnsweredOps
+pub mod PushedLists
+pub mod Tells
+pub mod Entries
+pub mod TokenEntries
+pub mod Around
+pub mod UnreadSdps
+pub mod Rests
+pub mod OfferSteps
+pub mod AnswerSteps
+pub mod OfferApps
+pub mod NegotiateSteps
+pub mod SaidSdps
+pub mod OfferTables
+pub mod Takings
+pub mod MakesSdps
+pub mod FinishedRows
+pub mod AnswerCounts
+pub mod SoundPasts
+pub mod SeenSides
+pub mod SeenSteps
+pub mod PastTables
+pub mod PastOffers
+pub mod PastRows
+pub mod PastAnswers
+pub mod FinishedRounds
+pub mod RowNames
+pub mod RowsFollow
+pub mod LiveRows
+pub mod CourseOps
+pub mod ChannelCounts
+pub mod CourseSdps
+pub mod RoundRows
+pub mod UnspentTokens
+pub mod Courses
+pub mod OrderlySteps
+pub mod RestCourses
+pub mod CourseSteps
+pub mod OrderlyOps
+pub mod OrderlyPasts
+pub mod KeptApps
+pub mod StartHalves
+pub mod StartedSides
+pub mod SideRounds
+pub mod SideRoundSteps
+pub mod OrderlyRuns
+pub mod OpsNext
+pub mod OrderlyNext
+pub mod OrderlySounds
+pub mod StanceRuns
+pub mod CarriedLines
+pub mod TakenLines
+pub mod ChunkTexts
+pub mod RowLines
+pub mod PlainSdps
+pub mod AsReadSdps
+pub mod ReadPasts
+pub mod LegibleSdps
+pub mod FormedSteps
+mod SingleSdps
+mod SingleSteps
+pub mod PlainRuns
+pub mod ReadFacts
+mod StartFacts
+pub mod Reaches
+pub mod CountedFaults
+pub mod StreamFaults
+pub mod MediaFaults
+pub mod GrowingCounts
+pub mod StageCounts
+pub mod ClosingCounts
+pub mod ConnectionCounts
+pub mod StreamCounts
+pub mod PollCounts
+pub mod InputCounts
+pub mod OpParts
+pub mod RestSides
+pub mod ChannelFaults
+pub mod SoundSides
+pub mod PartsSound
+pub mod SentPackets
+pub mod MoreSteps
+pub mod ContentsLemmas
+pub mod NegotiationActed
+pub mod NewPeers
+pub mod StandingExchange
+pub mod StepsExchange
+pub mod RunsExchange
+mod WorkedUses
+mod EarlyData
+mod WorkedRests
+mod UseLists
+mod RowLemmas
+mod UsesTold
+mod AnnouncedStreams
+mod UsesPolled
+mod UsesOpened
+mod OpenedAnew
+mod SidesTold
+mod WholeUses
+mod WholePolled
+mod KeptNegotiation
+mod StandingSides
+mod PolledSteps
+mod OpenStreams
+mod StepsTold
+mod GotAndSent
+mod AllHanded
+mod QuietActs
+mod UnfinishedParts
+mod FinishedSides
+mod HeardSides
+mod TimeoutSides
+mod DrainedSteps
+mod RunsTold
+pub mod DrainedRuns
+mod RestingSides
+mod HeardOpenings
+mod OpenSides
+mod SettledSides
+mod AnsweredOpenings
+mod StillSides
+mod StandingVisits
+mod StandingReadings
+mod StandingEntries
+mod StandingTours
+mod StreamPolls
+mod PlacedEntries
+mod StandingCalls
+mod ConfigRows
+mod EnsuredNumbers
+mod BegunRows
+mod OpenedRows
+mod StepRows
+mod ConfirmedRuns
+mod ConfirmedSides
+mod ClosingRows
+mod ClosingSettled
+mod ClosingSteps
+mod ClosingItems
+mod ClosingEnds
+mod ClosingPairs
+mod KeptStreams
+mod IdleSides
+mod SettledOpens
+pub mod SettledRuns
+pub mod KnownRows
+pub mod KnownRuns
+pub mod KnownSides
+pub mod RefusedSides
+mod OwnedRows
+mod OwnedAllocation
+mod OwnedChanges
+mod SideChanges
+mod RoleSides
+pub mod OwnedRuns
+pub mod OwnSides
+pub mod ThereRows
+pub mod ThereRuns
+pub mod PiecePairs
+pub mod AloneSides
+pub mod UnresetSides
+pub mod BandedRows
+pub mod BandedMoments
+pub mod BandedInputs
+pub mod BandedChanges
+pub mod BandedNegotiation
+pub mod BandedAcceptances
+pub mod StepWalks
+pub mod BandedSteps
+pub mod BandedRuns
+pub mod SettlesRuns

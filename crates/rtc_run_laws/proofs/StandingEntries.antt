@@ -1,0 +1,272 @@
+-- Entries whose opening is begun, where entries are set, put in and dropped.
+use Rattle.std.proofs.Common.{◌≡◌, ◌⊎◌, inl, inr, ℕ, zero, suc, not, cond, Bool, true, false, List, [], ◌∷◌, ◌++◌, take, drop, insert, Option, Some, None, refl, sym, ap, subst, ◌∙◌}
+use Rattle.std.specs.Prelude.{is_some, slice_get, slice_set, if◌then◌else◌}
+use Rattle.std.proofs.lemmas.List.{take-append-drop}
+use Rattle.std.proofs.lemmas.Option.{same_Some}
+use Rattle.rtc_part_association.specs.declared.assoc_event.AssocEvent.{AssocEvent}
+use Rattle.rtc_part_association.specs.declared.assoc_event.AssocEvent.TheVariants as assoc
+use Rattle.rtc_sctp_entries.specs.declared.stream_entry_state.StreamEntryState.{StreamEntryState}
+use Rattle.rtc_sctp_entries.specs.declared.stream_entry_state.StreamEntryState.TheVariants.{AwaitOpen, AwaitConfig, AwaitDcepAck, Open, Closed}
+use Rattle.rtc_sctp_entries.specs.declared.stream_entry.StreamEntry.{StreamEntry}
+use Rattle.rtc_sctp_entries.specs.Entries.{Ascend, entry_place, new_place, new_entry, is_closed_state, is_open_awaited, is_out_of_band, unclosed}
+use Rattle.rtc_sctp.specs.Polls.{Book, AfterEvent, FinishesAt, finished_entry, with_expected}
+use Rattle.rtc_sctp_entries.proofs.OrderLemmas.{ascend_set, ascend_with, none_missing}
+use Rattle.rtc_sctp.proofs.OrderKept.{ascend_unclosed}
+use Rattle.rtc_run_laws.specs.OwnOpenings.{HasEntryOf, HasOpening, IsOpeningState}
+use Rattle.rtc_run_laws.proofs.StandingVisits.{IsStanding}
+
+-- a stream has an entry whose opening is begun
+abbrev pub HasStanding : (stream : ℕ) → List StreamEntry → Type 0
+HasStanding s es = HasEntryOf IsStanding s es
+
+-- no entry is closed
+abbrev pub NoneClosed : List StreamEntry → Type 0
+NoneClosed [] = Unit {0}
+NoneClosed (e ∷ es) = (e.state ≡ Closed → ⊥) × NoneClosed es
+
+-- no stream was settled by other means than messages
+abbrev pub AreBanded : List StreamEntry → Type 0
+AreBanded [] = Unit {0}
+AreBanded (e ∷ es) = (is_out_of_band e ≡ false) × AreBanded es
+
+-- entries that go on so: none is opened from here that was not before, and they stay in order
+pub record Kept (es es' : List StreamEntry) : Type 0 where
+  pub stands : (s : ℕ) → HasStanding s es → HasStanding s es'
+  pub shut : NoneClosed es → NoneClosed es'
+  pub banded : AreBanded es → AreBanded es'
+  pub openings : (s : ℕ) → HasOpening s es' → HasOpening s es
+  pub ordered : Ascend es → Ascend es'
+
+pub kept_is : (es es' : List StreamEntry) → es' ≡ es → Kept es es'
+kept_is es es' is = record {
+  stands = λ s h. subst (λ (l : List StreamEntry). HasStanding s l) (sym is) h;
+  shut = λ h. subst (λ (l : List StreamEntry). NoneClosed l) (sym is) h;
+  banded = λ h. subst (λ (l : List StreamEntry). AreBanded l) (sym is) h;
+  openings = λ s h. subst (λ (l : List StreamEntry). HasOpening s l) is h;
+  ordered = λ h. subst (λ (l : List StreamEntry). Ascend l) (sym is) h;
+}
+
+pub kept_on : (es fs gs : List StreamEntry) → Kept es fs → Kept fs gs → Kept es gs
+kept_on es fs gs h k = record {
+  stands = λ s x. k.stands s (h.stands s x);
+  shut = λ x. k.shut (h.shut x);
+  banded = λ x. k.banded (h.banded x);
+  openings = λ s x. h.openings s (k.openings s x);
+  ordered = λ x. k.ordered (h.ordered x);
+}
+
+no_entry : (e : StreamEntry) → None ≡ Some e → ⊥
+no_entry e h = cc
+
+-- what an entry is set to
+pub record EntryKept (e e' : StreamEntry) : Type 0 where
+  pub id_is : e'.id ≡ e.id
+  pub stands : IsStanding e → IsStanding e'
+  pub shut : (e.state ≡ Closed → ⊥) → e'.state ≡ Closed → ⊥
+  pub banded : is_out_of_band e ≡ false → is_out_of_band e' ≡ false
+  pub opening : IsOpeningState e'.state → IsOpeningState e.state
+
+stands_set : (s : ℕ) (es : List StreamEntry) (i : ℕ) (e e' : StreamEntry) → slice_get es i ≡ Some e → EntryKept e e' → HasStanding s es
+    → HasStanding s (slice_set es i e')
+stands_set s [] i e e' at k h = absurd h
+stands_set s (x ∷ xs) zero e e' at k (inl h) =
+    let same = sym (same_Some x e at) in
+    inl (k.id_is ∙ (ap (λ (y : StreamEntry). y.id) same ∙ h.0), k.stands (subst (λ (y : StreamEntry). IsStanding y) (sym same) h.1))
+stands_set s (x ∷ xs) zero e e' at k (inr h) = inr h
+stands_set s (x ∷ xs) (suc i) e e' at k (inl h) = inl h
+stands_set s (x ∷ xs) (suc i) e e' at k (inr h) = inr (stands_set s xs i e e' at k h)
+
+shut_set : (es : List StreamEntry) (i : ℕ) (e e' : StreamEntry) → slice_get es i ≡ Some e → EntryKept e e' → NoneClosed es
+    → NoneClosed (slice_set es i e')
+shut_set [] i e e' at k h = absurd (no_entry e at)
+shut_set (x ∷ xs) zero e e' at k h = (k.shut (subst (λ (y : StreamEntry). y.state ≡ Closed → ⊥) (same_Some x e at) h.0), h.1)
+shut_set (x ∷ xs) (suc i) e e' at k h = (h.0, shut_set xs i e e' at k h.1)
+
+banded_set : (es : List StreamEntry) (i : ℕ) (e e' : StreamEntry) → slice_get es i ≡ Some e → EntryKept e e' → AreBanded es
+    → AreBanded (slice_set es i e')
+banded_set [] i e e' at k h = absurd (no_entry e at)
+banded_set (x ∷ xs) zero e e' at k h = (k.banded (subst (λ (y : StreamEntry). is_out_of_band y ≡ false) (same_Some x e at) h.0), h.1)
+banded_set (x ∷ xs) (suc i) e e' at k h = (h.0, banded_set xs i e e' at k h.1)
+
+openings_set : (s : ℕ) (es : List StreamEntry) (i : ℕ) (e e' : StreamEntry) → slice_get es i ≡ Some e → EntryKept e e'
+    → HasOpening s (slice_set es i e') → HasOpening s es
+openings_set s [] i e e' at k h = absurd (no_entry e at)
+openings_set s (x ∷ xs) zero e e' at k (inl h) =
+    let same = same_Some x e at in
+    inl (ap (λ (y : StreamEntry). y.id) same ∙ (sym k.id_is ∙ h.0), subst (λ (y : StreamEntry). IsOpeningState y.state) (sym same) (k.opening h.1))
+openings_set s (x ∷ xs) zero e e' at k (inr h) = inr h
+openings_set s (x ∷ xs) (suc i) e e' at k (inl h) = inl h
+openings_set s (x ∷ xs) (suc i) e e' at k (inr h) = inr (openings_set s xs i e e' at k h)
+
+pub kept_set : (es : List StreamEntry) (i : ℕ) (e e' : StreamEntry) → slice_get es i ≡ Some e → EntryKept e e' → Kept es (slice_set es i e')
+kept_set es i e e' at k = record {
+  stands = λ s h. stands_set s es i e e' at k h;
+  shut = λ h. shut_set es i e e' at k h;
+  banded = λ h. banded_set es i e e' at k h;
+  openings = λ s h. openings_set s es i e e' at k h;
+  ordered = λ h. ascend_set 0 es i e e' at k.id_is h;
+}
+
+-- one is put in
+stands_between : (s : ℕ) (xs : List StreamEntry) (e : StreamEntry) (ys : List StreamEntry) → HasStanding s (xs ++ ys) → HasStanding s (xs ++ e ∷ ys)
+stands_between s [] e ys h = inr h
+stands_between s (x ∷ xs) e ys (inl h) = inl h
+stands_between s (x ∷ xs) e ys (inr h) = inr (stands_between s xs e ys h)
+
+shut_between : (xs : List StreamEntry) (e : StreamEntry) (ys : List StreamEntry) → (e.state ≡ Closed → ⊥) → NoneClosed (xs ++ ys)
+    → NoneClosed (xs ++ e ∷ ys)
+shut_between [] e ys f h = (f, h)
+shut_between (x ∷ xs) e ys f h = (h.0, shut_between xs e ys f h.1)
+
+banded_between : (xs : List StreamEntry) (e : StreamEntry) (ys : List StreamEntry) → is_out_of_band e ≡ false → AreBanded (xs ++ ys)
+    → AreBanded (xs ++ e ∷ ys)
+banded_between [] e ys f h = (f, h)
+banded_between (x ∷ xs) e ys f h = (h.0, banded_between xs e ys f h.1)
+
+pub stands_insert : (s : ℕ) (es : List StreamEntry) (i : ℕ) (e : StreamEntry) → HasStanding s es → HasStanding s (insert es i e)
+stands_insert s es i e h =
+    stands_between s (take i es) e (drop i es) (subst (λ (l : List StreamEntry). HasStanding s l) (sym (take-append-drop i es)) h)
+
+pub shut_insert : (es : List StreamEntry) (i : ℕ) (e : StreamEntry) → (e.state ≡ Closed → ⊥) → NoneClosed es → NoneClosed (insert es i e)
+shut_insert es i e f h =
+    shut_between (take i es) e (drop i es) f (subst (λ (l : List StreamEntry). NoneClosed l) (sym (take-append-drop i es)) h)
+
+pub banded_insert : (es : List StreamEntry) (i : ℕ) (e : StreamEntry) → is_out_of_band e ≡ false → AreBanded es → AreBanded (insert es i e)
+banded_insert es i e f h =
+    banded_between (take i es) e (drop i es) f (subst (λ (l : List StreamEntry). AreBanded l) (sym (take-append-drop i es)) h)
+
+openings_between : (s : ℕ) (xs : List StreamEntry) (e : StreamEntry) (ys : List StreamEntry) → HasOpening s (xs ++ e ∷ ys)
+    → HasOpening s (xs ++ ys) ⊎ ((e.id ≡ s) × IsOpeningState e.state)
+openings_between s [] e ys (inl h) = inr h
+openings_between s [] e ys (inr h) = inl h
+openings_between s (x ∷ xs) e ys (inl h) = inl (inl h)
+openings_between s (x ∷ xs) e ys (inr h) = by (openings_between s xs e ys h)
+  where
+    by : HasOpening s (xs ++ ys) ⊎ ((e.id ≡ s) × IsOpeningState e.state) → HasOpening s (x ∷ xs ++ ys) ⊎ ((e.id ≡ s) × IsOpeningState e.state)
+    by (inl k) = inl (inr k)
+    by (inr k) = inr k
+
+pub openings_insert : (s : ℕ) (es : List StreamEntry) (i : ℕ) (e : StreamEntry) → HasOpening s (insert es i e)
+    → HasOpening s es ⊎ ((e.id ≡ s) × IsOpeningState e.state)
+openings_insert s es i e h =
+    subst (λ (l : List StreamEntry). HasOpening s l ⊎ ((e.id ≡ s) × IsOpeningState e.state)) (take-append-drop i es)
+    (openings_between s (take i es) e (drop i es) h)
+
+own_between : (s : ℕ) (xs : List StreamEntry) (e : StreamEntry) (ys : List StreamEntry) → e.id ≡ s → IsStanding e → HasStanding s (xs ++ e ∷ ys)
+own_between s [] e ys same h = inl (same, h)
+own_between s (x ∷ xs) e ys same h = inr (own_between s xs e ys same h)
+
+pub own_insert : (s : ℕ) (es : List StreamEntry) (i : ℕ) (e : StreamEntry) → e.id ≡ s → IsStanding e → HasStanding s (insert es i e)
+own_insert s es i e same h = own_between s (take i es) e (drop i es) same h
+
+-- closed ones are dropped
+not_closed : (st : StreamEntryState) → (st ≡ Closed → ⊥) → not (is_closed_state st) ≡ true
+not_closed AwaitOpen h = refl
+not_closed AwaitConfig h = refl
+not_closed AwaitDcepAck h = refl
+not_closed Open h = refl
+not_closed Closed h = absurd (h refl)
+
+is_not_closed : (st : StreamEntryState) → not (is_closed_state st) ≡ true → st ≡ Closed → ⊥
+is_not_closed AwaitOpen h k = let clash : AwaitOpen ≡ Closed = k in cc
+is_not_closed AwaitConfig h k = let clash : AwaitConfig ≡ Closed = k in cc
+is_not_closed AwaitDcepAck h k = let clash : AwaitDcepAck ≡ Closed = k in cc
+is_not_closed Open h k = let clash : Open ≡ Closed = k in cc
+is_not_closed Closed h k = let clash : false ≡ true = h in cc
+
+stands_unclosed : (s : ℕ) (es : List StreamEntry) → HasStanding s es → HasStanding s (unclosed es)
+stands_unclosed s [] h = absurd h
+stands_unclosed s (x ∷ xs) (inl h) = by (not (is_closed_state x.state)) (not_closed x.state h.1.0)
+  where
+    by : (b : Bool) → b ≡ true → HasStanding s (cond b (x ∷ unclosed xs) (unclosed xs))
+    by true e = inl h
+    by false e = let clash : false ≡ true = e in cc
+stands_unclosed s (x ∷ xs) (inr h) = by (not (is_closed_state x.state)) (stands_unclosed s xs h)
+  where
+    by : (b : Bool) → HasStanding s (unclosed xs) → HasStanding s (cond b (x ∷ unclosed xs) (unclosed xs))
+    by true k = inr k
+    by false k = k
+
+pub shut_unclosed : (es : List StreamEntry) → NoneClosed (unclosed es)
+shut_unclosed [] = tt
+shut_unclosed (x ∷ xs) = by (not (is_closed_state x.state)) refl (shut_unclosed xs)
+  where
+    by : (b : Bool) → not (is_closed_state x.state) ≡ b → NoneClosed (unclosed xs) → NoneClosed (cond b (x ∷ unclosed xs) (unclosed xs))
+    by true e k = (is_not_closed x.state e, k)
+    by false e k = k
+
+banded_unclosed : (es : List StreamEntry) → AreBanded es → AreBanded (unclosed es)
+banded_unclosed [] h = tt
+banded_unclosed (x ∷ xs) h = by (not (is_closed_state x.state)) (banded_unclosed xs h.1)
+  where
+    by : (b : Bool) → AreBanded (unclosed xs) → AreBanded (cond b (x ∷ unclosed xs) (unclosed xs))
+    by true k = (h.0, k)
+    by false k = k
+
+openings_unclosed : (s : ℕ) (es : List StreamEntry) → HasOpening s (unclosed es) → HasOpening s es
+openings_unclosed s [] h = absurd h
+openings_unclosed s (x ∷ xs) h = by (not (is_closed_state x.state)) h (openings_unclosed s xs)
+  where
+    by : (b : Bool) → HasOpening s (cond b (x ∷ unclosed xs) (unclosed xs)) → (HasOpening s (unclosed xs) → HasOpening s xs) → HasOpening s (x ∷ xs)
+    by true (inl k) rest = inl k
+    by true (inr k) rest = inr (rest k)
+    by false k rest = inr (rest k)
+
+pub kept_unclosed : (es : List StreamEntry) → Kept es (unclosed es)
+kept_unclosed es = record {
+  stands = λ s h. stands_unclosed s es h;
+  shut = λ h. shut_unclosed es;
+  banded = λ h. banded_unclosed es h;
+  openings = λ s h. openings_unclosed s es h;
+  ordered = λ h. ascend_unclosed es h;
+}
+
+-- events
+config_closed : AwaitConfig ≡ Closed → ⊥
+config_closed h = cc
+
+config_not : IsOpeningState AwaitConfig → ⊥
+config_not (inl h) = let clash : AwaitConfig ≡ AwaitOpen = h in cc
+config_not (inr h) = let clash : AwaitConfig ≡ AwaitDcepAck = h in cc
+
+kept_expected : (place : Option ℕ) (id : ℕ) (es : List StreamEntry) → entry_place id es ≡ place
+    → Kept es (if is_some place then es else insert es (new_place id es) (new_entry id AwaitConfig None))
+kept_expected (Some place) id es at = kept_is es es refl
+kept_expected None id es at = record {
+  stands = λ s h. stands_insert s es (new_place id es) (new_entry id AwaitConfig None) h;
+  shut = λ h. shut_insert es (new_place id es) (new_entry id AwaitConfig None) (λ c. config_closed c) h;
+  banded = λ h. banded_insert es (new_place id es) (new_entry id AwaitConfig None) refl h;
+  openings = λ s h. by s (openings_insert s es (new_place id es) (new_entry id AwaitConfig None) h);
+  ordered = λ h. ascend_with (new_entry id AwaitConfig None) es h (none_missing id es at);
+}
+  where
+    by : (s : ℕ) → HasOpening s es ⊎ ((id ≡ s) × IsOpeningState AwaitConfig) → HasOpening s es
+    by s (inl h) = h
+    by s (inr h) = absurd (config_not h.1)
+
+pub marked_kept : (e : StreamEntry) → EntryKept e (record e { marked = true })
+marked_kept e = record { id_is = refl; stands = λ h. (h.0, λ c. refl); shut = λ h. h; banded = λ h. h; opening = λ h. h }
+
+finished_kept : (b : Bool) (e : StreamEntry) → EntryKept e (if b then e else record e { marked = true })
+finished_kept true e = record { id_is = refl; stands = λ h. h; shut = λ h. h; banded = λ h. h; opening = λ h. h }
+finished_kept false e = marked_kept e
+
+kept_finished : (place : Option ℕ) (es es' : List StreamEntry) → FinishesAt place es es' → Kept es es'
+kept_finished None es es' h = kept_is es es' h
+kept_finished (Some place) es es' h =
+    kept_on es (slice_set es place (finished_entry h.0)) es'
+    (kept_set es place h.0 (finished_entry h.0) h.1 (finished_kept (is_open_awaited h.0.state) h.0))
+    (kept_is (slice_set es place (finished_entry h.0)) es' h.2)
+
+pub kept_after : (e : AssocEvent) (b b' : Book) → AfterEvent e b b' → Kept b.entries b'.entries
+kept_after assoc.Connected b b' h = kept_is b.entries b'.entries (ap (λ (x : Book). x.entries) h)
+kept_after assoc.Lost b b' h = kept_is b.entries b'.entries (ap (λ (x : Book). x.entries) h)
+kept_after (assoc.Readable id) b b' h =
+    kept_on b.entries (with_expected id b.entries) b'.entries (kept_expected (entry_place id b.entries) id b.entries refl)
+    (kept_is (with_expected id b.entries) b'.entries (ap (λ (x : Book). x.entries) h))
+kept_after (assoc.Writable id) b b' h =
+    kept_on b.entries (with_expected id b.entries) b'.entries (kept_expected (entry_place id b.entries) id b.entries refl)
+    (kept_is (with_expected id b.entries) b'.entries (ap (λ (x : Book). x.entries) h))
+kept_after (assoc.Finished id) b b' h = kept_finished (entry_place id b.entries) b.entries b'.entries h.0
+kept_after (assoc.ResetComplete id) b b' h = kept_is b.entries b'.entries (ap (λ (x : Book). x.entries) h)
+kept_after (assoc.BufferedAmountLow id) b b' h = kept_is b.entries b'.entries (ap (λ (x : Book). x.entries) h)

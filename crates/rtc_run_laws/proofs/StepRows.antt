@@ -1,0 +1,128 @@
+-- What each step of a side changes of its channels and of the entries of their streams.
+use Rattle.std.proofs.Common.{◌≡◌, ◌⊎◌, inl, inr, ℕ, Bool, true, false, List, [], Option, Result, Ok, Err, sym, subst}
+use Rattle.rtc_sctp_laws.specs.StreamMessages.{StreamMessage}
+use Rattle.rtc_peer_core.specs.declared.phase.Phase.TheVariants.{Closed}
+use Rattle.rtc_peer_core.specs.declared.rtc_error.RtcError.{RtcError}
+use Rattle.rtc_peer_core.specs.declared.rtc_error.RtcError.TheVariants.{Alloc as PeerAlloc}
+use Rattle.rtc_peer_core.specs.Meanings.{Meanings, PartsLaws}
+use Rattle.rtc_peer_transport.specs.declared.input.Input.TheVariants as given
+use Rattle.rtc_peer_transport.specs.declared.output.Output.{Output}
+use Rattle.rtc_peer_transport.specs.declared.polled_peer.PolledPeer.{PolledPeer}
+use Rattle.rtc_peer_transport.specs.ChannelCalls.{open_stream_under}
+use Rattle.rtc_peer_transport.specs.Closing.{ClosesPeer}
+use Rattle.rtc_peer_polling.specs.Inputs.{HandlesInput}
+use Rattle.rtc_peer_polling.specs.Walk.{PollsPeer}
+use Rattle.rtc_peer_polling.proofs.Lacking.{poll_lacks}
+use Rattle.rtc_peer_laws.specs.ChannelStreams.{UnlessLacking}
+use Rattle.rtc_peer_laws.specs.RowsChanged.{RowsChanged, RowsPolled}
+use Rattle.rtc_peer_laws.proofs.ActedPolls.{poll_acts}
+use Rattle.rtc_peer_laws.proofs.ChangedRows.{changed_on, none_changed}
+use Rattle.rtc_peer_laws.proofs.PolledRows.{polled_changes}
+use Rattle.rtc_peer_laws.specs.KeptChannels.{CallKeepsStreams}
+use Rattle.rtc_peer_laws.proofs.KeptInputs.{input_keeps}
+use Rattle.rtc_peer_laws.proofs.KeptPeers.{channel_close_keeps, channel_write_keeps, close_keeps}
+use Rattle.rtc_run_history.specs.declared.kept.Kept.{Kept}
+use Rattle.rtc_run_history.specs.declared.outcome.Outcome.{Outcome}
+use Rattle.rtc_run_history.specs.declared.sent_packet.SentPacket.{SentPacket}
+use Rattle.rtc_run_history.specs.declared.side.Side.{Side}
+use Rattle.rtc_run_history.specs.declared.side.Side.TheVariants.{Left, Right}
+use Rattle.rtc_run_history.specs.declared.step.Step.{Step}
+use Rattle.rtc_run_history.specs.declared.step.Step.TheVariants.{Negotiate, AcceptOffer, AcceptAnswer, Time, Datagram, Poll, Drain}
+use Rattle.rtc_run_history.specs.declared.step.Step.TheVariants.{Write, CloseChannel, Close}
+use Rattle.rtc_run_history.specs.declared.table.Table.{Table}
+use Rattle.rtc_run_history.specs.PairState.{PairState, rtc_at, held_token, kept_remote_sdp, remote_packet}
+use Rattle.rtc_run_history.specs.Performs.{Acts}
+use Rattle.rtc_run_history.specs.Sides.{other_side}
+use Rattle.rtc_run_laws.proofs.KeptNegotiation.{answer_step_keeps, negotiates_keep, offer_step_keeps}
+use Rattle.rtc_run_laws.proofs.RowLemmas.{closed_stays}
+use Rattle.rtc_run_laws.proofs.StepWalks.{CallsKeep, calls_keep, close_keep, datagram_keep, drain_keep, poll_keep, write_keep}
+
+module _ {I D S M E X T W N : Type 0} (m : Meanings I D S M E X T W N) where
+  -- the changes of a peer that is not closed, and a closed one stays so
+  pub record StepRows (p q : PolledPeer I D S M N) : Type 0 where
+    pub closed : p.core.phase ≡ Closed → q.core.phase ≡ Closed
+    pub changed : (q.core.phase ≡ Closed) ⊎ RowsChanged m.association p.core.channels p.core.sctp q.core.channels q.core.sctp
+
+  pub rows_none : (p q : PolledPeer I D S M N) → q ≡ p → StepRows p q
+  rows_none p q is =
+      subst (λ (x : PolledPeer I D S M N). StepRows p x) (sym is)
+      (record { closed = λ k. k; changed = inr (none_changed m.association p.core.channels p.core.sctp) })
+
+  rows_on : (p b q : PolledPeer I D S M N) → StepRows p b → StepRows b q → StepRows p q
+  rows_on p b q h k = record { closed = λ e. k.closed (h.closed e); changed = by h.changed k.changed }
+    where
+      by : (b.core.phase ≡ Closed) ⊎ RowsChanged m.association p.core.channels p.core.sctp b.core.channels b.core.sctp
+          → (q.core.phase ≡ Closed) ⊎ RowsChanged m.association b.core.channels b.core.sctp q.core.channels q.core.sctp
+          → (q.core.phase ≡ Closed) ⊎ RowsChanged m.association p.core.channels p.core.sctp q.core.channels q.core.sctp
+      by (inl e) after = inl (k.closed e)
+      by (inr first) (inl e) = inl e
+      by (inr first) (inr after) =
+          inr (changed_on m.association p.core.channels p.core.sctp b.core.channels b.core.sctp q.core.channels q.core.sctp first after)
+
+  call_rows : (p q : PolledPeer I D S M N) (wrote : List StreamMessage) → CallKeepsStreams m p wrote q → StepRows p q
+  call_rows p q wrote keeps = record { closed = keeps.closed; changed = keeps.changed }
+
+  module _ (laws : PartsLaws m) where
+    -- polls
+    answer_rows : (p : PolledPeer I D S M N) (answer : Result (Output E) RtcError) (q : PolledPeer I D S M N) → PollsPeer m p answer q
+        → UnlessLacking answer (RowsPolled m.association p.core.channels p.core.sctp q.core.channels q.core.sctp)
+        → (q.core.phase ≡ Closed) ⊎ RowsChanged m.association p.core.channels p.core.sctp q.core.channels q.core.sctp
+    answer_rows p (Ok output) q h changed =
+        inr (polled_changes m.association p.core.channels p.core.sctp q.core.channels q.core.sctp changed)
+    answer_rows p (Err PeerAlloc) q h changed = inl (poll_lacks m p q h)
+    answer_rows p (Err error) q h changed =
+        inr (polled_changes m.association p.core.channels p.core.sctp q.core.channels q.core.sctp changed)
+
+    poll_rows : (p : PolledPeer I D S M N) (answer : Result (Output E) RtcError) (q : PolledPeer I D S M N) → PollsPeer m p answer q → StepRows p q
+    poll_rows p answer q h = record {
+      closed = λ e. (closed_stays m p answer q e h).1;
+      changed = answer_rows p answer q h (poll_acts m laws p answer q h).streams.changed;
+    }
+
+    -- what each call keeps that is none of negotiation
+    calls_rows : CallsKeep m StepRows
+    calls_rows = record {
+      none = λ p q is. rows_none p q is;
+      on = λ p b q h k. rows_on p b q h k;
+      polls = λ p answer q h. poll_rows p answer q h;
+      inputs = λ input p r q h. call_rows p q [] (input_keeps m laws.association input p r q h);
+      writes = λ stream binary bytes p r q h. call_rows p q _ (channel_write_keeps m laws.association stream binary bytes p r q h);
+      shuts = λ id p r q h. call_rows p q [] (channel_close_keeps m laws.association id p r q h);
+    }
+
+    -- each step, an arm each
+    pub acts_rows : (stun : List ℕ → Bool) (step : Step) (old : PolledPeer I D S M N) (sdps : List Kept) (packets : List SentPacket)
+        (outcome : Outcome E) (table : Option Table) (new : PolledPeer I D S M N) (sdps' : List Kept) (packets' : List SentPacket)
+        → Acts m stun step old sdps packets outcome table new sdps' packets' → StepRows old new
+    acts_rows stun (Negotiate at ops apply) old sdps packets outcome table new sdps' packets' h =
+        call_rows old new [] (negotiates_keep m at ops apply old sdps outcome table new sdps' h.0)
+    acts_rows stun (AcceptOffer at offer) old sdps packets outcome table new sdps' packets' h =
+        call_rows old new []
+        (offer_step_keeps m laws.association at (kept_remote_sdp true sdps at offer) old sdps outcome table new sdps' h.0)
+    acts_rows stun (AcceptAnswer at token answer) old sdps packets outcome table new sdps' packets' h =
+        call_rows old new []
+        (answer_step_keeps m laws.association token (held_token sdps at token) (kept_remote_sdp false sdps at answer) old sdps outcome table new
+        sdps' h.0)
+    acts_rows stun (Time at now) old sdps packets outcome table new sdps' packets' h =
+        calls_keep m StepRows calls_rows (HandlesInput m (given.Timeout now))
+        (λ p r q k. call_rows p q [] (input_keeps m laws.association (given.Timeout now) p r q k)) old outcome table new h.0
+    acts_rows stun (Datagram at packet now) old sdps packets outcome table new sdps' packets' h =
+        datagram_keep m StepRows calls_rows stun (remote_packet packets at packet) now old outcome table new h.0
+    acts_rows stun (Poll at) old sdps packets outcome table new sdps' packets' h =
+        poll_keep m StepRows calls_rows at old packets outcome table new packets' h.0
+    acts_rows stun (Drain at) old sdps packets outcome table new sdps' packets' h =
+        drain_keep m StepRows calls_rows at old packets outcome table new packets' h.0
+    acts_rows stun (Write at channel binary bytes) old sdps packets outcome table new sdps' packets' h =
+        write_keep m StepRows calls_rows (open_stream_under channel old) binary bytes old outcome table new h.0
+    acts_rows stun (CloseChannel at channel) old sdps packets outcome table new sdps' packets' h =
+        close_keep m StepRows calls_rows (open_stream_under channel old) channel old outcome table new h.0
+    acts_rows stun (Close at) old sdps packets outcome table new sdps' packets' h =
+        calls_keep m StepRows calls_rows (ClosesPeer m) (λ p r q k. call_rows p q [] (close_keeps m laws.association p r q k)) old outcome table new h.0
+
+  -- the side that acts, and the other one
+  pub rows_at : (at x : Side) (between pair : PairState I D S M N) → StepRows (rtc_at at between) (rtc_at at pair)
+      → rtc_at (other_side at) pair ≡ rtc_at (other_side at) between → StepRows (rtc_at x between) (rtc_at x pair)
+  rows_at Left Left between pair h same = h
+  rows_at Left Right between pair h same = rows_none (rtc_at Right between) (rtc_at Right pair) same
+  rows_at Right Left between pair h same = rows_none (rtc_at Left between) (rtc_at Left pair) same
+  rows_at Right Right between pair h same = h

@@ -1,0 +1,65 @@
+-- No token past the SDPs of a past is spent.
+use Rattle.std.proofs.Common.{◌≡◌, ◌<◌, ◌≤◌, ◌==◌, ℕ, Bool, true, false, not, ◌&&◌, List, [], ◌∷◌, length, Option, Some, None, refl, arith, length-append}
+use Rattle.std.specs.Prelude.{slice_get}
+use Rattle.std.proofs.lemmas.Bool.{ne_eqb, and_parts}
+use Rattle.std.proofs.lemmas.Option.{slice_get_within}
+use Rattle.rtc_sdp_values.specs.declared.line_row.LineRow.{LineRow}
+use Rattle.rtc_change.specs.Held.{Held, Asked}
+use Rattle.rtc_run_history.specs.Signalled.{Signalled}
+use Rattle.rtc_run_history.specs.declared.step.Step.{Step}
+use Rattle.rtc_run_history.specs.declared.step.Step.TheVariants.{Negotiate, AcceptOffer, AcceptAnswer, Time, Datagram, Poll, Drain, Write, CloseChannel, Close}
+use Rattle.rtc_run_history.specs.declared.outcome.Outcome.{Outcome}
+use Rattle.rtc_run_history.specs.declared.outcome.Outcome.TheVariants.{NoSuch, Alloc}
+use Rattle.rtc_run_history.specs.declared.table.Table.{Table}
+use Rattle.rtc_run_history.specs.Past.{Entry, MadeSdp, sdps, remote_sdp, was_called, is_offer_of, holds_token, spends, is_spent, is_right}
+use Rattle.rtc_run_history.specs.Sound.{RepliesToAnswer, IsSound, asked_in}
+use Rattle.rtc_run_laws.proofs.SoundPasts.{Sound}
+use Rattle.rtc_run_laws.proofs.Takings.{answer_taking}
+use Rattle.rtc_run_history.specs.Views.{Stances, view_in}
+use Rattle.rtc_peer_core.specs.Stance.{held_by}
+
+called_held : {E : Type 0} → (held right : Bool) (asked : Asked) (sdp : Signalled) (view : Held) (outcome : Outcome E) (after : List LineRow) → RepliesToAnswer held right asked sdp view outcome after → was_called outcome ≡ true → held ≡ true
+called_held true right asked sdp view outcome after takes was = refl
+called_held false right asked sdp view NoSuch after takes was = absurd (cc)
+called_held false right asked sdp view outcome after takes was = absurd takes
+
+unspent_step : {E : Type 0} → (fresh between : Stances) (past : List (Entry E)) (step : Step) (outcome : Outcome E) (table : Option Table) (made : List MadeSdp) (n : ℕ) → IsSound fresh past between step outcome table made → length (sdps past) ≤ n → spends n step outcome ≡ false
+unspent_step fresh between past (Negotiate at ops apply) outcome table made n sound most = refl
+unspent_step fresh between past (AcceptOffer at k) outcome table made n sound most = refl
+unspent_step fresh between past (Time at now) outcome table made n sound most = refl
+unspent_step fresh between past (Datagram at packet now) outcome table made n sound most = refl
+unspent_step fresh between past (Poll at) outcome table made n sound most = refl
+unspent_step fresh between past (Drain at) outcome table made n sound most = refl
+unspent_step fresh between past (Write at channel binary bytes) outcome table made n sound most = refl
+unspent_step fresh between past (CloseChannel at channel) outcome table made n sound most = refl
+unspent_step fresh between past (Close at) outcome table made n sound most = refl
+unspent_step fresh between past (AcceptAnswer at t a) Alloc None made n sound most = and_false (t == n)
+  where
+    and_false : (b : Bool) → (b && false) ≡ false
+    and_false true = refl
+    and_false false = refl
+unspent_step fresh between past (AcceptAnswer at t a) outcome (Some table) made n sound most =
+    by (λ was. called_held (holds_token at t past) (is_right at t past) (asked_in at t past) (remote_sdp false at a past) (view_in fresh at past (held_by (between at))) outcome table.lines (answer_taking fresh between past at t a outcome table made sound) was) (was_called outcome) refl
+  where
+    and_false : (b : Bool) → (b && false) ≡ false
+    and_false true = refl
+    and_false false = refl
+
+    within : (found : Option MadeSdp) → slice_get (sdps past) t ≡ found → is_offer_of at found ≡ true → t < length (sdps past)
+    within None there mine = absurd (cc)
+    within (Some said) there mine = slice_get_within (sdps past) t said there
+
+    by : (was_called outcome ≡ true → holds_token at t past ≡ true) → (was : Bool) → was_called outcome ≡ was → ((t == n) && was_called outcome) ≡ false
+    by held false is = rw is (and_false (t == n))
+    by held true is =
+        let parts = and_parts (is_offer_of at (slice_get (sdps past) t)) (not (is_spent t past)) (held is) in
+        let less : t < length (sdps past) = within (slice_get (sdps past) t) refl parts.0 in
+        rw (ne_eqb t n (λ e. omega arith)) refl
+unspent_step fresh between past (AcceptAnswer at t a) outcome None made n sound most = absurd sound
+
+-- no token past the SDPs is spent
+pub unspent_later : {E : Type 0} → (fresh : Stances) (past : List (Entry E)) (n : ℕ) → Sound fresh past → length (sdps past) ≤ n → is_spent n past ≡ false
+unspent_later fresh [] n sound most = refl
+unspent_later fresh (last ∷ past) n sound most =
+    let fewer : length (sdps past) ≤ n = omega (arith, length-append (sdps past) last.made) in
+    rw (unspent_step fresh sound.0.between past last.step last.outcome last.table last.made n sound.0.sound.replied fewer) (unspent_later fresh past n sound.1 fewer)

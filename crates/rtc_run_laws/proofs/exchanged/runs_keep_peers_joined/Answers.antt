@@ -1,0 +1,18 @@
+use Rattle.rtc_run_laws.proofs.NewPeers.{new_exchanged}
+use Rattle.rtc_run_laws.proofs.RunsExchange.{reached_exchanged, side_all, side_reads, went_reached}
+use Rattle.rtc_run_laws.proofs.exchanged.runs_keep_peers_joined.Goals as goal
+
+pub returns-clause-reached : goal.returns-clause-reached
+returns-clause-reached g c = λ stun start pair past new ran.
+    reached_exchanged g.N.Ids.ids stun start past pair ran (new_exchanged g.N.Ids.ids start new)
+
+pub returns-clause-ran : goal.returns-clause-ran
+returns-clause-ran g c = λ stun start pair steps replies new run.
+    reached_exchanged g.N.Ids.ids stun start run.past pair (went_reached g.N.Ids.ids stun start run.past pair run.went)
+    (new_exchanged g.N.Ids.ids start new)
+
+pub returns-clause-reads : goal.returns-clause-reads
+returns-clause-reads g c = λ acts pair at s n x. side_reads acts pair at s n x
+
+pub returns-clause-all : goal.returns-clause-all
+returns-clause-all g c = λ acts pair at s n x here there none. side_all acts pair at s n x here there none

@@ -1,0 +1,102 @@
+-- That a channel hands out what the other side sent over it, in order (RFC 8831, section 6.1).
+use Rattle.std.specs.Prelude.{◌≡◌, ℕ, Bool, true, false, List, Some}
+use Rattle.rtc_part_values.specs.Among.{Member}
+use Rattle.rtc_assoc.specs.Unread.{IsPrefix}
+use Rattle.rtc_assoc_state.specs.Contents.{has_unread}
+use Rattle.rtc_assoc_state.specs.Outbox.{has_unacknowledged}
+use Rattle.rtc_plain_media.specs.declared.plain_media_event.PlainMediaEvent.{PlainMediaEvent}
+use Rattle.rtc_part_draws.specs.Draws.{Draws}
+use Rattle.rtc_run_history.specs.declared.reply.Reply.{Reply}
+use Rattle.rtc_run_history.specs.declared.side.Side.{Side}
+use Rattle.rtc_run_history.specs.declared.step.Step.{Step}
+use Rattle.rtc_run_history.specs.PairState.{rtc_at}
+use Rattle.rtc_run_history.specs.Runs.{Runs}
+use Rattle.rtc_run_history.specs.Sides.{other_side}
+use Rattle.rtc_run_laws.specs.PlainPairs.{PlainPair, PlainPolled, plain_over}
+use Rattle.rtc_run_laws.specs.AnnouncedOnce.{AreAnnouncedOnce}
+use Rattle.rtc_run_laws.specs.ChannelUses.{ChannelUse}
+use Rattle.rtc_run_laws.specs.DrainedSides.{IsDrained}
+use Rattle.rtc_run_laws.specs.OpenUses.{AreJoinedUses}
+use Rattle.rtc_run_laws.specs.SentMessages.{sent_over}
+use Rattle.rtc_run_laws.specs.ToldMessages.{MessagesTold, told_over}
+use Rattle.rtc_run_laws.specs.UsesOfRuns.{reached_by, uses_in_run}
+
+-- Where two channels were opened in-band over one generation of one stream, what one got is a prefix of what was sent over the other.
+abbrev pub IsHandedOut : (reader writer : ChannelUse) → Type 0
+IsHandedOut x y =
+    x.in_band ≡ true → y.in_band ≡ true → x.stream ≡ y.stream → x.generation ≡ y.generation → IsPrefix x.got y.sent
+
+-- So it is for each channel that one side announced and each that the other one did.
+abbrev pub AreHandedOut : (readers writers : List ChannelUse) → Type 0
+AreHandedOut readers writers = (x y : ChannelUse) → Member x readers → Member y writers → IsHandedOut x y
+
+-- What was sent over a channel that was opened in-band, since it was announced, is all that its side ever sent to that generation of its
+-- stream: nothing was before.
+abbrev pub AreSentWhole : List ChannelUse → (sent : ℕ → ℕ → List (Bool × List ℕ)) → Type 0
+AreSentWhole uses sent =
+    (x : ChannelUse) → Member x uses → x.in_band ≡ true → (s : ℕ) → x.stream ≡ Some s → sent s x.generation ≡ x.sent
+
+-- Where two channels were opened in-band over one generation of one stream, what the one got since it was announced is all that its side
+-- was ever told of it while it had that stream in that generation: nothing was before.
+abbrev pub AreToldWhole : (readers writers : List ChannelUse) → MessagesTold → Type 0
+AreToldWhole readers writers told =
+    (x y : ChannelUse)
+    → Member x readers
+    → Member y writers
+    → x.in_band ≡ true
+    → y.in_band ≡ true
+    → (s : ℕ)
+    → x.stream ≡ Some s
+    → y.stream ≡ Some s
+    → x.generation ≡ y.generation
+    → told x.channel s x.generation ≡ x.got
+
+-- Where two such channels stay open at both sides, and the writer has no unacknowledged item of the stream, all was got that was sent.
+abbrev pub AreAllHandedOut : {N : Type 0} → Draws N → (readers : List ChannelUse) → PlainPolled N → (writers : List ChannelUse)
+    → PlainPolled N → Type 0
+AreAllHandedOut draws readers p writers q =
+    (x y : ChannelUse)
+    → Member x readers
+    → Member y writers
+    → (h : AreJoinedUses (plain_over draws) x p y q)
+    → has_unacknowledged h.writer.stream q.core.sctp.association.outbox.items ≡ false
+    → x.got ≡ y.sent
+
+-- The same where, besides, no whole message of the generation stands unread at the reader.
+abbrev pub AreWhollyHandedOut : {N : Type 0} → Draws N → (readers : List ChannelUse) → PlainPolled N → (writers : List ChannelUse)
+    → PlainPolled N → Type 0
+AreWhollyHandedOut draws readers p writers q =
+    (x y : ChannelUse)
+    → Member x readers
+    → Member y writers
+    → (h : AreJoinedUses (plain_over draws) x p y q)
+    → has_unacknowledged h.writer.stream q.core.sctp.association.outbox.items ≡ false
+    → has_unread p.core.sctp.association h.reader.stream x.generation ≡ false
+    → x.got ≡ y.sent
+
+-- In a run by these steps with these replies, of the channels that were opened in-band, each side announced each at most once, and at most
+-- one over each generation of a stream, to which it sent nothing before. Where the other side announced one over that generation too, it
+-- was told nothing of its own channel there before, and got over it a prefix of what the other side sent over its own; at the end of the
+-- run all of it, where both stay open and all was delivered, as it was where the side was drained since its last input and all is
+-- acknowledged.
+pub record HandsOut {N : Type 0} (draws : Draws N) (stun : List ℕ → Bool) (start : PlainPair N) (steps : List Step)
+    (replies : List (Reply PlainMediaEvent)) (pair : PlainPair N) (run : Runs (plain_over draws) stun start steps replies pair)
+    : Type 0 where
+  pub once : (at : Side) → AreAnnouncedOnce (uses_in_run (plain_over draws) stun start steps replies pair run at)
+  pub whole : (at : Side)
+      → AreSentWhole (uses_in_run (plain_over draws) stun start steps replies pair run at)
+      (sent_over (plain_over draws) stun start at run.past pair (reached_by (plain_over draws) stun start run.past pair run.went))
+  pub told : (at : Side)
+      → AreToldWhole (uses_in_run (plain_over draws) stun start steps replies pair run at)
+      (uses_in_run (plain_over draws) stun start steps replies pair run (other_side at))
+      (told_over (plain_over draws) stun start at run.past pair (reached_by (plain_over draws) stun start run.past pair run.went))
+  pub handed : (at : Side)
+      → AreHandedOut (uses_in_run (plain_over draws) stun start steps replies pair run at)
+      (uses_in_run (plain_over draws) stun start steps replies pair run (other_side at))
+  pub all : (at : Side)
+      → AreWhollyHandedOut draws (uses_in_run (plain_over draws) stun start steps replies pair run at) (rtc_at at pair)
+      (uses_in_run (plain_over draws) stun start steps replies pair run (other_side at)) (rtc_at (other_side at) pair)
+  pub drained : (at : Side)
+      → IsDrained at run.past
+      → AreAllHandedOut draws (uses_in_run (plain_over draws) stun start steps replies pair run at) (rtc_at at pair)
+      (uses_in_run (plain_over draws) stun start steps replies pair run (other_side at)) (rtc_at (other_side at) pair)

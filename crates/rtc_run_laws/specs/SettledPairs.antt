@@ -1,0 +1,279 @@
+-- Pairs in which nothing is under way any more, and what holds of the channels of such a pair (RFC 8832, section 6).
+use Rattle.std.specs.Prelude.{ℕ, ◌≡◌, ◌+◌, ◌<◌, ◌-◌, ◌^◌, ◌⊎◌, Bool, true, false, List, [], ◌∷◌, Some, None}
+use Rattle.rtc_part_values.specs.Among.{Member}
+use Rattle.rtc_part_dtls.specs.DtlsState.{can_send}
+use Rattle.rtc_plain_dtls.specs.PlainMeaning.{plain_dtls}
+use Rattle.rtc_assoc_state.specs.Contents.{closed_here, generation_of, has_stream, is_ending}
+use Rattle.rtc_assoc_state.specs.PlainMeaning.{plain_meaning}
+use Rattle.rtc_plain_media.specs.declared.plain_media_event.PlainMediaEvent.{PlainMediaEvent}
+use Rattle.rtc_part_draws.specs.Draws.{Draws}
+use Rattle.rtc_sctp_entries.specs.declared.stream_entry_state.StreamEntryState.TheVariants.{AwaitOpen, AwaitDcepAck}
+use Rattle.rtc_sctp_entries.specs.declared.stream_entry.StreamEntry.{StreamEntry}
+use Rattle.rtc_sctp_entries.specs.Entries.{has_open, is_out_of_band}
+use Rattle.rtc_sctp.specs.Streams.{is_established}
+use Rattle.rtc_channels.specs.Openings.{channels_wake}
+use Rattle.rtc_peer_core.specs.declared.phase.Phase.TheVariants.{Alive}
+use Rattle.rtc_peer_transport.specs.ChannelCalls.{open_stream_under, stream_under}
+use Rattle.rtc_peer_laws.specs.Drained.{IsTriedAgain}
+use Rattle.rtc_run_history.specs.declared.reply.Reply.{Reply}
+use Rattle.rtc_run_history.specs.declared.side.Side.{Side}
+use Rattle.rtc_run_history.specs.declared.step.Step.{Step}
+use Rattle.rtc_run_history.specs.PairState.{rtc_at}
+use Rattle.rtc_run_history.specs.Past.{Entry}
+use Rattle.rtc_run_history.specs.Runs.{Runs}
+use Rattle.rtc_run_history.specs.Sides.{other_side}
+use Rattle.rtc_run_laws.specs.PlainPairs.{PlainPair, PlainPolled, plain_over}
+use Rattle.rtc_run_laws.specs.ChannelUses.{ChannelUse}
+use Rattle.rtc_run_laws.specs.OpenUses.{AreJoinedUses}
+use Rattle.rtc_run_laws.specs.ConfirmedChannels.{WasConfirmed}
+use Rattle.rtc_run_laws.specs.InBandSteps.{AreInBandSteps}
+use Rattle.rtc_run_laws.specs.OwnOpenings.{HasEntryOf, HasOpening, IsInBandChannel, IsOfSide}
+use Rattle.rtc_run_laws.specs.RestingPasts.{IsResting, RestsUntil}
+use Rattle.rtc_run_laws.specs.StillPairs.{IsStillPair}
+use Rattle.rtc_run_laws.specs.UsesOfRuns.{reached_by, uses_in_run}
+
+-- nothing was due by then: the moment is later than each that the peer took
+abbrev pub HasNothingDue : {E N : Type 0} → Side → List (Entry E) → PlainPair N → Type 0
+HasNothingDue at past pair = RestsUntil (λ moment. (rtc_at at pair).core.greatest < moment) at past
+
+-- nor was anything to be tried again: the moment is later than half a second after the last one that the streams took, too
+abbrev pub HasNothingSoon : {E N : Type 0} → Side → List (Entry E) → PlainPair N → Type 0
+HasNothingSoon at past pair =
+    RestsUntil
+    (λ moment. ((rtc_at at pair).core.greatest < moment) × ((rtc_at at pair).core.sctp.last + 500_000_000 < moment)) at past
+
+-- A peer is alive, application data can go over its DTLS connection, and its association is established, neither closing nor closed. It has
+-- no unacknowledged item, and a number is left for a channel.
+pub record IsSettledPeer {N : Type 0} (p : PlainPolled N) : Type 0 where
+  pub alive : p.core.phase ≡ Alive
+  pub sends : can_send plain_dtls p.core.dtls ≡ true
+  pub established : is_established p.core.sctp.state ≡ true
+  pub lasting : is_ending p.core.sctp.association ≡ false
+  pub acknowledged : p.core.sctp.association.outbox.items ≡ []
+  pub numbers : p.core.channels.given < 2 ^ 64 - 1
+
+-- behind this past, both peers of a pair are so, and rest
+pub record IsSettledPair {E N : Type 0} (past : List (Entry E)) (pair : PlainPair N) : Type 0 where
+  pub peers : (at : Side) → IsSettledPeer (rtc_at at pair)
+  pub resting : (at : Side) → IsResting at past
+
+-- a stream was not settled by other means than messages
+abbrev pub IsInBandStream : (stream : ℕ) → List StreamEntry → Type 0
+IsInBandStream stream [] = Unit {0}
+IsInBandStream stream (entry ∷ entries) = (entry.id ≡ stream → is_out_of_band entry ≡ false) × IsInBandStream stream entries
+
+-- neither side settled a stream by other means than messages
+pub record AreInBandStreams {N : Type 0} (stream : ℕ) (p q : PlainPolled N) : Type 0 where
+  pub here : IsInBandStream stream p.core.sctp.entries
+  pub there : IsInBandStream stream q.core.sctp.entries
+
+-- both associations have a stream in one generation, and neither end closed it
+pub record IsLevelStream {N : Type 0} (stream : ℕ) (p q : PlainPolled N) : Type 0 where
+  pub generation_is : generation_of q.core.sctp.association stream ≡ generation_of p.core.sctp.association stream
+  pub unclosed_here : closed_here p.core.sctp.association stream ≡ false
+  pub unclosed_there : closed_here q.core.sctp.association stream ≡ false
+
+-- A channel of one side was announced, and so was one by the other side, over the same generation of the same stream. Both are open, and
+-- each side got over its channel all that the other sent over its own.
+pub record IsOpenAtBoth {N : Type 0} (draws : Draws N) (channel : ℕ) (uses : List ChannelUse) (p : PlainPolled N) (others : List ChannelUse)
+    (q : PlainPolled N) : Type 0 where
+  pub own : ChannelUse
+  pub member : Member own uses
+  pub channel_is : own.channel ≡ channel
+  pub other : ChannelUse
+  pub other_member : Member other others
+  pub joined : AreJoinedUses (plain_over draws) own p other q
+  pub got : own.got ≡ other.sent
+  pub sent : other.got ≡ own.sent
+
+-- So it is for each channel that is open at the one side, over a stream that neither side settled by other means than messages.
+abbrev pub AreOpenAtBoth : {N : Type 0} → Draws N → (uses : List ChannelUse) → PlainPolled N → (others : List ChannelUse) → PlainPolled N
+    → Type 0
+AreOpenAtBoth draws uses p others q =
+    (channel stream : ℕ)
+    → open_stream_under channel p ≡ Some stream
+    → AreInBandStreams stream p q
+    → IsOpenAtBoth draws channel uses p others q
+
+-- the open message for a stream waits for its answer
+abbrev pub WaitsForAnswer : (stream : ℕ) → List StreamEntry → Type 0
+WaitsForAnswer stream entries = HasEntryOf (λ entry. entry.state ≡ AwaitDcepAck) stream entries
+
+-- a stream is in use, and not only to be opened from here
+abbrev pub IsTakenUp : (stream : ℕ) → List StreamEntry → Type 0
+IsTakenUp stream entries = HasEntryOf (λ entry. entry.state ≡ AwaitOpen → ⊥) stream entries
+
+-- the opening of a stream is refused for now, as the stream is there already, and is tried again: it has been so for less than ten seconds
+abbrev pub IsOpeningRefused : {N : Type 0} → (stream : ℕ) → PlainPolled N → Type 0
+IsOpeningRefused stream p =
+    HasEntryOf (IsTriedAgain p.core.sctp.last) stream p.core.sctp.entries
+    × (has_stream p.core.sctp.association stream ≡ true)
+
+-- Where an opening waits for its answer over such a stream, the other side has the stream not in use, and its own opening of it is refused
+-- for now.
+abbrev pub AreAnswered : {N : Type 0} → PlainPolled N → PlainPolled N → Type 0
+AreAnswered p q =
+    (stream : ℕ)
+    → AreInBandStreams stream p q
+    → WaitsForAnswer stream p.core.sctp.entries
+    → IsOpeningRefused stream q × (IsTakenUp stream q.core.sctp.entries → ⊥)
+
+-- each channel of one side that was confirmed and has such a stream is open at both
+abbrev pub AreConfirmedOpen : {N : Type 0} → Draws N → (confirmed : ℕ → Type 0) → (uses : List ChannelUse) → PlainPolled N
+    → (others : List ChannelUse) → PlainPolled N → Type 0
+AreConfirmedOpen draws confirmed uses p others q =
+    (channel stream : ℕ)
+    → confirmed channel
+    → stream_under channel p.core.channels ≡ Some stream
+    → AreInBandStreams stream p q
+    → IsOpenAtBoth draws channel uses p others q
+
+-- the opening of a stream from here is refused for now, and the stream is not open at the other side either
+abbrev pub IsRefusedAlone : {N : Type 0} → (stream : ℕ) → PlainPolled N → PlainPolled N → Type 0
+IsRefusedAlone stream p q = IsOpeningRefused stream p × (has_open stream q.core.sctp.entries ≡ false)
+
+-- both sides opened a stream themselves: the opening from here waits for its answer, and the one from there is refused for now
+abbrev pub AreBothOpening : {N : Type 0} → (stream : ℕ) → PlainPolled N → PlainPolled N → Type 0
+AreBothOpening stream p q = WaitsForAnswer stream p.core.sctp.entries × IsOpeningRefused stream q
+
+-- Each channel of one side that was confirmed and has such a stream is open at both, or the opening of the stream is refused for now, also
+-- where both sides opened it.
+abbrev pub AreConfirmedSettled : {N : Type 0} → Draws N → (confirmed : ℕ → Type 0) → (uses : List ChannelUse) → PlainPolled N
+    → (others : List ChannelUse) → PlainPolled N → Type 0
+AreConfirmedSettled draws confirmed uses p others q =
+    (channel stream : ℕ)
+    → confirmed channel
+    → stream_under channel p.core.channels ≡ Some stream
+    → AreInBandStreams stream p q
+    → IsOpenAtBoth draws channel uses p others q ⊎ (IsRefusedAlone stream p q ⊎ AreBothOpening stream p q)
+
+-- the stream of no channel of either side was settled by other means than messages
+pub record AreInBandChannels {N : Type 0} (stream : ℕ) (p q : PlainPolled N) : Type 0 where
+  pub here : IsInBandChannel stream p.core.channels.rows
+  pub there : IsInBandChannel stream q.core.channels.rows
+
+-- an opening from here is over a stream of this side, where no channel was settled for the stream by other means
+abbrev pub AreOwnOpenings : {N : Type 0} → PlainPolled N → Type 0
+AreOwnOpenings p =
+    (stream : ℕ)
+    → IsInBandChannel stream p.core.channels.rows
+    → HasOpening stream p.core.sctp.entries
+    → IsOfSide p.core.sctp.client stream
+
+-- one started its association as the client, and the other one as the server
+abbrev pub AreOnSides : {N : Type 0} → PlainPolled N → PlainPolled N → Type 0
+AreOnSides p q = q.core.sctp.client ≡ p.core.sctp.client → ⊥
+
+-- no stream is opened from both sides, unless a channel was settled for it by other means
+abbrev pub OpenNoneBoth : {N : Type 0} → PlainPolled N → PlainPolled N → Type 0
+OpenNoneBoth p q =
+    (stream : ℕ)
+    → AreInBandChannels stream p q
+    → HasOpening stream p.core.sctp.entries
+    → HasOpening stream q.core.sctp.entries
+    → ⊥
+
+-- no opening waits for its answer, where neither side settled its stream or a channel for it by other means
+abbrev pub WaitsNone : {N : Type 0} → PlainPolled N → PlainPolled N → Type 0
+WaitsNone p q =
+    (stream : ℕ)
+    → AreInBandStreams stream p q
+    → AreInBandChannels stream p q
+    → WaitsForAnswer stream p.core.sctp.entries
+    → ⊥
+
+-- Each channel of one side that was confirmed is open at both, where neither side settled its stream by other means; or the opening of the
+-- stream is refused for now, and it is not open at the other side either.
+abbrev pub AreConfirmedAlone : {N : Type 0} → Draws N → (confirmed : ℕ → Type 0) → (uses : List ChannelUse) → PlainPolled N
+    → (others : List ChannelUse) → PlainPolled N → Type 0
+AreConfirmedAlone draws confirmed uses p others q =
+    (channel stream : ℕ)
+    → confirmed channel
+    → stream_under channel p.core.channels ≡ Some stream
+    → AreInBandStreams stream p q
+    → AreInBandChannels stream p q
+    → IsOpenAtBoth draws channel uses p others q ⊎ IsRefusedAlone stream p q
+
+-- Each channel of one side that was confirmed is open at both, where neither side settled its stream by other means, and the stream is in
+-- its first generation: it was never reset.
+abbrev pub AreConfirmedUnreset : {N : Type 0} → Draws N → (confirmed : ℕ → Type 0) → (uses : List ChannelUse) → PlainPolled N
+    → (others : List ChannelUse) → PlainPolled N → Type 0
+AreConfirmedUnreset draws confirmed uses p others q =
+    (channel stream : ℕ)
+    → confirmed channel
+    → stream_under channel p.core.channels ≡ Some stream
+    → AreInBandStreams stream p q
+    → AreInBandChannels stream p q
+    → generation_of p.core.sctp.association stream ≡ 0
+    → IsOpenAtBoth draws channel uses p others q
+
+-- each channel of one side that was confirmed is open at both, where its stream was never reset
+abbrev pub AreConfirmedFirst : {N : Type 0} → Draws N → (confirmed : ℕ → Type 0) → (uses : List ChannelUse) → PlainPolled N
+    → (others : List ChannelUse) → PlainPolled N → Type 0
+AreConfirmedFirst draws confirmed uses p others q =
+    (channel stream : ℕ)
+    → confirmed channel
+    → stream_under channel p.core.channels ≡ Some stream
+    → generation_of p.core.sctp.association stream ≡ 0
+    → IsOpenAtBoth draws channel uses p others q
+
+-- A run by these steps with these replies leaves it so at both sides, where it left the pair settled. Of channels that were confirmed it
+-- tells where nothing is due for those of the side; they are open where besides no opening is under way at either side, and where the last
+-- timeouts of both are late enough. One side is the client and the other one the server; each opening is over a stream of its own side, so
+-- that both never open one, and no opening waits for its answer. Where no step added a channel that was settled by other means than
+-- messages, and the pair kept no session description before, no stream was settled so.
+pub record SettlesOpen {N : Type 0} (draws : Draws N) (stun : List ℕ → Bool) (start : PlainPair N) (steps : List Step)
+    (replies : List (Reply PlainMediaEvent)) (pair : PlainPair N) (run : Runs (plain_over draws) stun start steps replies pair)
+    : Type 0 where
+  pub level : IsSettledPair run.past pair → (at : Side) (stream : ℕ) → IsLevelStream stream (rtc_at at pair) (rtc_at (other_side at) pair)
+  pub opened : IsSettledPair run.past pair → (at : Side)
+      → AreOpenAtBoth draws (uses_in_run (plain_over draws) stun start steps replies pair run at) (rtc_at at pair)
+      (uses_in_run (plain_over draws) stun start steps replies pair run (other_side at)) (rtc_at (other_side at) pair)
+  pub answered : IsSettledPair run.past pair → (at : Side) → AreAnswered (rtc_at at pair) (rtc_at (other_side at) pair)
+  pub idle : IsSettledPair run.past pair → (at : Side) → HasNothingDue at run.past pair
+      → channels_wake plain_meaning (rtc_at at pair).core.channels (rtc_at at pair).core.sctp ≡ None
+  pub refused : IsSettledPair run.past pair → (at : Side)
+      → channels_wake plain_meaning (rtc_at at pair).core.channels (rtc_at at pair).core.sctp ≡ None
+      → AreConfirmedSettled draws
+      (λ channel. WasConfirmed (plain_over draws) stun start at channel run.past pair
+      (reached_by (plain_over draws) stun start run.past pair run.went))
+      (uses_in_run (plain_over draws) stun start steps replies pair run at) (rtc_at at pair)
+      (uses_in_run (plain_over draws) stun start steps replies pair run (other_side at)) (rtc_at (other_side at) pair)
+  pub confirmed : IsSettledPair run.past pair → IsStillPair pair → (at : Side)
+      → AreConfirmedOpen draws
+      (λ channel. WasConfirmed (plain_over draws) stun start at channel run.past pair
+      (reached_by (plain_over draws) stun start run.past pair run.went))
+      (uses_in_run (plain_over draws) stun start steps replies pair run at) (rtc_at at pair)
+      (uses_in_run (plain_over draws) stun start steps replies pair run (other_side at)) (rtc_at (other_side at) pair)
+  pub later : IsSettledPair run.past pair → ((at : Side) → HasNothingSoon at run.past pair) → (at : Side)
+      → AreConfirmedOpen draws
+      (λ channel. WasConfirmed (plain_over draws) stun start at channel run.past pair
+      (reached_by (plain_over draws) stun start run.past pair run.went))
+      (uses_in_run (plain_over draws) stun start steps replies pair run at) (rtc_at at pair)
+      (uses_in_run (plain_over draws) stun start steps replies pair run (other_side at)) (rtc_at (other_side at) pair)
+  pub own : IsSettledPair run.past pair → (at : Side) → AreOwnOpenings (rtc_at at pair)
+  pub sides : IsSettledPair run.past pair → (at : Side) → AreOnSides (rtc_at at pair) (rtc_at (other_side at) pair)
+  pub parted : IsSettledPair run.past pair → (at : Side) → OpenNoneBoth (rtc_at at pair) (rtc_at (other_side at) pair)
+  pub waits_none : IsSettledPair run.past pair → (at : Side) → WaitsNone (rtc_at at pair) (rtc_at (other_side at) pair)
+  pub alone : IsSettledPair run.past pair → (at : Side)
+      → channels_wake plain_meaning (rtc_at at pair).core.channels (rtc_at at pair).core.sctp ≡ None
+      → AreConfirmedAlone draws
+      (λ channel. WasConfirmed (plain_over draws) stun start at channel run.past pair
+      (reached_by (plain_over draws) stun start run.past pair run.went))
+      (uses_in_run (plain_over draws) stun start steps replies pair run at) (rtc_at at pair)
+      (uses_in_run (plain_over draws) stun start steps replies pair run (other_side at)) (rtc_at (other_side at) pair)
+  pub unreset : IsSettledPair run.past pair → (at : Side) → HasNothingDue at run.past pair
+      → AreConfirmedUnreset draws
+      (λ channel. WasConfirmed (plain_over draws) stun start at channel run.past pair
+      (reached_by (plain_over draws) stun start run.past pair run.went))
+      (uses_in_run (plain_over draws) stun start steps replies pair run at) (rtc_at at pair)
+      (uses_in_run (plain_over draws) stun start steps replies pair run (other_side at)) (rtc_at (other_side at) pair)
+  pub in_band : start.sdps ≡ [] → AreInBandSteps steps → IsSettledPair run.past pair → (at : Side) (stream : ℕ)
+      → AreInBandStreams stream (rtc_at at pair) (rtc_at (other_side at) pair)
+      × AreInBandChannels stream (rtc_at at pair) (rtc_at (other_side at) pair)
+  pub all_in_band : start.sdps ≡ [] → AreInBandSteps steps → IsSettledPair run.past pair → (at : Side) → HasNothingDue at run.past pair
+      → AreConfirmedFirst draws
+      (λ channel. WasConfirmed (plain_over draws) stun start at channel run.past pair
+      (reached_by (plain_over draws) stun start run.past pair run.went))
+      (uses_in_run (plain_over draws) stun start steps replies pair run at) (rtc_at at pair)
+      (uses_in_run (plain_over draws) stun start steps replies pair run (other_side at)) (rtc_at (other_side at) pair)

@@ -1,0 +1,57 @@
+//! The messages that channels hand out in a run of two peers over plain parts.
+ghost use Rattle.std.specs.Prelude.{ℕ, Bool, List};
+ghost use Rattle.rtc_plain_media.specs.declared.plain_media_event.PlainMediaEvent.{PlainMediaEvent};
+ghost use Rattle.rtc_run_history.specs.declared.reply.Reply.{Reply};
+ghost use Rattle.rtc_run_history.specs.declared.side.Side.{Side};
+ghost use Rattle.rtc_run_history.specs.declared.step.Step.{Step};
+ghost use Rattle.rtc_run_history.specs.PairState.{rtc_at};
+ghost use Rattle.rtc_run_history.specs.Past.{Entry};
+ghost use Rattle.rtc_run_history.specs.Runs.{Reached, Runs};
+ghost use Rattle.rtc_run_history.specs.Sides.{other_side};
+ghost use Rattle.rtc_run_laws.specs.NewPairs.{IsNewPair};
+ghost use Rattle.rtc_run_laws.specs.PlainPairs.{PlainPair, plain_over};
+ghost use Rattle.rtc_run_laws.specs.AnnouncedOnce.{AreAnnouncedOnce};
+ghost use Rattle.rtc_run_laws.specs.DrainedSides.{IsDrained};
+ghost use Rattle.rtc_run_laws.specs.HandedOut.{AreAllHandedOut, AreHandedOut, AreSentWhole, AreToldWhole};
+ghost use Rattle.rtc_run_laws.specs.HandedOut.{AreWhollyHandedOut, HandsOut};
+ghost use Rattle.rtc_run_laws.specs.SentMessages.{sent_over};
+ghost use Rattle.rtc_run_laws.specs.ToldMessages.{told_over};
+ghost use Rattle.rtc_run_laws.specs.UsesOfRuns.{uses_of};
+
+use rtc_part_draws::Ids;
+
+/// Whatever datagrams a run of two peers loses, repeats or reorders: of the channels that were opened in-band, each side announces
+/// each at most once, and at most one over each generation of a stream, to which it sent nothing before. Where each side announced
+/// such a channel over the same generation of the same stream, what one got over its channel since is all that it was told of it in
+/// that generation, and a prefix of what the other sent over its own since. It is all of that where both channels stay open, the
+/// writer has no unacknowledged item of the stream, and no whole message of the generation stands unread at the reader. None does
+/// where the reader was drained: since its last input, and since a channel was last told to be open, a poll of it answered a timeout.
+pub fn channels_hand_out_prefixes<N: Ids>()
+    ensures reached { (stun : List ℕ → Bool) (start pair : PlainPair N) (past : List (Entry PlainMediaEvent)) → IsNewPair N.ids start
+        → (ran : Reached (plain_over N.ids) stun start past pair) → (at : Side)
+        → AreHandedOut (uses_of (plain_over N.ids) stun start at past pair ran)
+        (uses_of (plain_over N.ids) stun start (other_side at) past pair ran) }
+    ensures once { (stun : List ℕ → Bool) (start pair : PlainPair N) (past : List (Entry PlainMediaEvent)) → IsNewPair N.ids start
+        → (ran : Reached (plain_over N.ids) stun start past pair) → (at : Side)
+        → AreAnnouncedOnce (uses_of (plain_over N.ids) stun start at past pair ran) }
+    ensures whole { (stun : List ℕ → Bool) (start pair : PlainPair N) (past : List (Entry PlainMediaEvent)) → IsNewPair N.ids start
+        → (ran : Reached (plain_over N.ids) stun start past pair) → (at : Side)
+        → AreSentWhole (uses_of (plain_over N.ids) stun start at past pair ran)
+        (sent_over (plain_over N.ids) stun start at past pair ran) }
+    ensures told { (stun : List ℕ → Bool) (start pair : PlainPair N) (past : List (Entry PlainMediaEvent)) → IsNewPair N.ids start
+        → (ran : Reached (plain_over N.ids) stun start past pair) → (at : Side)
+        → AreToldWhole (uses_of (plain_over N.ids) stun start at past pair ran)
+        (uses_of (plain_over N.ids) stun start (other_side at) past pair ran)
+        (told_over (plain_over N.ids) stun start at past pair ran) }
+    ensures all { (stun : List ℕ → Bool) (start pair : PlainPair N) (past : List (Entry PlainMediaEvent)) → IsNewPair N.ids start
+        → (ran : Reached (plain_over N.ids) stun start past pair) → (at : Side)
+        → AreWhollyHandedOut N.ids (uses_of (plain_over N.ids) stun start at past pair ran) (rtc_at at pair)
+        (uses_of (plain_over N.ids) stun start (other_side at) past pair ran) (rtc_at (other_side at) pair) }
+    ensures drained { (stun : List ℕ → Bool) (start pair : PlainPair N) (past : List (Entry PlainMediaEvent)) → IsNewPair N.ids start
+        → (ran : Reached (plain_over N.ids) stun start past pair) → (at : Side) → IsDrained at past
+        → AreAllHandedOut N.ids (uses_of (plain_over N.ids) stun start at past pair ran) (rtc_at at pair)
+        (uses_of (plain_over N.ids) stun start (other_side at) past pair ran) (rtc_at (other_side at) pair) }
+    ensures ran { (stun : List ℕ → Bool) (start pair : PlainPair N) (steps : List Step) (replies : List (Reply PlainMediaEvent))
+        → IsNewPair N.ids start → (run : Runs (plain_over N.ids) stun start steps replies pair)
+        → HandsOut N.ids stun start steps replies pair run }
+{}

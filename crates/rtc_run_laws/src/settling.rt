@@ -1,0 +1,117 @@
+//! The channels of a run of two peers over plain parts that ended with nothing under way.
+ghost use Rattle.std.specs.Prelude.{ℕ, ◌≡◌, Bool, List, [], None};
+ghost use Rattle.rtc_assoc_state.specs.PlainMeaning.{plain_meaning};
+ghost use Rattle.rtc_channels.specs.Openings.{channels_wake};
+ghost use Rattle.rtc_plain_media.specs.declared.plain_media_event.PlainMediaEvent.{PlainMediaEvent};
+ghost use Rattle.rtc_run_history.specs.declared.reply.Reply.{Reply};
+ghost use Rattle.rtc_run_history.specs.declared.side.Side.{Side};
+ghost use Rattle.rtc_run_history.specs.declared.step.Step.{Step};
+ghost use Rattle.rtc_run_history.specs.PairState.{rtc_at};
+ghost use Rattle.rtc_run_history.specs.Past.{Entry, steps_of};
+ghost use Rattle.rtc_run_history.specs.Runs.{Reached, Runs};
+ghost use Rattle.rtc_run_history.specs.Sides.{other_side};
+ghost use Rattle.rtc_run_laws.specs.NewPairs.{IsNewPair};
+ghost use Rattle.rtc_run_laws.specs.PlainPairs.{PlainPair, plain_over};
+ghost use Rattle.rtc_run_laws.specs.ConfirmedChannels.{WasConfirmed};
+ghost use Rattle.rtc_run_laws.specs.InBandSteps.{AreInBandSteps};
+ghost use Rattle.rtc_run_laws.specs.SettledPairs.{AreConfirmedFirst, AreInBandChannels, AreInBandStreams};
+ghost use Rattle.rtc_run_laws.specs.SettledPairs.{AreAnswered, AreConfirmedAlone, AreConfirmedOpen, AreConfirmedSettled};
+ghost use Rattle.rtc_run_laws.specs.SettledPairs.{AreConfirmedUnreset, AreOnSides, AreOpenAtBoth, AreOwnOpenings, OpenNoneBoth};
+ghost use Rattle.rtc_run_laws.specs.SettledPairs.{HasNothingDue, HasNothingSoon, IsLevelStream, IsSettledPair, SettlesOpen, WaitsNone};
+ghost use Rattle.rtc_run_laws.specs.StillPairs.{IsStillPair};
+ghost use Rattle.rtc_run_laws.specs.UsesOfRuns.{uses_of};
+
+use rtc_part_draws::Ids;
+
+/// Where both peers are alive, with their DTLS connections and their associations standing, where each was polled up to a timeout
+/// since its last input and its last call, and where no association has an unacknowledged item: both associations have each stream in
+/// one generation, and neither closed it. A channel that is open at one side is open at both, and each side announced it, over one
+/// generation of one stream; and each got all that the other sent over it. So it is over each stream that neither side settled by other
+/// means than messages, while a number is left for a channel. An opening over such a stream waits for its answer only where the other
+/// side has the stream not in use, and its own opening of it is refused for now.
+///
+/// Nothing is due for the channels of a side whose last timeout is later than each moment that its peer took. Where nothing is, each
+/// of them that was confirmed in the run, and has such a stream, is open at both sides so; or the opening of its stream is refused for
+/// now, as the stream is there already, and has been for less than ten seconds, while it is not open at the other side either; or both
+/// sides opened the stream themselves, so that the opening from here waits for its answer, and the one from there is refused so. It is
+/// open at both, where neither the associations with their streams nor the channels over them want a moment; and where both last timeouts
+/// are later than each moment that the peers took, and than half a second after the last one that their streams took.
+///
+/// A stream that is opened from here is even where this side started the association as the client, and odd where it did as the server,
+/// unless a channel was settled for the stream by other means. One side started it as the client, and the other one as the server: each
+/// did by its DTLS role, and a handshake is finished only between the two roles. So no such stream is opened from both, no opening waits
+/// for its answer, and the last of the three cases does not come. Nor does the second one, of a stream that was never reset, which is in
+/// its first generation: each channel that was confirmed and has such a stream is then open at both sides, where the last timeout of its
+/// side is later than each moment that its peer took.
+///
+/// Where no step added a channel with a stream that both ends settled by other means, and the pair kept no session description at its
+/// start, no stream was settled so: each channel that was confirmed, and whose stream was never reset, is then open at both sides, where
+/// the last timeout of its side is later than each moment that its peer took.
+pub fn settled_pairs_have_open_channels<N: Ids>()
+    ensures level { (stun : List ℕ → Bool) (start pair : PlainPair N) (past : List (Entry PlainMediaEvent)) → IsNewPair N.ids start
+        → Reached (plain_over N.ids) stun start past pair → IsSettledPair past pair → (at : Side) (stream : ℕ)
+        → IsLevelStream stream (rtc_at at pair) (rtc_at (other_side at) pair) }
+    ensures reached { (stun : List ℕ → Bool) (start pair : PlainPair N) (past : List (Entry PlainMediaEvent)) → IsNewPair N.ids start
+        → (ran : Reached (plain_over N.ids) stun start past pair) → IsSettledPair past pair → (at : Side)
+        → AreOpenAtBoth N.ids (uses_of (plain_over N.ids) stun start at past pair ran) (rtc_at at pair)
+        (uses_of (plain_over N.ids) stun start (other_side at) past pair ran) (rtc_at (other_side at) pair) }
+    ensures answered { (stun : List ℕ → Bool) (start pair : PlainPair N) (past : List (Entry PlainMediaEvent)) → IsNewPair N.ids start
+        → Reached (plain_over N.ids) stun start past pair → IsSettledPair past pair → (at : Side)
+        → AreAnswered (rtc_at at pair) (rtc_at (other_side at) pair) }
+    ensures idle { (stun : List ℕ → Bool) (start pair : PlainPair N) (past : List (Entry PlainMediaEvent)) → IsNewPair N.ids start
+        → Reached (plain_over N.ids) stun start past pair → IsSettledPair past pair → (at : Side) → HasNothingDue at past pair
+        → channels_wake plain_meaning (rtc_at at pair).core.channels (rtc_at at pair).core.sctp ≡ None }
+    ensures refused { (stun : List ℕ → Bool) (start pair : PlainPair N) (past : List (Entry PlainMediaEvent)) → IsNewPair N.ids start
+        → (ran : Reached (plain_over N.ids) stun start past pair) → IsSettledPair past pair → (at : Side)
+        → channels_wake plain_meaning (rtc_at at pair).core.channels (rtc_at at pair).core.sctp ≡ None
+        → AreConfirmedSettled N.ids (λ channel. WasConfirmed (plain_over N.ids) stun start at channel past pair ran)
+        (uses_of (plain_over N.ids) stun start at past pair ran) (rtc_at at pair)
+        (uses_of (plain_over N.ids) stun start (other_side at) past pair ran) (rtc_at (other_side at) pair) }
+    ensures confirmed { (stun : List ℕ → Bool) (start pair : PlainPair N) (past : List (Entry PlainMediaEvent)) → IsNewPair N.ids start
+        → (ran : Reached (plain_over N.ids) stun start past pair) → IsSettledPair past pair → IsStillPair pair → (at : Side)
+        → AreConfirmedOpen N.ids (λ channel. WasConfirmed (plain_over N.ids) stun start at channel past pair ran)
+        (uses_of (plain_over N.ids) stun start at past pair ran) (rtc_at at pair)
+        (uses_of (plain_over N.ids) stun start (other_side at) past pair ran) (rtc_at (other_side at) pair) }
+    ensures later { (stun : List ℕ → Bool) (start pair : PlainPair N) (past : List (Entry PlainMediaEvent)) → IsNewPair N.ids start
+        → (ran : Reached (plain_over N.ids) stun start past pair) → IsSettledPair past pair
+        → ((at : Side) → HasNothingSoon at past pair) → (at : Side)
+        → AreConfirmedOpen N.ids (λ channel. WasConfirmed (plain_over N.ids) stun start at channel past pair ran)
+        (uses_of (plain_over N.ids) stun start at past pair ran) (rtc_at at pair)
+        (uses_of (plain_over N.ids) stun start (other_side at) past pair ran) (rtc_at (other_side at) pair) }
+    ensures own { (stun : List ℕ → Bool) (start pair : PlainPair N) (past : List (Entry PlainMediaEvent)) → IsNewPair N.ids start
+        → Reached (plain_over N.ids) stun start past pair → IsSettledPair past pair → (at : Side) → AreOwnOpenings (rtc_at at pair) }
+    ensures sides { (stun : List ℕ → Bool) (start pair : PlainPair N) (past : List (Entry PlainMediaEvent)) → IsNewPair N.ids start
+        → Reached (plain_over N.ids) stun start past pair → IsSettledPair past pair → (at : Side)
+        → AreOnSides (rtc_at at pair) (rtc_at (other_side at) pair) }
+    ensures parted { (stun : List ℕ → Bool) (start pair : PlainPair N) (past : List (Entry PlainMediaEvent)) → IsNewPair N.ids start
+        → Reached (plain_over N.ids) stun start past pair → IsSettledPair past pair → (at : Side)
+        → OpenNoneBoth (rtc_at at pair) (rtc_at (other_side at) pair) }
+    ensures waits_none { (stun : List ℕ → Bool) (start pair : PlainPair N) (past : List (Entry PlainMediaEvent)) → IsNewPair N.ids start
+        → Reached (plain_over N.ids) stun start past pair → IsSettledPair past pair → (at : Side)
+        → WaitsNone (rtc_at at pair) (rtc_at (other_side at) pair) }
+    ensures alone { (stun : List ℕ → Bool) (start pair : PlainPair N) (past : List (Entry PlainMediaEvent)) → IsNewPair N.ids start
+        → (ran : Reached (plain_over N.ids) stun start past pair) → IsSettledPair past pair → (at : Side)
+        → channels_wake plain_meaning (rtc_at at pair).core.channels (rtc_at at pair).core.sctp ≡ None
+        → AreConfirmedAlone N.ids (λ channel. WasConfirmed (plain_over N.ids) stun start at channel past pair ran)
+        (uses_of (plain_over N.ids) stun start at past pair ran) (rtc_at at pair)
+        (uses_of (plain_over N.ids) stun start (other_side at) past pair ran) (rtc_at (other_side at) pair) }
+    ensures unreset { (stun : List ℕ → Bool) (start pair : PlainPair N) (past : List (Entry PlainMediaEvent)) → IsNewPair N.ids start
+        → (ran : Reached (plain_over N.ids) stun start past pair) → IsSettledPair past pair → (at : Side) → HasNothingDue at past pair
+        → AreConfirmedUnreset N.ids (λ channel. WasConfirmed (plain_over N.ids) stun start at channel past pair ran)
+        (uses_of (plain_over N.ids) stun start at past pair ran) (rtc_at at pair)
+        (uses_of (plain_over N.ids) stun start (other_side at) past pair ran) (rtc_at (other_side at) pair) }
+    ensures in_band { (stun : List ℕ → Bool) (start pair : PlainPair N) (past : List (Entry PlainMediaEvent)) → IsNewPair N.ids start
+        → start.sdps ≡ [] → Reached (plain_over N.ids) stun start past pair → AreInBandSteps (steps_of past) → IsSettledPair past pair
+        → (at : Side) (stream : ℕ)
+        → AreInBandStreams stream (rtc_at at pair) (rtc_at (other_side at) pair)
+        × AreInBandChannels stream (rtc_at at pair) (rtc_at (other_side at) pair) }
+    ensures all_in_band { (stun : List ℕ → Bool) (start pair : PlainPair N) (past : List (Entry PlainMediaEvent)) → IsNewPair N.ids start
+        → start.sdps ≡ [] → (ran : Reached (plain_over N.ids) stun start past pair) → AreInBandSteps (steps_of past)
+        → IsSettledPair past pair → (at : Side) → HasNothingDue at past pair
+        → AreConfirmedFirst N.ids (λ channel. WasConfirmed (plain_over N.ids) stun start at channel past pair ran)
+        (uses_of (plain_over N.ids) stun start at past pair ran) (rtc_at at pair)
+        (uses_of (plain_over N.ids) stun start (other_side at) past pair ran) (rtc_at (other_side at) pair) }
+    ensures ran { (stun : List ℕ → Bool) (start pair : PlainPair N) (steps : List Step) (replies : List (Reply PlainMediaEvent))
+        → IsNewPair N.ids start → (run : Runs (plain_over N.ids) stun start steps replies pair)
+        → SettlesOpen N.ids stun start steps replies pair run }
+{}

@@ -1,0 +1,12 @@
+pub mod ShownRows
+pub mod Ops
+pub mod ChannelCounts
+pub mod Staged
+pub mod Negotiated
+pub mod Lent
+pub mod RowsLeft
+pub mod AnsweredOffers
+pub mod Drained
+pub mod PollsKeep
+pub mod Answered
+pub mod AnsweredWrites

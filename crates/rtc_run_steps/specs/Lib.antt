@@ -1,0 +1,9 @@
+pub mod NoSuch
+pub mod ShownTable
+pub mod Brings
+pub mod Keeping
+pub mod RefusedChannel
+pub mod Stages
+pub mod OutcomeOf
+pub mod Turns
+pub mod Written

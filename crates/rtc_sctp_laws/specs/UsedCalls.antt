@@ -1,0 +1,33 @@
+-- What a poll of streams did, and what it leaves of the use of each stream.
+use Rattle.std.specs.Prelude.{ℕ, ◌≡◌, ◌++◌, ◌⊎◌, true, List, [], Option}
+use Rattle.rtc_part_association.specs.declared.assoc_event.AssocEvent.{AssocEvent}
+use Rattle.rtc_part_association.specs.AssociationMeaning.{AssociationMeaning}
+use Rattle.rtc_sctp_entries.specs.declared.met.Met.{Met}
+use Rattle.rtc_sctp.specs.Streams.{SctpStreams}
+use Rattle.rtc_sctp_laws.specs.StreamMessages.{StreamMessage, are_dcep, shown_messages, data_met, packets_met, pushed_packets}
+use Rattle.rtc_sctp_laws.specs.StreamActs.{AssociationDid}
+use Rattle.rtc_sctp_laws.specs.GenerationLaws.{GenerationLaws}
+use Rattle.rtc_sctp_laws.specs.StreamUses.{HasOpenInBand, IsLive, LeavesLive, TellsStreamOpen, are_of_generation, IsUsed, LeavesUse}
+
+-- the use of a stream by what was written and read until now
+abbrev pub IsUsedOver : {S : Type 0} → AssociationMeaning S → ℕ → (written heard : List StreamMessage) → SctpStreams S → Type 0
+IsUsedOver m s written heard p = IsUsed m s written heard p.association p.entries
+
+-- A poll, or a step of one: it gave no packet, took these and was told these events, wrote messages that open channels alone, and what it
+-- answered of data is what it read. What it sent, and what stands pushed back behind it, is what stood pushed back before and what it
+-- took. Each use goes on by what it wrote and read, and a stream that it told to be open was opened. A live stream stays so unless it is
+-- told to be closed, and what was read of it is of its generation. A stream that is open in-band was so before, or is told to be open.
+pub record PollUses {S : Type 0} (m : AssociationMeaning S) (p : SctpStreams S) (met : Met) (q : SctpStreams S) : Type 0 where
+  pub outs : List (List ℕ)
+  pub tells : List AssocEvent
+  pub wrote : List StreamMessage
+  pub heard : List StreamMessage
+  pub did : AssociationDid m [] outs tells wrote heard p.association q.association
+  pub dcep : are_dcep wrote ≡ true
+  pub sent_is : packets_met met ++ pushed_packets q.pushed ≡ pushed_packets p.pushed ++ outs
+  pub shown_is : data_met met ≡ shown_messages heard
+  pub leaves : GenerationLaws m → (s : ℕ) (written read : List StreamMessage) → IsUsedOver m s written read p
+      → LeavesUse m met s (written ++ wrote) (read ++ heard) q.association q.entries
+  pub lives : (s g : ℕ) → IsLive s g p.entries → LeavesLive met s g q.entries
+  pub live_heard : (s g : ℕ) → IsLive s g p.entries → are_of_generation s g heard ≡ true
+  pub fresh : (s : ℕ) (own : Option ℕ) → HasOpenInBand s own q.entries → HasOpenInBand s own p.entries ⊎ TellsStreamOpen met s

@@ -1,2 +1,0 @@
-pub mod NoSuch
-pub mod ShownTable

@@ -1,3 +1,0 @@
-pub mod GenerationLaws
-pub mod StreamUses
-pub mod UsedCalls

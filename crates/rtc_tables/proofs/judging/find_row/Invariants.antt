@@ -1,7 +1,0 @@
-use Rattle.std.proofs.Common.{◌≡◌, drop}
-use Rattle.std.specs.Prelude.{find}
-use Rattle.rtc_tables.specs.Table.{is_of}
-use Rattle.rtc_tables.proofs.judging.find_row.Given as goal
-
-abbrev pub invariant-loop-row : goal.invariant-loop-row
-invariant-loop-row l = find (is_of l.mid) (drop l.row-index l.rows) ≡ find (is_of l.mid) l.rows

@@ -1,6 +1,0 @@
-use Rattle.std.proofs.Common.{◌≡◌, drop}
-use Rattle.rtc_tables.specs.Table.{has_mid}
-use Rattle.rtc_tables.proofs.judging.has_row.Given as goal
-
-abbrev pub invariant-loop-row : goal.invariant-loop-row
-invariant-loop-row l = has_mid l.mid (drop l.row-index l.rows) ≡ has_mid l.mid l.rows

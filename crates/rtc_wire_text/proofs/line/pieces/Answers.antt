@@ -1,0 +1,9 @@
+use Rattle.std.proofs.Common.{◌==◌, rules}
+use Rattle.std.proofs.lemmas.Iterator.Splits.{YieldsList-from_slice_split}
+use Rattle.std.proofs.lemmas.Iterator.Consumers.{map_from_collect}
+use Rattle.rtc_wire_text.proofs.line.pieces.Goals as goal
+
+pub returns-clause-cut : goal.returns-clause-cut
+returns-clause-cut c =
+    map_from_collect _ c.collect.ensures.ran
+    (YieldsList-from_slice_split _ (λ byte. byte == 10) c.args.bytes.now c.split.ensures.rest c.split.ensures.done c.split.ensures.closure (λ x b q called. search rules))
