@@ -1,7 +1,7 @@
 //! Packets that are none, and packets that somebody else made.
 use crate::ends::{Call, Step, fresh, is_played, make};
-use rtc_part_association::{AssocEvent, Association};
 use rtc_cases::is_ok;
+use rtc_part_association::{AssocEvent, Association};
 use std::alloc::Global;
 
 // What a packet does to a server: its first event, how many packets it queues, and the last byte of the first one.

@@ -6,8 +6,8 @@ ghost use Rattle.rtc_change.specs.Plans.{same_creds, is_restart as IsRestart, un
 ghost use Rattle.rtc_change.specs.Plans.{changed_init, init_refusal, no_fingerprint};
 
 use crate::{Refusal, View};
-use rtc_sdp_values::{IceCreds, Sdp};
 use rtc_peer_rows::Why;
+use rtc_sdp_values::{IceCreds, Sdp};
 use rtc_wire::{Text, TryCopy};
 use rtc_wire_drops::release;
 use std::alloc::{AllocError, Global};

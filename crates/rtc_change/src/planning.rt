@@ -16,8 +16,8 @@ use crate::judging_sides::{is_restart, judge_init, judge_side};
 use crate::table_after::{find_new_places, find_removed, list_rows_after};
 use crate::wrong_lines::judge_new_lines;
 use crate::{Refusal, SdpPendingOffer, View};
-use rtc_sdp_values::Sdp;
 use rtc_peer_rows::{MidIndex, NewLine, ParsedLine, Plan, Why, judge_lines};
+use rtc_sdp_values::Sdp;
 use rtc_wire_drops::release;
 use std::alloc::{AllocError, Global};
 

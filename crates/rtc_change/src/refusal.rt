@@ -2,8 +2,8 @@
 ghost use Rattle.std.specs.Prelude.{◌≡◌};
 ghost use Rattle.rtc_change.specs.declared.refusal.Refusal.TheVariants.{Alloc};
 
-use rtc_sdp_values::SdpError;
 use rtc_peer_rows::Why;
+use rtc_sdp_values::SdpError;
 use std::alloc::{AllocError, AllocFailed};
 
 /// Why there is no plan for an offer or an answer.

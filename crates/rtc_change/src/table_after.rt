@@ -15,8 +15,8 @@ ghost use Rattle.rtc_change.specs.TableAfter.{
   is_stopped_by,
 };
 
-use rtc_sdp_values::{Direction, LineKind, LineRow, MediaKind, Mid};
 use rtc_peer_rows::{MidIndex, ParsedLine, find_app};
+use rtc_sdp_values::{Direction, LineKind, LineRow, MediaKind, Mid};
 use rtc_wire::Seq;
 use std::alloc::{AllocError, Global};
 

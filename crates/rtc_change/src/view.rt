@@ -1,6 +1,6 @@
 //! What offers and answers are judged by.
-use rtc_sdp_values::IceCreds;
 use rtc_peer_rows::Lines;
+use rtc_sdp_values::IceCreds;
 use std::marker::Model;
 
 /// What a peer holds that an offer or an answer is judged by.

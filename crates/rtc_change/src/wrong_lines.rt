@@ -6,8 +6,8 @@ ghost use Rattle.rtc_peer_rows.specs.Table.{Distinct};
 ghost use Rattle.rtc_change.specs.TableAfter.{new_places};
 
 use crate::table_after::is_new_line;
-use rtc_sdp_values::{LineKind, LineRow, MediaKind, Mid};
 use rtc_peer_rows::{MidIndex, NewLine, ParsedLine};
+use rtc_sdp_values::{LineKind, LineRow, MediaKind, Mid};
 
 fn judge_its_place(offered: u32, place: u32, mid: Mid) -> Option<NewLine>
     ensures { result ≡ at_its_place offered place mid }

@@ -19,10 +19,10 @@ ghost use Rattle.rtc_channels.specs.Allocation.{
   channel_ensured,
 };
 
-use crate::{ChannelHandler, FreeIds};
 use crate::channel_handler::next_channel;
 use crate::grants::{Grants, count_holds, give, owner_of};
 use crate::kept::Kept;
+use crate::{ChannelHandler, FreeIds};
 use rtc_wire::ChannelId;
 use std::alloc::AllocError;
 

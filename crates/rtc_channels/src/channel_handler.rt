@@ -15,18 +15,16 @@ ghost use Rattle.rtc_channels.specs.Channels.{
 use crate::ChannelError;
 use crate::grants::{Grants, owner_of};
 use crate::kept::{Kept, find_place, find_stream, is_claimed};
-use rtc_wire::{ChannelConfig, ChannelId, Text};
+use rtc_wire::{ChannelConfig, ChannelId, DCEP_MAX_TEXT_SIZE, Text};
 use std::alloc::Global;
 use std::collections::BTreeMap;
 use std::marker::Model;
 
-// An open message has two bytes for the length of a label or protocol (RFC 8832, section 5.1).
-const LONGEST_TEXT: usize = 65535;
-
-fn is_overlong(text: &Text) -> bool
+/// Whether a label or protocol is too long for an open message (RFC 8832, section 5.1).
+pub fn is_overlong(text: &Text) -> bool
     ensures { result ≡ IsOverlong text.now }
 {
-    text.as_str().len() > LONGEST_TEXT
+    text.as_str().len() > DCEP_MAX_TEXT_SIZE
 }
 
 // The number of the next channel, by how many were given.

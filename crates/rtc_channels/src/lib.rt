@@ -14,6 +14,6 @@ mod progress;
 mod words;
 
 pub use channel_error::ChannelError;
-pub use channel_handler::ChannelHandler;
+pub use channel_handler::{ChannelHandler, is_overlong};
 pub use channel_row::ChannelRow;
 pub use free_ids::FreeIds;

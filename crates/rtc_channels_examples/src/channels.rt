@@ -1,7 +1,7 @@
 //! What examples ask of the channels of one side.
-use rtc_part_association::Association;
 use rtc_cases::is_ok;
 use rtc_channels::{ChannelError, ChannelHandler};
+use rtc_part_association::Association;
 use rtc_ready::Readiness;
 use rtc_sctp::RtcSctp;
 use rtc_wire::{ChannelConfig, ChannelId, Moment};

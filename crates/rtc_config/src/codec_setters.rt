@@ -7,7 +7,7 @@ ghost use Rattle.rtc_config.specs.CodecSettings as spec;
 use crate::RtcConfig;
 use rtc_sdp_codecs::{Codec, collect_distances, set_row};
 use rtc_sdp_values::CodecConfig;
-use rtc_wire::{Seq};
+use rtc_wire::Seq;
 use rtc_wire_drops::whole;
 use std::alloc::{AllocError, Global};
 use std::mem;

@@ -5,7 +5,7 @@ ghost use Rattle.rtc_sdp_codecs.specs.CodecRows as spec;
 use crate::RtcConfig;
 use rtc_sdp_codecs::set_extension_row;
 use rtc_sdp_values::{Extension, ExtensionMap};
-use rtc_wire::{Seq};
+use rtc_wire::Seq;
 use rtc_wire_drops::whole;
 use std::alloc::{AllocError, Global};
 use std::mem;

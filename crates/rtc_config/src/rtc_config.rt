@@ -4,9 +4,9 @@ ghost use Rattle.rtc_config.specs.FormedConfig.{IsFormedConfig};
 ghost use Rattle.rtc_config.specs.RtcConfig as spec;
 
 use crate::{DtlsSettings, IceSettings, SctpSettings};
-use rtc_sdp_codecs::make_default_codecs;
 use rtc_part_dtls::DtlsVersion;
 use rtc_part_media::{MediaSettings, Vp9PacketizerMode};
+use rtc_sdp_codecs::make_default_codecs;
 use rtc_sdp_values::{CodecConfig, ExtensionMap};
 use rtc_wire::{
     DATAGRAM_MTU_TARGET, DATAGRAM_MTU_WARN, DEFAULT_MAX_BUFFERED_AMOUNT, LOCAL_MAX_MESSAGE_SIZE,

@@ -1,6 +1,6 @@
 //! What becomes of an offer.
 use rtc_peer::RtcError;
-use rtc_wire::{Text};
+use rtc_wire::Text;
 use rtc_wire_drops::release;
 use std::alloc::{AllocError, Global};
 

@@ -7,7 +7,7 @@ use rtc_peer::{
     Association, Direction, DtlsInstance, IceAgent, Ids, MediaKind, MediaSession, Rtc, RtcError,
     SdpOffer, SdpPendingOffer,
 };
-use rtc_wire::{Text};
+use rtc_wire::Text;
 use rtc_wire_drops::release;
 use std::alloc::{AllocError, Global};
 

@@ -2,7 +2,7 @@
 use crate::{Given, Takes};
 use rtc_cases::{gives, is_ok};
 use rtc_peer::{Association, DtlsInstance, IceAgent, Ids, MediaSession, Rtc};
-use rtc_wire::{ChannelId};
+use rtc_wire::ChannelId;
 use rtc_wire_drops::release;
 
 impl<I: IceAgent, D: DtlsInstance, S: Association, M: MediaSession, N: Ids> Takes

@@ -1,8 +1,8 @@
 //! The texts of a round.
+use rtc_peer::{RtcError, SdpAnswer, SdpOffer, SdpPendingOffer};
+use rtc_wire::Text;
 use rtc_wire_drops::release;
 use rtc_wire_text::lines;
-use rtc_peer::{RtcError, SdpAnswer, SdpOffer, SdpPendingOffer};
-use rtc_wire::{Text};
 use std::alloc::{AllocError, Global};
 
 /// The text of an offer of a made pair, or no text where none was made.

@@ -5,9 +5,9 @@ ghost use Rattle.rtc_gate.specs.GateScript.{gate_header, AreGatePieces, AreRefus
 
 use crate::ScriptError;
 use crate::call_lines::{LinesError, read_calls};
-use rtc_wire_text::pieces;
 use rtc_gate_calls::GateCall;
 use rtc_wire::Seq;
+use rtc_wire_text::pieces;
 use std::alloc::Global;
 
 // The number of a line, as far as a `u32` goes.

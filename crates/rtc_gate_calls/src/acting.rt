@@ -24,8 +24,8 @@ ghost use Rattle.rtc_gate_calls.specs.Delivering.{connection_changed_at, IsAt};
 
 use crate::connection::Connection;
 use crate::places::place_of;
-use rtc_wire_text::ShortToken;
 use rtc_wire::Bytes;
+use rtc_wire_text::ShortToken;
 
 /// No connection that is here has the number.
 pub struct NotHere;

@@ -20,8 +20,8 @@ ghost use Rattle.std.specs.Prelude.{
 };
 ghost use Rattle.rtc_gate_calls.specs.GateState.{ConnectionState, Incoming, fresh_connection};
 
-use rtc_wire_text::ShortToken;
 use rtc_wire::Bytes;
+use rtc_wire_text::ShortToken;
 use std::alloc::{AllocError, Global};
 use std::collections::LinkedList;
 use std::marker::Model;

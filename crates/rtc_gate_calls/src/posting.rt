@@ -9,8 +9,8 @@ use crate::connection::Connection;
 use crate::delivering::Delivery;
 use crate::describing::{is_answer, is_offer};
 use crate::places::place_of;
-use rtc_wire_text::ShortToken;
 use rtc_gate_frames::{SignalFrame, SignalKind, write_frame};
+use rtc_wire_text::ShortToken;
 use std::alloc::{AllocError, Global};
 use std::collections::{BTreeMap, LinkedList};
 

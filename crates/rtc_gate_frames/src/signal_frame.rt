@@ -3,8 +3,8 @@ ghost use Rattle.std.specs.Prelude.{◌≡◌, ◌+◌, ◌<◌, ◌^◌, ◌≤
 ghost use Rattle.rtc_gate_frames.specs.Signal as spec;
 
 use crate::{SignalKind, name_in};
-use rtc_wire_text::ShortToken;
 use rtc_wire::Bytes;
+use rtc_wire_text::ShortToken;
 use std::alloc::{AllocError, Global};
 use std::str;
 

@@ -7,11 +7,11 @@ mod program;
 mod top;
 
 pub use program::pair_main;
-pub use rtc_run_history::{Made, Op, OpAnswer, Outcome, PollEnd, Reply, Shown, Side, Step, Table};
 use rtc_io::{OUT_OF_MEMORY, collect_words};
 pub use rtc_io::{MemSink, MemSource, Sink, Source, StdSink, StdSource};
-pub use rtc_run_plain::PlainPair;
 pub use rtc_run::{Pair, run_pair};
+pub use rtc_run_history::{Made, Op, OpAnswer, Outcome, PollEnd, Reply, Shown, Side, Step, Table};
+pub use rtc_run_plain::PlainPair;
 pub use rtc_script::{Script, ScriptError, Setting, read_script};
 pub use rtc_script_reports::write_report;
 use std::process::ExitCode;

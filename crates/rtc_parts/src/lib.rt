@@ -2,9 +2,9 @@
 #![tactic(auto)]
 
 pub use rtc_part_association::{AssocError, AssocEvent, Association, Ppi};
+pub use rtc_part_draws::Ids;
 pub use rtc_part_dtls::{Dtls, DtlsError, DtlsInstance, DtlsOutput, DtlsPolled, DtlsVersion};
 pub use rtc_part_ice::{IceAgent, IceConnectionState, IceEvent};
-pub use rtc_part_draws::Ids;
 pub use rtc_part_media::{
     CandidatePairStats, CandidateStats, MediaEgressStats, MediaError, MediaEvent,
     MediaIngressStats, MediaSession, MediaSettings, MediaUpdate, NoStream, PeerStats, RawPacket,

@@ -1,7 +1,7 @@
 //! Amounts of work for the streams of two peers, and for the channels of one.
 use crate::open_streams::{OpenStreams, unstarted};
-use rtc_part_association::Association;
 use rtc_channels::ChannelHandler;
+use rtc_part_association::Association;
 use rtc_sctp::SctpError;
 use rtc_wire::ChannelConfig;
 use std::alloc::Global;

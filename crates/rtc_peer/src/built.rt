@@ -9,11 +9,11 @@ ghost use Rattle.rtc_peer_transport.specs.Connection.{no_transport};
 ghost use Rattle.rtc_peer.specs.BuiltFrom.{standard_config};
 
 use crate::Rtc;
+use rtc_lines::CodecConfig;
 use rtc_part_association::Association;
+use rtc_part_draws::Ids;
 use rtc_part_dtls::DtlsInstance;
 use rtc_part_ice::IceAgent;
-use rtc_part_draws::Ids;
-use rtc_lines::CodecConfig;
 use rtc_part_media::MediaSession;
 use rtc_peer_core::RtcConfig;
 use rtc_wire::Moment;

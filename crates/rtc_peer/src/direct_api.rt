@@ -8,18 +8,18 @@ ghost use Rattle.rtc_peer_direct.specs.DtlsCalls.{with_fingerprint, TakesDtlsRol
 ghost use Rattle.rtc_peer_direct.specs.ChannelMaking.{StartsStreams, CreatesChannel};
 
 use crate::Rtc;
+use rtc_lines::{Candidate, Fingerprint, IceCreds};
 use rtc_part_association::Association;
+use rtc_part_draws::Ids;
+use rtc_part_dtls::{DtlsInstance, DtlsVersion};
+use rtc_part_ice::IceAgent;
+use rtc_part_media::MediaSession;
+use rtc_peer_core::RtcError;
 use rtc_peer_direct::{
     copy_local_credentials, create_data_channel, invalidate_candidate, set_ice_controlling,
     set_ice_lite, set_local_credentials, set_remote_credentials, set_remote_fingerprint,
     start_dtls, start_sctp, start_sctp_with_snap,
 };
-use rtc_part_dtls::{DtlsInstance, DtlsVersion};
-use rtc_part_ice::IceAgent;
-use rtc_part_draws::Ids;
-use rtc_lines::{Candidate, Fingerprint, IceCreds};
-use rtc_part_media::MediaSession;
-use rtc_peer_core::RtcError;
 use rtc_sctp::SctpInitData;
 use rtc_wire::{ChannelConfig, ChannelId};
 use std::alloc::AllocError;

@@ -5,13 +5,13 @@ ghost use Rattle.rtc_peer.specs.contracts.rtc.Rtc.{the_row};
 ghost use Rattle.rtc_peer_direct.specs.Streams.{gives_writer, LendsWriter};
 
 use crate::Rtc;
+use rtc_lines::Mid;
 use rtc_part_association::Association;
-use rtc_peer_direct::lend_writer;
+use rtc_part_draws::Ids;
 use rtc_part_dtls::DtlsInstance;
 use rtc_part_ice::IceAgent;
-use rtc_part_draws::Ids;
-use rtc_lines::Mid;
 use rtc_part_media::MediaSession;
+use rtc_peer_direct::lend_writer;
 
 impl<I: IceAgent, D: DtlsInstance, S: Association, M: MediaSession, N: Ids> Rtc<I, D, S, M, N> {
     /// What sends on a media line. None exactly where the peer is closing or closed, where no row of media has the mid, and where

@@ -5,16 +5,16 @@ ghost use Rattle.rtc_peer_direct.specs.SourcesAndFeedback.{DrawsSource, SetsRed,
 ghost use Rattle.rtc_peer_direct.specs.Streams.{RemovesRx, RemovesTx};
 
 use crate::DirectApi;
+use rtc_lines::{MediaKind, Mid, Ssrc};
 use rtc_part_association::Association;
+use rtc_part_draws::Ids;
+use rtc_part_dtls::DtlsInstance;
+use rtc_part_ice::IceAgent;
+use rtc_part_media::MediaSession;
 use rtc_peer_direct::{
     declare_media, draw_ssrc, enable_twcc_feedback, remove_media, remove_stream_rx,
     remove_stream_tx, send_app_specific_feedback, send_pli_feedback, set_red_send,
 };
-use rtc_part_dtls::DtlsInstance;
-use rtc_part_ice::IceAgent;
-use rtc_part_draws::Ids;
-use rtc_lines::{MediaKind, Mid, Ssrc};
-use rtc_part_media::MediaSession;
 use std::alloc::AllocError;
 
 impl<'a, I: IceAgent, D: DtlsInstance, S: Association, M: MediaSession, N: Ids> DirectApi<

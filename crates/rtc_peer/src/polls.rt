@@ -8,13 +8,13 @@ ghost use Rattle.rtc_peer_polling.specs.Walk.{PollsPeer};
 
 use crate::Rtc;
 use rtc_part_association::Association;
-use rtc_peer_transport::{Input, Output};
+use rtc_part_draws::Ids;
 use rtc_part_dtls::DtlsInstance;
 use rtc_part_ice::IceAgent;
-use rtc_part_draws::Ids;
 use rtc_part_media::MediaSession;
 use rtc_part_values::Reason;
 use rtc_peer_core::RtcError;
+use rtc_peer_transport::{Input, Output};
 
 impl<I: IceAgent, D: DtlsInstance, S: Association, M: MediaSession, N: Ids> Rtc<I, D, S, M, N> {
     /// The first thing that the peer has to give: events and datagrams, or the moment at which a timeout is wanted as

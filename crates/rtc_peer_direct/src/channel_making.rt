@@ -3,10 +3,10 @@ ghost use Rattle.std.specs.Prelude.{◌≡◌, not, false, None, Some};
 ghost use Rattle.rtc_peer_core.specs.PartMoves.{StartsWhere, remote_limit};
 ghost use Rattle.rtc_peer_direct.specs.ChannelMaking.{start_answer, StartsStreams, CreatesChannel};
 
-use rtc_part_association::Association;
 use rtc_channels::ChannelError;
-use rtc_peer_transport::PolledPeer;
+use rtc_part_association::Association;
 use rtc_peer_core::RtcError;
+use rtc_peer_transport::PolledPeer;
 use rtc_sctp::{RtcSctp, SctpError, SctpInitData};
 use rtc_wire::{ChannelConfig, ChannelId, Moment};
 

@@ -2,9 +2,9 @@
 ghost use Rattle.std.specs.Prelude.{◌≡◌};
 ghost use Rattle.rtc_peer_direct.specs.DtlsCalls.{with_fingerprint, role_answer, TakesDtlsRole};
 
-use rtc_peer_transport::PolledPeer;
 use rtc_part_dtls::{DtlsError, DtlsInstance};
 use rtc_peer_core::RtcError;
+use rtc_peer_transport::PolledPeer;
 use rtc_sdp_values::Fingerprint;
 
 /// Sets the fingerprint that the certificate of the other side has to match (RFC 8122, section 5).

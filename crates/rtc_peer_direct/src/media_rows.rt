@@ -3,9 +3,9 @@ ghost use Rattle.std.specs.Prelude.{◌≡◌};
 ghost use Rattle.rtc_peer_direct.specs.DeclaredRows.{has_media_row, DeclaresMedia, RemovesMedia};
 
 use rtc_change::Lines;
-use rtc_peer_transport::PolledPeer;
 use rtc_part_media::MediaSession;
 use rtc_peer_core::count_lines;
+use rtc_peer_transport::PolledPeer;
 use rtc_sdp_values::{LineRow, MediaKind, Mid};
 use std::alloc::AllocError;
 

@@ -8,9 +8,9 @@ ghost use Rattle.rtc_peer_direct.specs.Streams.{RemovesRx, RemovesTx, gives_no_r
 ghost use Rattle.rtc_peer_direct.specs.Streams.{ExpectsRx, DeclaresTx, LendsRx, LendsTx, LendsNamedRx, LendsNamedTx, ResetsTx, LendsWriter};
 
 use crate::media_rows::has_media;
-use rtc_peer_transport::PolledPeer;
 use rtc_part_media::{MediaSession, NoStream};
 use rtc_peer_core::Phase;
+use rtc_peer_transport::PolledPeer;
 use rtc_sdp_values::{Mid, Rid, Ssrc};
 
 fn is_open_phase(phase: Phase) -> bool

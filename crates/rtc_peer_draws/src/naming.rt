@@ -3,9 +3,9 @@ ghost use Rattle.std.specs.Prelude.{◌≡◌, IfOk, OnOk, option_map, string_by
 ghost use Rattle.rtc_part_draws.specs.Draws.{Later};
 ghost use Rattle.rtc_peer_core.specs.Names.{kept_bytes, kept_name, name_of, after_name};
 
-use rtc_wire_text::is_token_byte;
 use rtc_part_draws::Ids;
 use rtc_wire::Text;
+use rtc_wire_text::is_token_byte;
 use std::alloc::{AllocError, Global};
 
 // The bytes that are kept of a name.

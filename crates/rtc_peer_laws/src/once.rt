@@ -13,9 +13,9 @@ ghost use Rattle.rtc_peer_laws.specs.ChannelStreams.{AreNumberedChannels, IsGone
 ghost use Rattle.rtc_peer_laws.specs.KeptChannels.{IsSettledStream};
 
 use rtc_part_association::Association;
+use rtc_part_draws::Ids;
 use rtc_part_dtls::DtlsInstance;
 use rtc_part_ice::IceAgent;
-use rtc_part_draws::Ids;
 use rtc_part_media::MediaSession;
 
 /// Where a channel is told to be open, its stream was opened by other means than messages, or a message that opens a channel was read

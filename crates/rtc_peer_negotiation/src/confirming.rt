@@ -1,21 +1,12 @@
 //! Channels that are confirmed.
 ghost use Rattle.std.specs.Prelude.{◌≡◌, ◌∷◌, []};
 ghost use Rattle.rtc_change.specs.declared.change.Change.TheVariants.{AddChannel};
-ghost use Rattle.rtc_channels.specs.Channels.{all_confirmed, is_overlong as IsOverlong};
+ghost use Rattle.rtc_channels.specs.Channels.{all_confirmed};
 ghost use Rattle.rtc_peer_core.specs.Calls.{fitting_channels, fits_open as FitsOpen};
 
 use rtc_change::{Change, Changes};
-use rtc_channels::ChannelHandler;
-use rtc_wire::{ChannelConfig, ChannelId, Text};
-
-// An open message has two bytes for the length of a label or protocol (RFC 8832, section 5.1).
-const LONGEST_TEXT: usize = 65535;
-
-fn is_overlong(text: &Text) -> bool
-    ensures { result ≡ IsOverlong text.now }
-{
-    text.as_str().len() > LONGEST_TEXT
-}
+use rtc_channels::{ChannelHandler, is_overlong};
+use rtc_wire::{ChannelConfig, ChannelId};
 
 // Whether an open message has room for the label and the protocol of a channel.
 fn fits_open(config: &ChannelConfig) -> bool

@@ -11,14 +11,14 @@ ghost use Rattle.rtc_peer_core.specs.Meanings.{meanings};
 ghost use Rattle.rtc_peer_core.specs.SdpHalves.{told_chunk};
 ghost use Rattle.rtc_peer_negotiation.specs.Growths.{DrawsAlong};
 
-use rtc_part_association::Association;
 use rtc_change::Change;
-use rtc_peer_sdp::list_updates;
+use rtc_part_association::Association;
+use rtc_part_draws::Ids;
 use rtc_part_dtls::DtlsInstance;
 use rtc_part_ice::IceAgent;
-use rtc_part_draws::Ids;
 use rtc_part_media::{MediaSession, MediaUpdate};
 use rtc_peer_core::Peer;
+use rtc_peer_sdp::list_updates;
 use rtc_sctp_values::SctpInitData;
 use rtc_sdp_values::{LineRow, Sdp};
 use std::alloc::AllocError;

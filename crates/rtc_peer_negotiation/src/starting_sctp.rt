@@ -7,9 +7,9 @@ ghost use Rattle.rtc_peer_core.specs.PartMoves.{StartsSctp, remote_limit, droppe
 
 use crate::starting::Starting;
 use rtc_part_association::Association;
+use rtc_peer_rows::find_app;
 use rtc_sctp::{RtcSctp, SctpError};
 use rtc_sdp_values::{LineRow, Sdp};
-use rtc_peer_rows::find_app;
 use rtc_wire::Moment;
 
 // The longest message that the other side takes, in bytes, where it tells one.

@@ -3,15 +3,15 @@ ghost use Rattle.rtc_peer_core.specs.Meanings.{meanings};
 ghost use Rattle.rtc_peer_polling.specs.Inputs.{TimesIce, TimesMedia, TakesTime};
 ghost use Rattle.rtc_peer_polling.specs.Inputs.{HearsStun, HearsDtls, HearsKind, HandlesInput};
 
+use crate::sending::count_bytes;
 use crate::timing::{time_handler, time_sctp};
 use rtc_part_association::Association;
-use rtc_peer_transport::{Input, PolledPeer};
+use rtc_part_draws::Ids;
 use rtc_part_dtls::{DtlsError, DtlsInstance};
 use rtc_part_ice::IceAgent;
-use rtc_part_draws::Ids;
 use rtc_part_media::{MediaError, MediaSession};
 use rtc_peer_core::{Phase, RtcError};
-use crate::sending::count_bytes;
+use rtc_peer_transport::{Input, PolledPeer};
 use rtc_wire::{DatagramRecv, Moment, Receive, StunView};
 
 #[tactic(auto, unfolding(crate::specs::Inputs::TimesIce))]

@@ -3,11 +3,11 @@ ghost use Rattle.rtc_peer_core.specs.Meanings.{meanings};
 ghost use Rattle.rtc_peer_polling.specs.IceStages.{PollsIceEvents, TakesIceEvent};
 
 use rtc_part_association::Association;
-use rtc_peer_transport::{Event, Met, PolledPeer, SendAddr};
+use rtc_part_draws::Ids;
 use rtc_part_dtls::DtlsInstance;
 use rtc_part_ice::{IceAgent, IceEvent};
-use rtc_part_draws::Ids;
 use rtc_part_media::MediaSession;
+use rtc_peer_transport::{Event, Met, PolledPeer, SendAddr};
 
 // An event is told or kept.
 fn take_ice_event<I: IceAgent, D: DtlsInstance, S: Association, M: MediaSession, N: Ids>(

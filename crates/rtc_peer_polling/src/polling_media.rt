@@ -3,12 +3,12 @@ ghost use Rattle.rtc_peer_core.specs.Meanings.{meanings};
 ghost use Rattle.rtc_peer_polling.specs.MediaStages.{TellsMedia, TellsFallibleMedia};
 
 use rtc_part_association::Association;
-use rtc_peer_transport::{Event, Met, PolledPeer};
+use rtc_part_draws::Ids;
 use rtc_part_dtls::DtlsInstance;
 use rtc_part_ice::IceAgent;
-use rtc_part_draws::Ids;
 use rtc_part_media::{MediaError, MediaSession};
 use rtc_peer_core::{Phase, RtcError};
+use rtc_peer_transport::{Event, Met, PolledPeer};
 
 /// Tells the next event that cannot fail.
 #[tactic(auto, unfolding(crate::specs::MediaStages::TellsMedia))]

@@ -5,12 +5,12 @@ ghost use Rattle.rtc_peer_polling.specs.StreamStages.{OpensChannelOver};
 ghost use Rattle.rtc_peer_polling.specs.StreamStages.{LosesAssociation, TakesStreamEvent, PollsStreamEvents, IsShortTransmit};
 
 use rtc_part_association::Association;
-use rtc_peer_transport::{ChannelData, Event, Met, PolledPeer};
+use rtc_part_draws::Ids;
 use rtc_part_dtls::DtlsInstance;
 use rtc_part_ice::IceAgent;
-use rtc_part_draws::Ids;
 use rtc_part_media::MediaSession;
 use rtc_peer_core::{Phase, RtcError};
+use rtc_peer_transport::{ChannelData, Event, Met, PolledPeer};
 use rtc_sctp::SctpEvent;
 use rtc_wire::Text;
 

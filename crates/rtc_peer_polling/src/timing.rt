@@ -1,8 +1,8 @@
 //! Moments that the streams and the channels are handed.
 ghost use Rattle.rtc_peer_polling.specs.Inputs.{StreamsTimed, ChannelsTimed};
 
-use rtc_part_association::Association;
 use rtc_channels::ChannelHandler;
+use rtc_part_association::Association;
 use rtc_ready::Readiness;
 use rtc_sctp::RtcSctp;
 use rtc_wire::Moment;

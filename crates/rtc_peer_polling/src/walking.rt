@@ -6,20 +6,20 @@ ghost use Rattle.rtc_peer_transport.specs.declared.met.Met.TheVariants.{Again, N
 ghost use Rattle.rtc_peer_polling.specs.Walk.{PollsPeer, Rests, TellsConnection};
 ghost use Rattle.rtc_peer_polling.specs.Walk.{VisitsParts, Waits, Walks};
 
-use rtc_part_association::Association;
-use rtc_peer_transport::{Event, Handshake, Met, Output, PolledPeer};
-use rtc_part_dtls::DtlsInstance;
-use rtc_part_ice::IceAgent;
-use rtc_part_draws::Ids;
-use rtc_part_media::MediaSession;
-use rtc_part_values::Reason;
-use rtc_peer_core::{Phase, RtcError};
 use crate::polling_dtls::{has_come, poll_dtls_outputs, time_dtls};
 use crate::polling_ice::poll_ice_events;
 use crate::polling_media::{tell_fallible_media, tell_media};
 use crate::polling_streams::poll_stream_events;
 use crate::sending::{send_by_pair, send_checks};
 use crate::sending_packets::send_kept_packets;
+use rtc_part_association::Association;
+use rtc_part_draws::Ids;
+use rtc_part_dtls::DtlsInstance;
+use rtc_part_ice::IceAgent;
+use rtc_part_media::MediaSession;
+use rtc_part_values::Reason;
+use rtc_peer_core::{Phase, RtcError};
+use rtc_peer_transport::{Event, Handshake, Met, Output, PolledPeer};
 use rtc_wire::{DATAGRAM_MAX_PACKET_SIZE, Moment};
 
 // Room for a datagram of the DTLS part.

@@ -11,11 +11,11 @@ ghost use Rattle.rtc_peer_core.specs.MadeSdp.{
 };
 
 use rtc_change::AddMedia;
-use rtc_sdp_codecs::{extensions_of_kind, rows_of_kind};
 use rtc_part_media::{MediaSession, MediaUpdate};
 use rtc_peer_core::{Formats, LineMedia};
+use rtc_sdp_codecs::{extensions_of_kind, rows_of_kind};
 use rtc_sdp_values::LineRow;
-use rtc_wire::{Seq};
+use rtc_wire::Seq;
 use rtc_wire_drops::{fill, fill_some, set, whole};
 use std::alloc::{AllocError, Global};
 

@@ -19,10 +19,10 @@ ghost use Rattle.rtc_peer_core.specs.LineUpdates.{
 use crate::sent_on_lines::find_layered;
 use crate::updated_rows::{kind_of_row, make_update};
 use rtc_change::Change;
-use rtc_peer_draws::{EarlierNumbers, draw_pairs};
 use rtc_part_draws::Ids;
 use rtc_part_media::{MediaSession, MediaUpdate};
 use rtc_peer_core::{Formats, Sending};
+use rtc_peer_draws::{EarlierNumbers, draw_pairs};
 use rtc_sdp_values::{LineRow, MediaLine, Simulcast, Ssrc};
 use rtc_wire::Seq;
 use std::alloc::{AllocError, Global};

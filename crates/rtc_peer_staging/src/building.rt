@@ -6,15 +6,15 @@ ghost use Rattle.rtc_peer_core.specs.Built.{Builds, creds_or, after_creds, cert_
 ghost use Rattle.rtc_peer_core.specs.Built.{empty_peer as EmptyPeer, limited_streams, allowed_halves, streams_of_config};
 ghost use Rattle.rtc_peer_core.specs.Meanings.{meanings};
 
-use rtc_part_association::Association;
 use rtc_change::Lines;
 use rtc_channels::ChannelHandler;
-use rtc_peer_draws::make_creds;
+use rtc_part_association::Association;
+use rtc_part_draws::Ids;
 use rtc_part_dtls::{Dtls, DtlsInstance};
 use rtc_part_ice::IceAgent;
-use rtc_part_draws::Ids;
 use rtc_part_media::MediaSession;
 use rtc_peer_core::{Formats, Peer, Phase, RtcConfig, Staged};
+use rtc_peer_draws::make_creds;
 use rtc_sctp::RtcSctp;
 use rtc_sdp_values::IceCreds;
 use rtc_wire::{Bytes, Moment, TryCopy};

@@ -7,16 +7,16 @@ ghost use Rattle.rtc_peer_core.specs.Calls.{AddsMedia, AddsChannel, StagesRestar
 ghost use Rattle.rtc_peer_core.specs.Staging.{with_restart};
 ghost use Rattle.rtc_peer_core.specs.Meanings.{meanings};
 
-use rtc_part_association::Association;
 use rtc_change::AddMedia;
 use rtc_channels::ChannelError;
-use rtc_peer_sdp::count_pairs;
-use rtc_peer_draws::{draw_first_pairs, draw_name, keep_name, make_creds};
+use rtc_part_association::Association;
+use rtc_part_draws::Ids;
 use rtc_part_dtls::DtlsInstance;
 use rtc_part_ice::IceAgent;
-use rtc_part_draws::Ids;
 use rtc_part_media::MediaSession;
 use rtc_peer_core::{Peer, RtcError, Staged};
+use rtc_peer_draws::{draw_first_pairs, draw_name, keep_name, make_creds};
+use rtc_peer_sdp::count_pairs;
 use rtc_sdp_values::{Direction, IceCreds, MediaKind, Mid, Msid, Simulcast};
 use rtc_wire::{ChannelConfig, ChannelId, TryCopy};
 use std::alloc::{AllocError, Global};

@@ -5,13 +5,13 @@ ghost use Rattle.rtc_peer_transport.specs.Statistics.{IsGathered, Reports, Repor
 ghost use Rattle.rtc_peer_transport.specs.Statistics.{event_of_report as EventOfReport};
 
 use crate::{Event, Met, PolledPeer};
+use rtc_config::Stats;
 use rtc_part_association::Association;
+use rtc_part_draws::Ids;
 use rtc_part_dtls::DtlsInstance;
 use rtc_part_ice::IceAgent;
-use rtc_part_draws::Ids;
 use rtc_part_media::{CandidatePairStats, CandidateStats, MediaSession, StatsEvent, StatsSnapshot};
 use rtc_peer_core::{Phase, RtcError};
-use rtc_config::Stats;
 use rtc_wire::Moment;
 use std::alloc::AllocError;
 

@@ -3,8 +3,8 @@ ghost use Rattle.std.specs.Prelude.{◌≡◌, IfOk};
 ghost use Rattle.rtc_peer_transport.specs.Connection.{first_stats as FirstStats, no_transport};
 
 use crate::{Handshake, RecentAddrs, SendAddr};
-use rtc_part_values::Reason;
 use rtc_config::Stats;
+use rtc_part_values::Reason;
 use rtc_wire::{Moment, Span};
 use std::alloc::{AllocError, Global};
 

@@ -10,6 +10,3 @@ pub use laws::signals_accumulate;
 pub use mutation::Mutation;
 pub use readiness::Readiness;
 pub use wake::Wake;
-
-#[cfg(test)]
-mod tests;

@@ -3,8 +3,8 @@ ghost use Rattle.std.specs.Prelude.{◌≡◌, ◌+◌, ◌<◌, ◌≤◌, ◌^
 ghost use Rattle.rtc_peer_core.specs.Meanings.{meanings};
 
 use crate::performing::perform_step;
-use rtc_run_history::{Kept, Reply, SentPacket, Side, Step};
 use rtc_peer::{Association, DtlsInstance, IceAgent, Ids, MediaSession, Rtc};
+use rtc_run_history::{Kept, Reply, SentPacket, Side, Step};
 use rtc_wire::Addr;
 use std::alloc::Global;
 use std::marker::Model;

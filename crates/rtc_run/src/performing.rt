@@ -3,9 +3,12 @@ ghost use Rattle.std.specs.Prelude.{◌<◌, ◌^◌, length};
 ghost use Rattle.rtc_run_history.specs.Performs.{Acts};
 ghost use Rattle.rtc_peer_core.specs.Meanings.{meanings};
 
-use rtc_run_history::{Kept, Reply, SentPacket, Step};
-use rtc_run_steps::{close, close_channel, deliver_and_accept_answer, deliver_and_accept_offer, drain, negotiate, poll, take_datagram, take_moment, write_message};
 use rtc_peer::{Association, DtlsInstance, IceAgent, Ids, MediaSession, Rtc};
+use rtc_run_history::{Kept, Reply, SentPacket, Step};
+use rtc_run_steps::{
+    close, close_channel, deliver_and_accept_answer, deliver_and_accept_offer, drain, negotiate,
+    poll, take_datagram, take_moment, write_message,
+};
 use std::alloc::Global;
 
 /// Performs a step at the peer that acts, with the session descriptions and the datagrams of both peers.

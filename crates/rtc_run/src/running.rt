@@ -8,8 +8,8 @@ ghost use Rattle.rtc_run_history.specs.Signalled.{AllReadBack};
 ghost use Rattle.rtc_peer_core.specs.Meanings.{meanings};
 
 use crate::Pair;
-use rtc_run_history::{Reply, Step};
 use rtc_peer::{Association, DtlsInstance, IceAgent, Ids, MediaSession};
+use rtc_run_history::{Reply, Step};
 use rtc_wire::Seq;
 use std::alloc::{AllocError, Global};
 

@@ -1,6 +1,6 @@
 //! Outputs that replies show.
-use rtc_peer_transport::Event;
 use rtc_part_values::Reason;
+use rtc_peer_transport::Event;
 use rtc_wire::Moment;
 
 /// An output of a poll, as a reply shows it. `E` are the events of the media part.

@@ -12,11 +12,14 @@ ghost use Rattle.rtc_peer_core.specs.Meanings.{meanings};
 ghost use Rattle.rtc_run_steps.specs.Brings.{Brings};
 
 use crate::brought::Brought;
+use crate::{
+    deliver, is_same_side, make_room, reply_no_memory, reply_no_such, reply_unread, reply_with,
+    room_for,
+};
 use rtc_change::SdpPendingOffer;
-use crate::{deliver, is_same_side, make_room, reply_no_memory, reply_no_such, reply_unread, reply_with, room_for};
-use rtc_run_history::{Kept, Outcome, Reply, Side};
 use rtc_lines::{SdpAnswer, SdpOffer};
 use rtc_peer::{Association, DtlsInstance, IceAgent, Ids, MediaSession, Rtc, RtcError};
+use rtc_run_history::{Kept, Outcome, Reply, Side};
 use rtc_sdp_values::{Sdp, SdpError};
 use rtc_wire_drops::release;
 use std::alloc::Global;

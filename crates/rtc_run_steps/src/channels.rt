@@ -6,9 +6,9 @@ ghost use Rattle.rtc_peer_transport.specs.ChannelCalls.{open_stream_under};
 ghost use Rattle.rtc_run_steps.specs.Written.{WritesIfOpen, written_outcome};
 
 use crate::hearing::outcome_of;
-use rtc_run_history::{Outcome, Reply};
-use rtc_peer::{Association, DtlsInstance, IceAgent, Ids, MediaSession, Rtc, RtcError};
 use crate::{reply_no_memory, reply_no_such, reply_with, room_for};
+use rtc_peer::{Association, DtlsInstance, IceAgent, Ids, MediaSession, Rtc, RtcError};
+use rtc_run_history::{Outcome, Reply};
 use rtc_wire::ChannelId;
 use std::alloc::Global;
 

@@ -11,9 +11,9 @@ ghost use Rattle.rtc_peer_transport.specs.Closing.{ClosesPeer};
 ghost use Rattle.rtc_peer_polling.specs.Inputs.{HandlesInput};
 ghost use Rattle.rtc_peer_transport.specs.declared.input.Input.TheVariants as given;
 
-use rtc_run_history::{Outcome, Reply, SentPacket, Side};
-use rtc_peer::{Association, DtlsInstance, IceAgent, Ids, Input, MediaSession, Rtc, RtcError};
 use crate::{is_same_side, reply_no_memory, reply_no_such, reply_with, room_for};
+use rtc_peer::{Association, DtlsInstance, IceAgent, Ids, Input, MediaSession, Rtc, RtcError};
+use rtc_run_history::{Outcome, Reply, SentPacket, Side};
 use rtc_wire::{Moment, Receive, Transmit};
 use std::alloc::Global;
 

@@ -11,12 +11,12 @@ ghost use Rattle.rtc_run_steps.specs.Stages.{Stages};
 ghost use Rattle.rtc_peer_core.specs.Meanings.{meanings};
 
 use crate::applied::Applied;
+use crate::{make_room, reply_no_memory, reply_with};
 use rtc_change::SdpPendingOffer;
-use rtc_run_history::{Kept, Made, Op, OpAnswer, Outcome, Reply, Side, do_answers_lack};
 use rtc_lines::SdpOffer;
 use rtc_peer::{Association, DtlsInstance, IceAgent, Ids, MediaSession, Rtc, RtcError, SdpApi};
+use rtc_run_history::{Kept, Made, Op, OpAnswer, Outcome, Reply, Side, do_answers_lack};
 use rtc_sdp_values::{Direction, LineRow, MediaKind, Mid};
-use crate::{make_room, reply_no_memory, reply_with};
 use rtc_wire::{ChannelConfig, Seq, TryCopy};
 use rtc_wire_drops::release;
 use std::alloc::Global;

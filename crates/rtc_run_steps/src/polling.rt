@@ -8,11 +8,11 @@ ghost use Rattle.rtc_run_steps.specs.Turns.{TakesTurn, ShowsOutput, end_of, is_t
 ghost use Rattle.rtc_run_steps.specs.declared.turn.Turn.TheVariants.{More, Over};
 
 use crate::turn::Turn;
+use crate::{Room, make_channel_room, reply_no_memory, reply_with, room_for};
 use rtc_channels::ChannelRow;
-use rtc_run_history::{Outcome, PollEnd, Reply, SentPacket, Shown, Side};
 use rtc_part_values::Reason;
 use rtc_peer::{Association, DtlsInstance, IceAgent, Ids, MediaSession, Output, Rtc};
-use crate::{Room, make_channel_room, reply_no_memory, reply_with, room_for};
+use rtc_run_history::{Outcome, PollEnd, Reply, SentPacket, Shown, Side};
 use rtc_wire::{Moment, Seq, Transmit};
 use std::alloc::{AllocError, Global};
 

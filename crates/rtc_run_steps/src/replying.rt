@@ -8,8 +8,8 @@ ghost use Rattle.rtc_run_steps.specs.ShownTable.{shown_table};
 
 use crate::Room;
 use rtc_channels::ChannelRow;
-use rtc_run_history::{Kept, Outcome, Reply, Table};
 use rtc_peer::{Association, DtlsInstance, IceAgent, Ids, MediaSession, Rtc, RtcError};
+use rtc_run_history::{Kept, Outcome, Reply, Table};
 use rtc_sdp_values::{LineRow, SdpError};
 use rtc_wire::Seq;
 use std::alloc::{AllocError, Global};

@@ -7,8 +7,8 @@ ghost use Rattle.rtc_run_history.specs.declared.step.Step.{Step};
 
 use crate::messages::read_write;
 use crate::ops::read_ops;
-use rtc_run_history::{Side, Step};
 use crate::{is_word, read_long, read_one, read_two, read_two_long};
+use rtc_run_history::{Side, Step};
 use rtc_wire::{ChannelId, Moment};
 use std::alloc::{AllocError, Global};
 

@@ -4,8 +4,8 @@ ghost use Rattle.rtc_script.specs.Lines.{IsLine, AreStepWords};
 ghost use Rattle.rtc_run_history.specs.declared.step.Step.{Step};
 
 use crate::acts::read_act;
-use rtc_run_history::Step;
 use crate::{cut_words, read_side};
+use rtc_run_history::Step;
 use std::alloc::{AllocError, Global};
 
 fn read_words(alloc: Global, words: &[&[u8]]) -> Result<Option<Step>, AllocError>

@@ -4,8 +4,8 @@ ghost use Rattle.rtc_run_history.specs.Sides.{side_of};
 ghost use Rattle.rtc_script.specs.Lines.{AreMessageWords, IsAct};
 ghost use Rattle.rtc_script.specs.Words.{message_kind_text};
 
-use rtc_run_history::{Side, Step};
 use crate::{is_word, read_bytes, read_u64};
+use rtc_run_history::{Side, Step};
 use rtc_wire::{Bytes, ChannelId};
 use std::alloc::{AllocError, Global};
 

@@ -4,10 +4,10 @@ ghost use Rattle.rtc_script.specs.Lines.{AreOpParts, IsOp, AreOps};
 ghost use Rattle.rtc_script.specs.Words.{keep_text};
 ghost use Rattle.rtc_run_history.specs.declared.op.Op.{Op};
 
-use rtc_run_history::Op;
 use crate::{
     cut_parts, is_word, read_config, read_direction, read_kind, read_label_word, read_u32,
 };
+use rtc_run_history::Op;
 use rtc_wire::Seq;
 use std::alloc::{AllocError, Global};
 

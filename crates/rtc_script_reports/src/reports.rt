@@ -8,8 +8,8 @@ use crate::outputs::push_polled;
 use crate::pushing::{push_named, push_word};
 use crate::rows::push_rows;
 use crate::words::side_word;
-use rtc_run_history::{Outcome, Reply, Step, Table};
 use rtc_plain_media::PlainMediaEvent;
+use rtc_run_history::{Outcome, Reply, Step, Table};
 use std::alloc::{AllocError, Global};
 
 fn push_table(out: &mut String, table: &Option<Table>) -> Result<(), AllocError>

@@ -6,9 +6,9 @@ ghost use Rattle.rtc_script_runs.specs.Demo.{demo_script, demo_text, IsDemoText,
 
 use crate::running::{lack_memory, run_script};
 use rtc_demo::{count_demo, demo_steps, write_counts};
-use rtc_run_history::{Reply, Step};
 use rtc_io::{OUT_OF_MEMORY, SINK_FAILED, Sink, write_all};
 use rtc_plain::PlainMediaEvent;
+use rtc_run_history::{Reply, Step};
 use rtc_run_plain::PlainPair;
 use rtc_script::Script;
 use rtc_wire::Seq;

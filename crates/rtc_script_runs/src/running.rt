@@ -3,10 +3,10 @@ ghost use Rattle.std.specs.Prelude.{◌≡◌, ◌<◌, ◌^◌, IfOk, Ok};
 ghost use Rattle.rtc_run_history.specs.Sizes.{steps_size};
 ghost use Rattle.rtc_script_runs.specs.Performed.{peer_settings, RanScript, lack_memory};
 
-use rtc_run_history::{Reply, Side};
 use rtc_plain::PlainMediaEvent;
-use rtc_run_plain::{PeerSettings, PlainPair, make_pair};
 use rtc_run::run_pair;
+use rtc_run_history::{Reply, Side};
+use rtc_run_plain::{PeerSettings, PlainPair, make_pair};
 use rtc_script::Script;
 use rtc_wire::Seq;
 use std::alloc::{AllocError, Global};

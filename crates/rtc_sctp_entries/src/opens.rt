@@ -14,7 +14,9 @@ use crate::opening::Opening;
 use crate::resets::has_reset;
 use crate::{SctpEvent, StreamEntry, StreamEntryState, part};
 use rtc_part_association::{Association, Ppi};
-use rtc_wire::{Bytes, ChannelConfig, DcepOpen, Moment, STREAM_OPEN_TIMEOUT, Text, TryCopy};
+use rtc_wire::{
+    Bytes, ChannelConfig, DCEP_MAX_TEXT_SIZE, DcepOpen, Moment, STREAM_OPEN_TIMEOUT, Text, TryCopy,
+};
 use std::alloc::{AllocError, Global};
 
 /// Whether both ends settled the stream by other means.
@@ -42,7 +44,8 @@ fn has_short_texts(entry: &StreamEntry) -> bool
 {
     match &entry.config {
         Some(config) => {
-            config.label.as_str().len() <= 65535 && config.protocol.as_str().len() <= 65535
+            config.label.as_str().len() <= DCEP_MAX_TEXT_SIZE
+                && config.protocol.as_str().len() <= DCEP_MAX_TEXT_SIZE
         }
         None => true,
     }

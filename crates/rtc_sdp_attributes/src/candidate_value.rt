@@ -5,9 +5,9 @@ ghost use Rattle.rtc_sdp_attributes.specs.AttributeForms as form;
 ghost use Rattle.rtc_sdp_attributes.specs.AttributeTexts as written;
 
 use crate::cut;
-use rtc_wire_text::{is_token, number_up_to, same_letters};
 use rtc_sdp_values::{Candidate, CandidateKind};
 use rtc_wire::{Addr, Protocol, Text};
+use rtc_wire_text::{is_token, number_up_to, same_letters};
 use std::alloc::{AllocError, Global};
 use std::fmt::Write;
 

@@ -5,8 +5,8 @@ ghost use Rattle.rtc_sdp_attributes.specs.AttributeForms as form;
 ghost use Rattle.rtc_sdp_attributes.specs.AttributeTexts as written;
 
 use crate::{cut, put_decimal};
-use rtc_wire_text::number_up_to;
 use rtc_sdp_values::{Direction, Extension};
+use rtc_wire_text::number_up_to;
 use std::alloc::AllocError;
 
 fn direction_of(word: &str) -> Option<Direction>

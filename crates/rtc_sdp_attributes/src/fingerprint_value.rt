@@ -5,8 +5,8 @@ ghost use Rattle.rtc_sdp_attributes.specs.AttributeTexts as written;
 
 use crate::cut;
 use crate::hash_value::{put_hash, read_hash};
-use rtc_wire_text::{is_token, lower};
 use rtc_sdp_values::Fingerprint;
+use rtc_wire_text::{is_token, lower};
 use std::alloc::{AllocError, Global};
 
 /// The fingerprint that a value writes (RFC 8122, section 5). The name of the hash function is read in lower case.

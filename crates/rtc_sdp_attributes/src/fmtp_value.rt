@@ -5,9 +5,9 @@ ghost use Rattle.rtc_sdp_attributes.specs.AttributeForms as form;
 ghost use Rattle.rtc_sdp_attributes.specs.AttributeTexts as written;
 
 use crate::{Fmtp, cut, put_decimal};
-use rtc_wire_text::{number_up_to, parts, without_blanks};
 use rtc_sdp_values::Pt;
 use rtc_wire::Text;
+use rtc_wire_text::{number_up_to, parts, without_blanks};
 use std::alloc::{AllocError, Global};
 
 /// The parameters that a value gives to a payload type (RFC 8866, section 6.15), at least one byte.

@@ -6,8 +6,8 @@ ghost use Rattle.arrayvec.specs.ArrayVec.{array_vec_len};
 ghost use Rattle.rtc_wire_text.specs.Hex as spec;
 
 use arrayvec::ArrayVec;
-use rtc_wire_text::push_hex;
 use rtc_wire::Bytes;
+use rtc_wire_text::push_hex;
 use std::alloc::{AllocError, Global};
 use std::str;
 

@@ -4,9 +4,9 @@ ghost use Rattle.rtc_sdp_attributes.specs.AttributeForms as form;
 ghost use Rattle.rtc_sdp_attributes.specs.AttributeTexts as written;
 
 use crate::cut;
-use rtc_wire_text::is_token;
 use rtc_sdp_values::Msid;
 use rtc_wire::Text;
+use rtc_wire_text::is_token;
 use std::alloc::{AllocError, Global};
 use std::fmt::Write;
 

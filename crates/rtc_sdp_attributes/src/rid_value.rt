@@ -6,9 +6,9 @@ ghost use Rattle.rtc_sdp_attributes.specs.AttributeForms as form;
 ghost use Rattle.rtc_sdp_attributes.specs.AttributeTexts as written;
 
 use crate::{RidDirection, RidLine, cut};
-use rtc_wire_text::parts;
 use rtc_sdp_values::Rid;
 use rtc_wire::{Seq, Text};
+use rtc_wire_text::parts;
 use std::alloc::{AllocError, Global};
 
 pub(crate) fn direction_of(word: &str) -> Option<RidDirection>

@@ -4,9 +4,9 @@ ghost use Rattle.rtc_sdp_attributes.specs.AttributeForms as form;
 ghost use Rattle.rtc_sdp_attributes.specs.AttributeTexts as written;
 
 use crate::{Rtpmap, cut, put_decimal};
-use rtc_wire_text::{is_token, number_up_to};
 use rtc_sdp_values::Pt;
 use rtc_wire::Text;
+use rtc_wire_text::{is_token, number_up_to};
 use std::alloc::{AllocError, Global};
 
 /// The clock and the channels, one where none are named.

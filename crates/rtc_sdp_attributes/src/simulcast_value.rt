@@ -13,9 +13,9 @@ ghost use Rattle.rtc_sdp_attributes.specs.AttributeTexts as written;
 
 use crate::rid_value::direction_of;
 use crate::{RidDirection, SimulcastLine, cut};
-use rtc_wire_text::{parts, without_first, words};
 use rtc_sdp_values::{Rid, Simulcast, SimulcastLayer};
 use rtc_wire::Seq;
+use rtc_wire_text::{parts, without_first, words};
 use std::alloc::{AllocError, Global};
 use std::collections::BTreeSet;
 

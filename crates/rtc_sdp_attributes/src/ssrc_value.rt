@@ -4,9 +4,9 @@ ghost use Rattle.rtc_sdp_attributes.specs.AttributeForms as form;
 ghost use Rattle.rtc_sdp_attributes.specs.AttributeTexts as written;
 
 use crate::{SsrcName, cut, put_decimal};
-use rtc_wire_text::number_up_to;
 use rtc_sdp_values::{Msid, Ssrc};
 use rtc_wire::Text;
+use rtc_wire_text::number_up_to;
 use std::alloc::{AllocError, Global};
 
 fn ssrc_number(word: &str) -> Option<u64>

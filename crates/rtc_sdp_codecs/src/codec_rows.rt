@@ -5,9 +5,9 @@ ghost use Rattle.rtc_sdp_codecs.specs.Codec.{default_rows};
 ghost use Rattle.rtc_sdp_codecs.specs.CodecRows as spec;
 
 use crate::Codec;
-use rtc_wire_text::same_letters;
 use rtc_sdp_values::{CodecConfig, PayloadRow};
 use rtc_wire::Seq;
+use rtc_wire_text::same_letters;
 use std::alloc::{AllocError, Global};
 
 fn make_default_rows(alloc: Global) -> Result<Vec<PayloadRow>, AllocError>

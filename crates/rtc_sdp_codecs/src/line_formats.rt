@@ -3,9 +3,9 @@ ghost use Rattle.std.specs.Prelude.{◌≡◌, ◌==◌, ◌&&◌, IfOk, filter,
 ghost use Rattle.rtc_sdp_codecs.specs.FormedCodecs.{AreFormedRows, AreDistinctNumbers};
 ghost use Rattle.rtc_sdp_codecs.specs.LineFormats as spec;
 
-use rtc_wire_text::same_letters;
 use rtc_sdp_values::{MediaKind, PayloadRow, Pt};
 use rtc_wire::TryCopy;
+use rtc_wire_text::same_letters;
 use std::alloc::{AllocError, Global};
 
 fn is_video_codec(codec: &str) -> bool

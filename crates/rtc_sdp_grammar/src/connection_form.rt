@@ -16,11 +16,11 @@ ghost use Rattle.rtc_sdp_grammar.specs.declared.attribute.Attribute.TheVariants.
 ghost use Rattle.rtc_sdp_grammar.specs.NameLengths.{bytes_shown};
 
 use crate::Attribute;
-use rtc_wire_text::number;
 use rtc_sdp_attributes::{
     read_candidate, read_fingerprint, read_password, read_sctp_init, read_setup, read_ufrag,
 };
 use rtc_sdp_values::Mid;
+use rtc_wire_text::number;
 use std::alloc::{AllocError, Global};
 
 /// What a `mid` attribute says (RFC 5888, section 4).

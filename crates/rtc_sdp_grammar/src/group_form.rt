@@ -7,9 +7,9 @@ ghost use Rattle.rtc_sdp_grammar.specs.Table as spec;
 ghost use Rattle.rtc_sdp_grammar.specs.NameLengths.{bytes_shown};
 
 use crate::Attribute;
-use rtc_wire_text::words;
 use rtc_sdp_values::Mid;
 use rtc_wire::Seq;
+use rtc_wire_text::words;
 use std::alloc::{AllocError, Global};
 
 fn mids_of(alloc: Global, words: &[&str]) -> Result<Option<Seq<Mid>>, AllocError>

@@ -8,8 +8,8 @@ ghost use Rattle.rtc_sdp_grammar.specs.ItemForm as spec;
 use crate::Item;
 use crate::attribute_form::attribute;
 use crate::media_form::{is_filled, media};
-use rtc_wire_text::{number, words};
 use rtc_sdp_attributes::cut;
+use rtc_wire_text::{number, words};
 use std::alloc::{AllocError, Global};
 
 /// Whether the words beside the number of an origin have bytes.

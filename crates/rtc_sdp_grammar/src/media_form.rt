@@ -10,10 +10,10 @@ ghost use Rattle.rtc_sdp_grammar.specs.MediaForm as spec;
 ghost use Rattle.rtc_wire_text.specs.Once.{each_once as spec_each_once};
 
 use crate::{Item, MediaHead};
-use rtc_wire_text::{is_numeral, is_token, number_up_to, words};
 use rtc_sdp_attributes::cut;
 use rtc_sdp_values::LineKind;
 use rtc_wire::Seq;
+use rtc_wire_text::{is_numeral, is_token, number_up_to, words};
 use std::alloc::{AllocError, Global};
 
 fn kind_of(word: &str) -> LineKind

@@ -6,10 +6,10 @@ ghost use Rattle.rtc_wire_text.specs.Fields.{first};
 ghost use Rattle.rtc_sdp_reader.specs.Payloads as spec;
 
 use crate::link::Link;
-use rtc_wire_text::same_letters;
 use rtc_sdp_attributes::{Fmtp, Rtpmap, read_apt, read_red_primary};
 use rtc_sdp_values::{PayloadRow, Pt};
 use rtc_wire::{Seq, Text, TryCopy};
+use rtc_wire_text::same_letters;
 use std::alloc::{AllocError, Global};
 use std::mem;
 

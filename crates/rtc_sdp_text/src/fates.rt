@@ -8,10 +8,10 @@ ghost use Rattle.rtc_sdp_text.specs.Fates as spec;
 
 use crate::known_name::is_known;
 use crate::{Cause, Fate};
-use rtc_wire_text::cut;
 use rtc_sdp_grammar::{Attribute, Item, Level};
 use rtc_sdp_reader::Place;
 use rtc_wire::Seq;
+use rtc_wire_text::cut;
 use std::alloc::AllocError;
 
 fn unsaid(name: &str) -> Fate

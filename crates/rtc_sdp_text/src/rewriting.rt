@@ -9,7 +9,7 @@ use crate::repairing::{repair, utf8_of};
 use crate::{SdpKind, TextError};
 use rtc_lines::{SdpAnswer, SdpOffer};
 use rtc_sdp_values::SdpError;
-use rtc_wire::{Text};
+use rtc_wire::Text;
 use rtc_wire_drops::release;
 use std::alloc::{AllocError, Global};
 

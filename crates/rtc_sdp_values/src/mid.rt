@@ -3,15 +3,16 @@ ghost use Rattle.std.specs.Prelude.{◌≡◌, ℕ, List, if◌then◌else◌, S
 ghost use Rattle.rtc_wire_text.specs.Tokens.{is_short_token as IsShortToken};
 ghost use Rattle.rtc_sdp_values.specs.Mids.{is_among};
 
-use rtc_wire_text::ShortToken;
 use rtc_wire::TryCopy;
+use rtc_wire_text::ShortToken;
 use std::alloc::AllocError;
+use std::fmt;
 use std::marker::Model;
 
 /// The name of an m-line: a token of 1 to 32 bytes (RFC 5888, section 4; the length is our profile's).
 ///
 /// It is copied like a number. A contract sees it as the list of its bytes.
-#[derive(Clone, Copy, Debug, PartialEq, Eq, PartialOrd, Ord)]
+#[derive(Clone, Copy, PartialEq, Eq, PartialOrd, Ord)]
 pub struct Mid {
     token: ShortToken,
 }
@@ -63,6 +64,12 @@ impl Mid {
             }
         }
         false
+    }
+}
+
+impl fmt::Debug for Mid {
+    fn fmt<W: fmt::Write>(&self, f: &mut fmt::Formatter<W>) -> fmt::Result {
+        write!(f, "Mid({})", self.as_str())
     }
 }
 

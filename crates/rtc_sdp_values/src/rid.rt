@@ -2,15 +2,16 @@
 ghost use Rattle.std.specs.Prelude.{◌≡◌, ℕ, List, if◌then◌else◌, Some, None, Option, true, IfOk};
 ghost use Rattle.rtc_wire_text.specs.Tokens.{is_short_token as IsShortToken};
 
-use rtc_wire_text::ShortToken;
 use rtc_wire::TryCopy;
+use rtc_wire_text::ShortToken;
 use std::alloc::AllocError;
+use std::fmt;
 use std::marker::Model;
 
 /// The name of a simulcast layer: a token of 1 to 32 bytes (RFC 8851, section 4; the length is our profile's).
 ///
 /// It is copied like a number. A contract sees it as the list of its bytes.
-#[derive(Clone, Copy, Debug, PartialEq, Eq, PartialOrd, Ord)]
+#[derive(Clone, Copy, PartialEq, Eq, PartialOrd, Ord)]
 pub struct Rid {
     token: ShortToken,
 }
@@ -50,6 +51,12 @@ impl Rid {
         ensures token { IsShortToken self.now ≡ true }
     {
         self.token.as_str()
+    }
+}
+
+impl fmt::Debug for Rid {
+    fn fmt<W: fmt::Write>(&self, f: &mut fmt::Formatter<W>) -> fmt::Result {
+        write!(f, "Rid({})", self.as_str())
     }
 }
 

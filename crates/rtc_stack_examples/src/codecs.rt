@@ -1,6 +1,6 @@
 //! The codecs of a peer that chooses among those of an offer.
-use rtc_sdp_codecs::Codec;
 use rtc_peer::{CodecConfig, PayloadRow};
+use rtc_sdp_codecs::Codec;
 use rtc_wire::Seq;
 use std::alloc::{AllocError, Global};
 

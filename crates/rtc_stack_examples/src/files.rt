@@ -2,7 +2,7 @@
 use crate::numbers::number;
 use crate::transfer::Transfer;
 use rtc_endpoints::{Polled, Signals, Texts, Way, Wire, meet, pass};
-use rtc_wire::{Span};
+use rtc_wire::Span;
 use rtc_wire_drops::release;
 use std::alloc::{AllocError, Global};
 

@@ -1,8 +1,8 @@
 //! Values of session descriptions: layers, extensions, and hashes of certificates.
 use rtc_cases::{every, is_true};
-use rtc_wire_text::push_hex;
 use rtc_sdp_values::{Extension, ExtensionMap, Fingerprint, Rid, Simulcast, SimulcastLayer};
 use rtc_wire::{Seq, TryCopy};
+use rtc_wire_text::push_hex;
 use std::alloc::{AllocError, Global};
 
 // Whether the standard extensions are copied.

@@ -8,11 +8,12 @@ ghost use Rattle.std.proofs.Common.{rules};
 
 use crate::TryCopy;
 use std::alloc::AllocError;
+use std::fmt;
 use std::hash::{Hash, Hasher};
 use std::marker::Model;
 
 /// Bytes that a value owns. A contract sees them as a list.
-#[derive(Debug, Drop)]
+#[derive(Drop)]
 pub struct Bytes {
     items: Vec<u8>,
 }
@@ -50,6 +51,15 @@ impl TryCopy for Bytes {
     fn copy(&self) -> Result<Bytes, AllocError> {
         let items = Vec::from_slice(*self.items.allocator(), self.items.as_slice())?;
         Ok(Bytes { items })
+    }
+}
+
+impl fmt::Debug for Bytes {
+    fn fmt<W: fmt::Write>(&self, f: &mut fmt::Formatter<W>) -> fmt::Result {
+        for byte in self.as_slice() {
+            write!(f, "{byte:02x}")?;
+        }
+        Ok(())
     }
 }
 

@@ -19,6 +19,8 @@ pub const DEFAULT_MAX_BUFFERED_AMOUNT: usize = 131_072;
 pub const STREAM_OPEN_TIMEOUT: Span = Span(10_000_000_000);
 /// After how long the opening of a stream is tried again.
 pub const STREAM_OPEN_RETRY_INTERVAL: Span = Span(500_000_000);
+/// The longest label or protocol of an open message, whose lengths have two bytes (RFC 8832, section 5.1).
+pub const DCEP_MAX_TEXT_SIZE: usize = 65_535;
 /// The size that datagrams are kept to.
 pub const DATAGRAM_MTU_TARGET: usize = 1150;
 /// The least size that datagrams may be kept to.

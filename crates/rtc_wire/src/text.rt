@@ -8,11 +8,12 @@ ghost use Rattle.std.proofs.Common.{rules};
 
 use crate::TryCopy;
 use std::alloc::{AllocError, Global};
+use std::fmt;
 use std::hash::{Hash, Hasher};
 use std::marker::Model;
 
 /// A text that a value owns. A contract sees it as the list of its bytes, which are UTF-8.
-#[derive(Debug, Drop)]
+#[derive(Drop)]
 pub struct Text {
     text: String,
 }
@@ -58,6 +59,12 @@ impl TryCopy for Text {
     fn copy(&self) -> Result<Text, AllocError> {
         let text = String::from_str(*self.text.allocator(), self.text.as_str())?;
         Ok(Text { text })
+    }
+}
+
+impl fmt::Debug for Text {
+    fn fmt<W: fmt::Write>(&self, f: &mut fmt::Formatter<W>) -> fmt::Result {
+        write!(f, "{:?}", self.as_str())
     }
 }
 
