@@ -86,6 +86,12 @@ pub record MediaLaws {M E X T W : Type 0} (m : MediaMeaning M E X T W) : Type 0 
   pub quiet_datagram : (p q : M) (now : ℕ) (r : _) → m.held_datagrams p ≡ 0 → m.gave p now r q → r ≡ None
   pub silent_events : (p q o : M) (now : ℕ) → m.told p None q → m.told_fallible p now (Ok None) o → m.held_events p ≡ 0
   pub silent_datagrams : (p q : M) (now : ℕ) → m.gave p now None q → m.held_datagrams p ≡ 0
+  -- if no event is held, a poll for an event may return none and leave the part as it was
+  pub quiet_told : (p : M) → m.held_events p ≡ 0 → m.told p None p
+  -- if no event is held, a poll for an event whose making may fail may do the same
+  pub quiet_told_fallible : (p : M) (now : ℕ) → m.held_events p ≡ 0 → m.told_fallible p now (Ok None) p
+  -- if no datagram is held, a poll for a datagram may return none and leave the part as it was
+  pub quiet_gave : (p : M) (now : ℕ) → m.held_datagrams p ≡ 0 → m.gave p now None p
   -- each poll that gives something lowers what is held, and none raises it
   pub event_falls : (p q : M) (e : E) → m.told p (Some e) q → held_media m q < held_media m p
   pub fallible_falls : (p q : M) (now : ℕ) (e : E) → m.told_fallible p now (Ok (Some e)) q → held_media m q < held_media m p
@@ -99,6 +105,8 @@ pub record MediaLaws {M E X T W : Type 0} (m : MediaMeaning M E X T W) : Type 0 
   pub clear_quiet : (p q : M) → held_media m p ≡ 0 → m.cleared p q → q ≡ p
   pub clear_wake : (p q : M) → m.cleared p q → m.wake q ≡ m.wake p
   pub app_wake : (p q : M) (sender media : Ssrc) (payload : List ℕ) (r : _) → m.app_fed p sender media payload r q → m.wake q ≡ m.wake p
+  -- if nothing is held, clearing the feedback may leave the part as it was
+  pub quiet_cleared : (p : M) → held_media m p ≡ 0 → m.cleared p p
   -- how much closing and keying add to what is held, at most
   pub shut_held : (p q : M) (r : _) → m.rtp_shut p r q → held_media m q ≤ held_media m p + 32
   pub key_held : (p q : M) (key : List ℕ) (profile : SrtpProfile) (active : Bool) (r : _) → m.keyed p key profile active r q

@@ -74,11 +74,14 @@ use Rattle.rtc_plain_media.specs.QueueLemmas.{
   event_fell,
   datagram_fell,
   no_length,
+  told_only,
+  gave_only,
+  fallible_only,
   quiet_told,
   quiet_gave,
-  fallible_only,
   no_event,
   cleared_quiet,
+  quiet_cleared,
   shut_most,
   keyed_most,
 }
@@ -266,11 +269,14 @@ plain_media_laws = record {
   event_none = λ p q h. (tells_none p.events p q h).0;
   fallible_none = λ p q now h. h.1;
   datagram_none = λ p q now h. (gives_none p.datagrams p q h).0;
-  quiet_event = λ p q r none h. quiet_told p.events p q r (no_length p.events none) h;
+  quiet_event = λ p q r none h. told_only p.events p q r (no_length p.events none) h;
   quiet_fallible = λ p q now r none h. inl (fallible_only p q r h);
-  quiet_datagram = λ p q now r none h. quiet_gave p.datagrams p q r (no_length p.datagrams none) h;
+  quiet_datagram = λ p q now r none h. gave_only p.datagrams p q r (no_length p.datagrams none) h;
   silent_events = λ p q o now h k. ap (λ (l : List PlainMediaEvent). length l) (tells_none p.events p q h).1;
   silent_datagrams = λ p q now h. ap (λ (l : List (List ℕ)). length l) (gives_none p.datagrams p q h).1;
+  quiet_told = λ p none. quiet_told p none;
+  quiet_told_fallible = λ p now none. (refl, refl);
+  quiet_gave = λ p now none. quiet_gave p none;
   event_falls = event_fell;
   fallible_falls = λ p q now e h. no_event e h.0;
   fault_falls = λ p q now e n h. absurd h;
@@ -282,6 +288,7 @@ plain_media_laws = record {
   clear_quiet = cleared_quiet;
   clear_wake = λ p q h. refl;
   app_wake = λ p q sender media payload r h. refl;
+  quiet_cleared = λ p none. quiet_cleared p none;
   shut_held = shut_most;
   key_held = λ p q key profile active r h. keyed_most p q r h;
 }
