@@ -1,64 +1,69 @@
 -- An association that fails at listed calls keeps the laws of every association.
-use Rattle.std.proofs.Common.{ℕ, ◌≡◌, ◌+◌, ◌*◌, ◌≤◌, ◌⊎◌, ◌++◌, inl, inr, Bool, true, false, List, [], ◌∷◌, length, Option, Some, None, Result, Ok, Err, refl, sym, ap, subst, ◌∙◌, arith, append-nil}
+use Rattle.std.proofs.Common.{
+  ℕ,
+  ◌≡◌,
+  ◌+◌,
+  ◌*◌,
+  ◌≤◌,
+  ◌⊎◌,
+  ◌++◌,
+  inl,
+  inr,
+  Bool,
+  true,
+  false,
+  List,
+  [],
+  ◌∷◌,
+  length,
+  Option,
+  Some,
+  None,
+  Result,
+  Ok,
+  Err,
+  refl,
+  sym,
+  ap,
+  subst,
+  ◌∙◌,
+  arith,
+  append-nil,
+}
 use Rattle.std.specs.Prelude.{if◌then◌else◌}
 use Rattle.rtc_wire.specs.declared.reliability_type.ReliabilityType.{ReliabilityType}
-use Rattle.rtc_part_values.specs.Why.{Timed, Shut, Other}
 use Rattle.rtc_part_association.specs.declared.assoc_error.AssocError.{AssocError}
-use Rattle.rtc_part_association.specs.declared.assoc_error.AssocError.TheVariants.{StreamExists, ResetPending, NoStream, TooLong, Closing, Fault, Alloc}
+use Rattle.rtc_part_association.specs.declared.assoc_error.AssocError.TheVariants.{
+  StreamExists,
+  ResetPending,
+  NoStream,
+  TooLong,
+  Closing,
+  Fault,
+  Alloc,
+}
 use Rattle.rtc_part_association.specs.declared.ppi.Ppi.{Ppi}
 use Rattle.rtc_part_association.specs.AssociationMeaning.{AssociationMeaning}
 use Rattle.rtc_part_association.specs.AssociationNeeds.{Answered, closing_need, open_need, write_need, end_need, stream_need}
-use Rattle.rtc_part_association.specs.AssociationActs.{
-  AssociationAct,
-  Started,
-  Opened,
-  Wrote,
-  Ended,
-  Given,
-  Taken,
-  Read,
-  Told,
-  Stirred,
-  Starts,
-  ByConnect,
-  ByAccept,
-  BySnap,
-  Stirs,
-  LimitsSet,
-  ConnectRefused,
-  AcceptRefused,
-  SnapRefused,
-  OpenRefused,
-  WriteRefused,
-  ReadRefused,
-  EndRefused,
-  ThresholdSet,
-  ReliabilitySet,
-  Acted,
-  starts,
-  is_threshold_set,
-  brings_threshold,
-}
+use Rattle.rtc_part_association.specs.AssociationActs.{AssociationAct, Acted, starts, brings_threshold}
 use Rattle.rtc_part_association.specs.AssociationWords.{told}
 use Rattle.rtc_part_association.specs.AssociationEvents.{AddsEvents}
 use Rattle.rtc_part_association.specs.AssociationLaws.{AssociationLaws, LeavesStarted, Buffers}
 use Rattle.rtc_faulty.specs.declared.faulty.Faulty.{Faulty}
-use Rattle.rtc_faulty.specs.Numbering.{is_failing, one_fault_more, number_used}
-use Rattle.rtc_faulty.specs.FaultyCalls.{Numbered}
+use Rattle.rtc_faulty.specs.Numbering.{is_failing, number_used}
+use Rattle.rtc_faulty.specs.FaultyCalls.{CanFail}
 use Rattle.rtc_faulty.specs.FaultyLemmas.{
   rose_inside,
   rose_outside,
   later_inside,
   later_outside,
   never_fault,
-  ReachedCall,
   failed_or_reached,
   holds_after,
-  reached_unless_fault,
-  reaches-faults,
   reaches_same,
 }
 use Rattle.rtc_faulty.specs.FaultyAssociation.{faulty_association, opening_counts, reading_counts}
+use Rattle.rtc_faulty.specs.FaultyAssociationActs.{wrote_inside, read_inside, association_act_inside}
 
 -- answers
 answered_inside : {T : Type 0} (cause : Option AssocError) (i j f g : ℕ) (r : Result T AssocError) → g ≡ f → Answered cause i j r
@@ -91,9 +96,10 @@ module _ {S : Type 0} (m : AssociationMeaning S) (w : AssociationLaws m) where
   abbrev Call : Type 0 → Type 1
   Call T = S → Result T AssocError → S → Type 0
 
-  answered : {T : Type 0} (cause : Option AssocError) (uses : Result T AssocError → Bool) (R : Call T) (p q : Faulty S) (r : Result T AssocError)
+  answered : {T : Type 0} (cause : Option AssocError) (uses : Result T AssocError
+      → Bool) (R : Call T) (p q : Faulty S) (r : Result T AssocError)
       → (R p.inner r q.inner → Answered cause (m.faults p.inner) (m.faults q.inner) r)
-      → Numbered (is_failing p.numbers) Fault uses R p r q → Answered cause (Whole.faults p) (Whole.faults q) r
+      → CanFail (is_failing p.numbers) Fault uses R p r q → Answered cause (Whole.faults p) (Whole.faults q) r
   answered {T} cause uses R p q r law h = elim (failed_or_reached Fault uses R (is_failing p.numbers) p q r h) [
     | inl f ↦ subst (λ (a : Result T AssocError). Answered cause (Whole.faults p) (Whole.faults q) a) (sym f.answer)
         (rose_outside (m.faults p.inner) (m.faults q.inner) p.numbers.faults q.numbers.faults (ap m.faults f.inner) f.faults)
@@ -101,12 +107,13 @@ module _ {S : Type 0} (m : AssociationMeaning S) (w : AssociationLaws m) where
   ]
 
   -- starting
-  leaves_inside : (max : ℕ) (r : Result (Unit {0}) AssocError) (q : Faulty S) → LeavesStarted m max r q.inner → LeavesStarted Whole max r q
+  leaves_inside : (max : ℕ) (r : Result (Unit {0}) AssocError) (q : Faulty S) → LeavesStarted m max r q.inner
+      → LeavesStarted Whole max r q
   leaves_inside max (Ok x) q h = h
   leaves_inside max (Err e) q h = h
 
   leaves : (max : ℕ) (R : Call (Unit {0})) (p q : Faulty S) (r : Result (Unit {0}) AssocError) → m.started p.inner ≡ false
-      → (R p.inner r q.inner → LeavesStarted m max r q.inner) → Numbered (is_failing p.numbers) Fault (λ _. true) R p r q
+      → (R p.inner r q.inner → LeavesStarted m max r q.inner) → CanFail (is_failing p.numbers) Fault (λ _. true) R p r q
       → LeavesStarted Whole max r q
   leaves max R p q r s law h = elim (failed_or_reached Fault (λ _. true) R (is_failing p.numbers) p q r h) [
     | inl f ↦ subst (λ (a : Result (Unit {0}) AssocError). LeavesStarted Whole max a q) (sym f.answer) (ap m.started f.inner ∙ s)
@@ -115,141 +122,40 @@ module _ {S : Type 0} (m : AssociationMeaning S) (w : AssociationLaws m) where
 
   same_generation : (id : ℕ) (R : Call (Unit {0})) (p q : Faulty S) (r : Result (Unit {0}) AssocError)
       → (R p.inner r q.inner → m.generation q.inner id ≡ m.generation p.inner id)
-      → Numbered (is_failing p.numbers) Fault (λ _. true) R p r q → m.generation q.inner id ≡ m.generation p.inner id
+      → CanFail (is_failing p.numbers) Fault (λ _. true) R p r q → m.generation q.inner id ≡ m.generation p.inner id
   same_generation id R p q r law h = holds_after Fault (λ _. true) R (λ (i : S). m.generation i id ≡ m.generation p.inner id)
       (is_failing p.numbers) p q r refl law h
-
-  -- a call that gives no fault reached the part inside
-  wrote_inside : (p q : Faulty S) (id : ℕ) (ppi : Ppi) (bytes : List ℕ) (n : ℕ) → Whole.wrote p id ppi bytes (Ok n) q
-      → ReachedCall (λ i a j. m.wrote i id ppi bytes a j) p (Ok n) q
-  wrote_inside p q id ppi bytes n h =
-      reached_unless_fault Fault (λ _. true) (λ i a j. m.wrote i id ppi bytes a j) (is_failing p.numbers) p q (Ok n) (never_fault n Fault) h
-
-  read_inside : (p q : Faulty S) (id : ℕ) (x : Option (Ppi × List ℕ)) → Whole.read p id (Ok x) q
-      → ReachedCall (λ i a j. m.read i id a j) p (Ok x) q
-  read_inside p q id x h =
-      reached_unless_fault Fault reading_counts (λ i a j. m.read i id a j) (is_failing p.numbers) p q (Ok x) (never_fault x Fault) h
 
   buffers_inside : (p q : Faulty S) (id n : ℕ) → Buffers m p.inner id n q.inner → Buffers Whole p id n q
   buffers_inside p q id n b = record { rises = b.rises; bound = b.bound; others = b.others }
 
   -- what is read as none, or refused without a number, changes nothing and is answered so again
-  reads_none : (b : Bool) (p q : Faulty S) (id : ℕ) → Numbered b Fault reading_counts (λ i a j. m.read i id a j) p (Ok None) q → q ≡ p
+  reads_none : (b : Bool) (p q : Faulty S) (id : ℕ) → CanFail b Fault reading_counts (λ i a j. m.read i id a j) p (Ok None) q → q ≡ p
   reads_none true p q id h = absurd (never_fault None Fault h.0)
   reads_none false p q id h = reaches_same p q (w.read_none p.inner q.inner id h.0) h.1
 
   reads_none_again : (b : Bool) (p q o : Faulty S) (id : ℕ) (r : Result (Option (Ppi × List ℕ)) AssocError)
-      → Numbered b Fault reading_counts (λ i a j. m.read i id a j) p (Ok None) q
-      → Numbered b Fault reading_counts (λ i a j. m.read i id a j) p r o → (r ≡ Ok None) ⊎ (r ≡ Err Alloc)
+      → CanFail b Fault reading_counts (λ i a j. m.read i id a j) p (Ok None) q
+      → CanFail b Fault reading_counts (λ i a j. m.read i id a j) p r o → (r ≡ Ok None) ⊎ (r ≡ Err Alloc)
   reads_none_again true p q o id r h k = absurd (never_fault None Fault h.0)
   reads_none_again false p q o id r h k = w.read_none_again p.inner q.inner o.inner id r h.0 k.0
 
   opens_same : (b : Bool) (p q : Faulty S) (id : ℕ) (e : AssocError) → (e ≡ StreamExists) ⊎ (e ≡ ResetPending)
-      → Numbered b Fault opening_counts (λ i a j. m.opened i id a j) p (Err e) q → q ≡ p
+      → CanFail b Fault opening_counts (λ i a j. m.opened i id a j) p (Err e) q → q ≡ p
   opens_same true p q id e s h = absurd (no_fault e s h.0)
   opens_same false p q id e s h = reaches_same p q (w.open_refused p.inner q.inner id e s h.0)
       (h.1 ∙ ap (λ (t : Bool). record p { inner = q.inner; numbers = if t then number_used p.numbers else p.numbers }) (unnumbered e s))
 
   opens_same_again : (b : Bool) (p q o : Faulty S) (id : ℕ) (e : AssocError) (r : Result (Unit {0}) AssocError)
-      → (e ≡ StreamExists) ⊎ (e ≡ ResetPending) → Numbered b Fault opening_counts (λ i a j. m.opened i id a j) p (Err e) q
-      → Numbered b Fault opening_counts (λ i a j. m.opened i id a j) p r o → (r ≡ Err e) ⊎ (r ≡ Err Alloc)
+      → (e ≡ StreamExists) ⊎ (e ≡ ResetPending) → CanFail b Fault opening_counts (λ i a j. m.opened i id a j) p (Err e) q
+      → CanFail b Fault opening_counts (λ i a j. m.opened i id a j) p r o → (r ≡ Err e) ⊎ (r ≡ Err Alloc)
   opens_same_again true p q o id e r s h k = absurd (no_fault e s h.0)
   opens_same_again false p q o id e r s h k = w.open_refused_again p.inner q.inner o.inner id e r s h.0 k.0
-
-  -- a call failed before the part inside, and is no event
-  abbrev FailedAct : Faulty S → AssociationAct → Faulty S → Type 0
-  FailedAct p act q = (told (act ∷ []) ≡ []) × ((q.inner ≡ p.inner) × (q.numbers.faults ≡ one_fault_more p.numbers.faults))
-
-  -- an act failed before the part inside, or is one of it that brings a threshold if this one does
-  abbrev ActInside : (p : Faulty S) (act : AssociationAct) (q : Faulty S) → Acted Whole p act q → Type 0
-  ActInside p act q h = FailedAct p act q ⊎ ((k : Acted m p.inner act q.inner)
-      × ((brings_threshold m p.inner q.inner act k ≡ brings_threshold Whole p q act h) × (q.numbers.faults ≡ p.numbers.faults)))
-
-  abbrev StirsInside : (p q : Faulty S) → Stirs Whole p q → Type 0
-  StirsInside p q h = FailedAct p (Stirred Other) q ⊎ ((k : Stirs m p.inner q.inner)
-      × ((is_threshold_set m p.inner q.inner k ≡ is_threshold_set Whole p q h) × (q.numbers.faults ≡ p.numbers.faults)))
-
-  -- a numbered call by which the part stirs
-  numbered_stirs : {T : Type 0} (uses : Result T AssocError → Bool) (R : Call T) (p q : Faulty S) (r : Result T AssocError) (h : Stirs Whole p q)
-      → (step : R p.inner r q.inner → Stirs m p.inner q.inner)
-      → ((d : R p.inner r q.inner) → is_threshold_set m p.inner q.inner (step d) ≡ is_threshold_set Whole p q h)
-      → Numbered (is_failing p.numbers) Fault uses R p r q → StirsInside p q h
-  numbered_stirs uses R p q r h step same n = elim (failed_or_reached Fault uses R (is_failing p.numbers) p q r n) [
-    | inl f ↦ inl (refl, (f.inner, f.faults))
-    | inr k ↦ inr (step k.did, (same k.did, k.faults))
-  ]
-
-  stirs_inside : (p q : Faulty S) (h : Stirs Whole p q) → StirsInside p q h
-  stirs_inside p q (LimitsSet n k h) = inr (LimitsSet n k h.0, (refl, reaches-faults p q h.1))
-  stirs_inside p q (ConnectRefused now max e s h) =
-      numbered_stirs (λ _. true) (λ i a j. m.connected i now max a j) p q (Err e) (ConnectRefused now max e s h)
-      (λ d. ConnectRefused now max e s d) (λ d. refl) h
-  stirs_inside p q (AcceptRefused now max e s h) =
-      numbered_stirs (λ _. true) (λ i a j. m.accepted i now max a j) p q (Err e) (AcceptRefused now max e s h)
-      (λ d. AcceptRefused now max e s d) (λ d. refl) h
-  stirs_inside p q (SnapRefused now max ours theirs e s h) =
-      numbered_stirs (λ _. true) (λ i a j. m.connected_snap i now max ours theirs a j) p q (Err e) (SnapRefused now max ours theirs e s h)
-      (λ d. SnapRefused now max ours theirs e s d) (λ d. refl) h
-  stirs_inside p q (OpenRefused id e h) =
-      numbered_stirs opening_counts (λ i a j. m.opened i id a j) p q (Err e) (OpenRefused id e h) (λ d. OpenRefused id e d) (λ d. refl) h
-  stirs_inside p q (WriteRefused id ppi bytes e h) =
-      numbered_stirs (λ _. true) (λ i a j. m.wrote i id ppi bytes a j) p q (Err e) (WriteRefused id ppi bytes e h)
-      (λ d. WriteRefused id ppi bytes e d) (λ d. refl) h
-  stirs_inside p q (ReadRefused id e h) =
-      numbered_stirs reading_counts (λ i a j. m.read i id a j) p q (Err e) (ReadRefused id e h) (λ d. ReadRefused id e d) (λ d. refl) h
-  stirs_inside p q (EndRefused id e h) =
-      numbered_stirs (λ _. true) (λ i a j. m.ended i id a j) p q (Err e) (EndRefused id e h) (λ d. EndRefused id e d) (λ d. refl) h
-  stirs_inside p q (ThresholdSet id n (Ok x) h) =
-      numbered_stirs (λ _. true) (λ i a j. m.threshold_set i id n a j) p q (Ok x) (ThresholdSet id n (Ok x) h)
-      (λ d. ThresholdSet id n (Ok x) d) (λ d. refl) h
-  stirs_inside p q (ThresholdSet id n (Err e) h) =
-      numbered_stirs (λ _. true) (λ i a j. m.threshold_set i id n a j) p q (Err e) (ThresholdSet id n (Err e) h)
-      (λ d. ThresholdSet id n (Err e) d) (λ d. refl) h
-  stirs_inside p q (ReliabilitySet id unordered t n r h) =
-      numbered_stirs (λ _. true) (λ i a j. m.reliability_set i id unordered t n a j) p q r (ReliabilitySet id unordered t n r h)
-      (λ d. ReliabilitySet id unordered t n r d) (λ d. refl) h
-
-  -- an Ok of a numbered call is an act of the part inside
-  ok_inside : {T : Type 0} (x : T) (uses : Result T AssocError → Bool) (R : Call T) (p q : Faulty S)
-      → Numbered (is_failing p.numbers) Fault uses R p (Ok x) q → ReachedCall R p (Ok x) q
-  ok_inside x uses R p q h = reached_unless_fault Fault uses R (is_failing p.numbers) p q (Ok x) (never_fault x Fault) h
-
-  started_inside : (p q : Faulty S) → Starts Whole p q → Starts m p.inner q.inner × (q.numbers.faults ≡ p.numbers.faults)
-  started_inside p q (ByConnect now max h) =
-      let k = ok_inside tt (λ _. true) (λ i a j. m.connected i now max a j) p q h in (ByConnect now max k.did, k.faults)
-  started_inside p q (ByAccept now max h) =
-      let k = ok_inside tt (λ _. true) (λ i a j. m.accepted i now max a j) p q h in (ByAccept now max k.did, k.faults)
-  started_inside p q (BySnap now max ours theirs h) =
-      let k = ok_inside tt (λ _. true) (λ i a j. m.connected_snap i now max ours theirs a j) p q h in
-      (BySnap now max ours theirs k.did, k.faults)
-
-  shut_inside : (p q : Faulty S) (h : Acted Whole p (Stirred Shut) q) → ActInside p (Stirred Shut) q h
-  shut_inside p q h = elim (failed_or_reached Fault (λ _. true) (λ i a j. m.shut i a j) (is_failing p.numbers) p q h.0 h.1) [
-    | inl f ↦ inl (refl, (f.inner, f.faults))
-    | inr k ↦ inr ((h.0, k.did), (refl, k.faults))
-  ]
-
-  act_inside : (p q : Faulty S) (act : AssociationAct) (h : Acted Whole p act q) → ActInside p act q h
-  act_inside p q Started h = let k = started_inside p q h.1 in inr ((h.0, k.0), (refl, k.1))
-  act_inside p q (Opened s g) h =
-      let k = ok_inside tt opening_counts (λ i a j. m.opened i s a j) p q h.0 in inr ((k.did, h.1), (refl, k.faults))
-  act_inside p q (Wrote s g i b) h =
-      let k = wrote_inside p q s h.0 b h.1.0 h.1.1.0 in inr ((h.0, (h.1.0, (k.did, h.1.1.1, h.1.1.2))), (refl, k.faults))
-  act_inside p q (Ended s g) h =
-      let k = ok_inside tt (λ _. true) (λ i a j. m.ended i s a j) p q h.0 in inr ((k.did, h.1), (refl, k.faults))
-  act_inside p q (Given b) h = inr ((h.0, (h.1.0, h.1.1.0)), (refl, reaches-faults p q h.1.1.1))
-  act_inside p q (Taken b) h = inr (h.0, (refl, reaches-faults p q h.1))
-  act_inside p q (Read s g i b) h =
-      let k = read_inside p q s (Some (h.0, b)) h.1.0 in inr ((h.0, (k.did, h.1.1, h.1.2)), (refl, k.faults))
-  act_inside p q (Told e) h = inr (h.0, (refl, reaches-faults p q h.1))
-  act_inside p q (Stirred (Timed now)) h = inr ((h.0, h.1.0), (refl, reaches-faults p q h.1.1))
-  act_inside p q (Stirred Shut) h = shut_inside p q h
-  act_inside p q (Stirred Other) h = stirs_inside p q h
 
   -- by acts
   starts_same : (p q : Faulty S) (act : AssociationAct) → starts act ≡ false → Acted Whole p act q
       → (m.started q.inner ≡ m.started p.inner) × (m.max_send q.inner ≡ m.max_send p.inner)
-  starts_same p q act s h = elim (act_inside p q act h) [
+  starts_same p q act s h = elim (association_act_inside m p q act h) [
     | inl f ↦ (ap m.started f.1.0, ap m.max_send f.1.0)
     | inr k ↦ w.same_start p.inner q.inner act s k.0
   ]
@@ -273,34 +179,37 @@ module _ {S : Type 0} (m : AssociationMeaning S) (w : AssociationLaws m) where
   }
 
   adds_events : (p q : Faulty S) (act : AssociationAct) → Acted Whole p act q → AddsEvents Whole p (act ∷ []) q
-  adds_events p q act h = elim (act_inside p q act h) [
+  adds_events p q act h = elim (association_act_inside m p q act h) [
     | inl f ↦ adds_none p q act f.0 f.1.0
     | inr k ↦ adds_inside p q (act ∷ []) (w.adds p.inner q.inner act k.0)
   ]
 
   never_falls : (p q : Faulty S) (act : AssociationAct) → Acted Whole p act q → Whole.faults p ≤ Whole.faults q
-  never_falls p q act h = elim (act_inside p q act h) [
+  never_falls p q act h = elim (association_act_inside m p q act h) [
     | inl f ↦ later_outside (m.faults p.inner) (m.faults q.inner) p.numbers.faults q.numbers.faults (ap m.faults f.1.0) f.1.1
-    | inr k ↦ later_inside (m.faults p.inner) (m.faults q.inner) p.numbers.faults q.numbers.faults k.1.1 (w.faults_rise p.inner q.inner act k.0)
+    | inr k ↦ later_inside (m.faults p.inner) (m.faults q.inner) p.numbers.faults q.numbers.faults k.1.1
+        (w.faults_rise p.inner q.inner act k.0)
   ]
 
   none_brought : (p q : Faulty S) (act : AssociationAct) (h : Acted Whole p act q) → brings_threshold Whole p q act h ≡ false
       → m.has_threshold p.inner ≡ false → m.has_threshold q.inner ≡ false
-  none_brought p q act h e none = elim (act_inside p q act h) [
+  none_brought p q act h e none = elim (association_act_inside m p q act h) [
     | inl f ↦ ap m.has_threshold f.1.0 ∙ none
     | inr k ↦ w.no_threshold p.inner q.inner act k.0 (k.1.0 ∙ e) none
   ]
 
   -- the units of work after a numbered call
   works : {T : Type 0} (more : ℕ) (uses : Result T AssocError → Bool) (R : Call T) (p q : Faulty S) (r : Result T AssocError)
-      → (R p.inner r q.inner → m.units q.inner ≤ m.units p.inner + more) → Numbered (is_failing p.numbers) Fault uses R p r q
+      → (R p.inner r q.inner → m.units q.inner ≤ m.units p.inner + more) → CanFail (is_failing p.numbers) Fault uses R p r q
       → m.units q.inner ≤ m.units p.inner + more
-  works more uses R p q r law h = holds_after Fault uses R (λ (i : S). m.units i ≤ m.units p.inner + more) (is_failing p.numbers) p q r (omega arith) law h
+  works more uses R p q r law h =
+      holds_after Fault uses R (λ (i : S). m.units i ≤ m.units p.inner + more) (is_failing p.numbers) p q r (omega arith) law h
 
   rests : {T : Type 0} (uses : Result T AssocError → Bool) (R : Call T) (p q : Faulty S) (r : Result T AssocError)
-      → (R p.inner r q.inner → m.units q.inner ≤ m.units p.inner) → Numbered (is_failing p.numbers) Fault uses R p r q
+      → (R p.inner r q.inner → m.units q.inner ≤ m.units p.inner) → CanFail (is_failing p.numbers) Fault uses R p r q
       → m.units q.inner ≤ m.units p.inner
-  rests uses R p q r law h = holds_after Fault uses R (λ (i : S). m.units i ≤ m.units p.inner) (is_failing p.numbers) p q r (omega arith) law h
+  rests uses R p q r law h =
+      holds_after Fault uses R (λ (i : S). m.units i ≤ m.units p.inner) (is_failing p.numbers) p q r (omega arith) law h
 
   written_works : (p q : Faulty S) (id : ℕ) (ppi : Ppi) (bytes : List ℕ) (r : Result ℕ AssocError) → Whole.wrote p id ppi bytes r q
       → m.units q.inner ≤ m.units p.inner + length bytes + 2
@@ -324,7 +233,8 @@ module _ {S : Type 0} (m : AssociationMeaning S) (w : AssociationLaws m) where
         (w.snap_answer p.inner q.inner now max ours theirs r) h;
     open_answer = λ p q id r h.
         answered (open_need m p.inner id) opening_counts (λ i a j. m.opened i id a j) p q r (w.open_answer p.inner q.inner id r) h;
-    write_answer = λ p q id ppi bytes r h. answered (write_need m p.inner id bytes) (λ _. true) (λ i a j. m.wrote i id ppi bytes a j) p q r
+    write_answer = λ p q id ppi bytes r h.
+        answered (write_need m p.inner id bytes) (λ _. true) (λ i a j. m.wrote i id ppi bytes a j) p q r
         (w.write_answer p.inner q.inner id ppi bytes r) h;
     read_answer = λ p q id r h.
         answered (stream_need m p.inner id) reading_counts (λ i a j. m.read i id a j) p q r (w.read_answer p.inner q.inner id r) h;
@@ -335,7 +245,8 @@ module _ {S : Type 0} (m : AssociationMeaning S) (w : AssociationLaws m) where
     reliability_answer = λ p q id unordered t n r h.
         answered (stream_need m p.inner id) (λ _. true) (λ i a j. m.reliability_set i id unordered t n a j) p q r
         (w.reliability_answer p.inner q.inner id unordered t n r) h;
-    shut_answer = λ p q r h. answered (closing_need m p.inner) (λ _. true) (λ i a j. m.shut i a j) p q r (w.shut_answer p.inner q.inner r) h;
+    shut_answer = λ p q r h.
+        answered (closing_need m p.inner) (λ _. true) (λ i a j. m.shut i a j) p q r (w.shut_answer p.inner q.inner r) h;
     connect_starts = λ p q now max r s h.
         leaves max (λ i a j. m.connected i now max a j) p q r s (w.connect_starts p.inner q.inner now max r s) h;
     accept_starts = λ p q now max r s h.
@@ -349,15 +260,15 @@ module _ {S : Type 0} (m : AssociationMeaning S) (w : AssociationLaws m) where
         same_generation id (λ i a j. m.accepted i now max a j) p q r (w.accept_generation p.inner q.inner now max id r) h;
     snap_generation = λ p q now max id ours theirs r h. same_generation id (λ i a j. m.connected_snap i now max ours theirs a j) p q r
         (w.snap_generation p.inner q.inner now max id ours theirs r) h;
-    write_count = λ p q id ppi bytes n h. w.write_count p.inner q.inner id ppi bytes n (wrote_inside p q id ppi bytes n h).did;
+    write_count = λ p q id ppi bytes n h. w.write_count p.inner q.inner id ppi bytes n (wrote_inside m p q id ppi bytes n h).did;
     write_buffers = λ p q id ppi bytes n h.
-        buffers_inside p q id (length bytes) (w.write_buffers p.inner q.inner id ppi bytes n (wrote_inside p q id ppi bytes n h).did);
+        buffers_inside p q id (length bytes) (w.write_buffers p.inner q.inner id ppi bytes n (wrote_inside m p q id ppi bytes n h).did);
     read_none = λ p q id h. reads_none (is_failing p.numbers) p q id h;
     read_none_again = λ p q o id r h k. reads_none_again (is_failing p.numbers) p q o id r h k;
     open_refused = λ p q id e s h. opens_same (is_failing p.numbers) p q id e s h;
     open_refused_again = λ p q o id e r s h k. opens_same_again (is_failing p.numbers) p q o id e r s h k;
-    read_unread = λ p q id message h. w.read_unread p.inner q.inner id message (read_inside p q id (Some message) h).did;
-    none_unread = λ p q id h. w.none_unread p.inner q.inner id (read_inside p q id None h).did;
+    read_unread = λ p q id message h. w.read_unread p.inner q.inner id message (read_inside m p q id (Some message) h).did;
+    none_unread = λ p q id h. w.none_unread p.inner q.inner id (read_inside m p q id None h).did;
     stale_there = λ p id h. w.stale_there p.inner id h;
     none_buffered = λ p id h. w.none_buffered p.inner id h;
     adds = adds_events;
@@ -374,7 +285,7 @@ module _ {S : Type 0} (m : AssociationMeaning S) (w : AssociationLaws m) where
     packet_short = λ p q packet h. w.packet_short p.inner q.inner packet h.0;
     event_units = λ p q event h. w.event_units p.inner q.inner event h.0;
     packet_units = λ p q packet h. w.packet_units p.inner q.inner packet h.0;
-    read_units = λ p q id message h. w.read_units p.inner q.inner id message (read_inside p q id (Some message) h).did;
+    read_units = λ p q id message h. w.read_units p.inner q.inner id message (read_inside m p q id (Some message) h).did;
     read_refused_units = λ p q id e h.
         rests reading_counts (λ i a j. m.read i id a j) p q (Err e) (w.read_refused_units p.inner q.inner id e) h;
     open_units = λ p q id r h. rests opening_counts (λ i a j. m.opened i id a j) p q r (w.open_units p.inner q.inner id r) h;

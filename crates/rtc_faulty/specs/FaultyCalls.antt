@@ -15,8 +15,8 @@ Reaches R p q = R p.inner q.inner × (q ≡ record p { inner = q.inner })
 
 -- a call that can fail. If it does, it returns the fault; else it reaches the part inside, and uses a number unless
 -- its answer is one that uses none
-abbrev pub Numbered : {P A E : Type 0} → (fails : Bool) → E → (Result A E → Bool) → (P → Result A E → P → Type 0)
+abbrev pub CanFail : {P A E : Type 0} → (fails : Bool) → E → (Result A E → Bool) → (P → Result A E → P → Type 0)
     → Faulty P → Result A E → Faulty P → Type 0
-Numbered true fault uses R p r q = (r ≡ Err fault) × (q ≡ record p { numbers = call_failed p.numbers })
-Numbered false fault uses R p r q = R p.inner r q.inner
+CanFail true fault uses R p r q = (r ≡ Err fault) × (q ≡ record p { numbers = call_failed p.numbers })
+CanFail false fault uses R p r q = R p.inner r q.inner
     × (q ≡ record p { inner = q.inner; numbers = if uses r then number_used p.numbers else p.numbers })

@@ -1,10 +1,34 @@
 -- What follows from a call of a part that fails at listed calls.
-use Rattle.std.proofs.Common.{ℕ, ◌≡◌, ◌+◌, ◌-◌, ◌^◌, ◌≤◌, ◌⊎◌, inl, inr, min, max, Bool, true, false, Result, Ok, Err, refl, sym, ap, subst, ◌∙◌, arith}
+use Rattle.std.proofs.Common.{
+  ℕ,
+  ◌≡◌,
+  ◌+◌,
+  ◌-◌,
+  ◌^◌,
+  ◌≤◌,
+  ◌⊎◌,
+  inl,
+  inr,
+  min,
+  max,
+  Bool,
+  true,
+  false,
+  Result,
+  Ok,
+  Err,
+  refl,
+  sym,
+  ap,
+  subst,
+  ◌∙◌,
+  arith,
+}
 use Rattle.std.specs.Prelude.{if◌then◌else◌}
 use Rattle.rtc_io.specs.Faults.{counted, Rose}
 use Rattle.rtc_faulty.specs.declared.faulty.Faulty.{Faulty}
 use Rattle.rtc_faulty.specs.Numbering.{Numbering, one_fault_more, number_used}
-use Rattle.rtc_faulty.specs.FaultyCalls.{Reaches, Numbered}
+use Rattle.rtc_faulty.specs.FaultyCalls.{Reaches, CanFail}
 
 -- counts of faults: i and j are of the part inside, f and g of the calls that failed before it, each before and after
 pub rose_inside : (i j f g : ℕ) → g ≡ f → Rose i j → Rose (i + f) (j + g)
@@ -40,7 +64,7 @@ pub record ReachedCall {P A E : Type 0} (R : P → Result A E → P → Type 0) 
   pub faults : q.numbers.faults ≡ p.numbers.faults
 
 module _ {P A E : Type 0} (fault : E) (uses : Result A E → Bool) (R : P → Result A E → P → Type 0) where
-  pub failed_or_reached : (b : Bool) (p q : Faulty P) (r : Result A E) → Numbered b fault uses R p r q
+  pub failed_or_reached : (b : Bool) (p q : Faulty P) (r : Result A E) → CanFail b fault uses R p r q
       → FailedCall fault p r q ⊎ ReachedCall R p r q
   failed_or_reached true p q r h = inl (record {
     answer = h.0;
@@ -54,14 +78,14 @@ module _ {P A E : Type 0} (fault : E) (uses : Result A E → Bool) (R : P → Re
 
   -- what holds of the part inside, and of what the call leaves of it, holds afterwards
   pub holds_after : (H : P → Type 0) (b : Bool) (p q : Faulty P) (r : Result A E) → H p.inner → (R p.inner r q.inner → H q.inner)
-      → Numbered b fault uses R p r q → H q.inner
+      → CanFail b fault uses R p r q → H q.inner
   holds_after H b p q r before step h = elim (failed_or_reached b p q r h) [
     | inl f ↦ subst H (sym f.inner) before
     | inr k ↦ step k.did
   ]
 
   -- a call whose answer is not the fault reached the part inside
-  pub reached_unless_fault : (b : Bool) (p q : Faulty P) (r : Result A E) → (r ≡ Err fault → ⊥) → Numbered b fault uses R p r q
+  pub reached_unless_fault : (b : Bool) (p q : Faulty P) (r : Result A E) → (r ≡ Err fault → ⊥) → CanFail b fault uses R p r q
       → ReachedCall R p r q
   reached_unless_fault b p q r other h = elim (failed_or_reached b p q r h) [ inl f ↦ absurd (other f.answer) | inr k ↦ k ]
 

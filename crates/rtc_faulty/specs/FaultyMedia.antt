@@ -4,7 +4,7 @@ use Rattle.rtc_part_media.specs.declared.media_error.MediaError.TheVariants.{Rtp
 use Rattle.rtc_part_media.specs.MediaMeaning.{MediaMeaning}
 use Rattle.rtc_faulty.specs.declared.faulty.Faulty.{Faulty}
 use Rattle.rtc_faulty.specs.Numbering.{is_failing, faults_ahead}
-use Rattle.rtc_faulty.specs.FaultyCalls.{IsFreshOver, Reaches, Numbered}
+use Rattle.rtc_faulty.specs.FaultyCalls.{IsFreshOver, Reaches, CanFail}
 
 -- a timeout has a number. A poll of the events whose making may fail has one only if it fails: so the faults that are
 -- to come in a row are held, as events are
@@ -18,9 +18,9 @@ faulty_media m = record {
   keyed = λ p key profile active r q. Reaches (λ i j. m.keyed i key profile active r j) p q;
   rtp_given = λ p now packet r q. Reaches (λ i j. m.rtp_given i now packet r j) p q;
   rtcp_given = λ p now packet r q. Reaches (λ i j. m.rtcp_given i now packet r j) p q;
-  timed = λ p now r q. Numbered (is_failing p.numbers) Rtp (λ _. true) (λ i a j. m.timed i now a j) p r q;
+  timed = λ p now r q. CanFail (is_failing p.numbers) Rtp (λ _. true) (λ i a j. m.timed i now a j) p r q;
   told = λ p r q. Reaches (λ i j. m.told i r j) p q;
-  told_fallible = λ p now r q. Numbered (is_failing p.numbers) Rtp (λ _. false) (λ i a j. m.told_fallible i now a j) p r q;
+  told_fallible = λ p now r q. CanFail (is_failing p.numbers) Rtp (λ _. false) (λ i a j. m.told_fallible i now a j) p r q;
   gave = λ p now r q. Reaches (λ i j. m.gave i now r j) p q;
   cleared = λ p q. Reaches (λ i j. m.cleared i j) p q;
   rtp_shut = λ p r q. Reaches (λ i j. m.rtp_shut i r j) p q;

@@ -1,8 +1,35 @@
 -- A media part that fails at listed calls keeps the laws of every media part.
-use Rattle.std.proofs.Common.{ℕ, ◌≡◌, ◌≢◌, ◌+◌, ◌<◌, ◌≤◌, ◌⊎◌, inl, inr, suc, Bool, true, false, List, Option, Some, None, Result, Ok, Err, refl, sym, ap, subst, ◌∙◌, arith}
+use Rattle.std.proofs.Common.{
+  ℕ,
+  ◌≡◌,
+  ◌≢◌,
+  ◌+◌,
+  ◌<◌,
+  ◌≤◌,
+  ◌⊎◌,
+  inl,
+  inr,
+  suc,
+  Bool,
+  true,
+  false,
+  List,
+  Option,
+  Some,
+  None,
+  Result,
+  Ok,
+  Err,
+  refl,
+  sym,
+  ap,
+  subst,
+  ◌∙◌,
+  arith,
+}
 use Rattle.rtc_io.specs.Faults.{Rose}
 use Rattle.rtc_sdp_values.specs.declared.ssrc.Ssrc.{Ssrc}
-use Rattle.rtc_part_values.specs.Why.{Timed, Shut, Other}
+use Rattle.rtc_part_values.specs.Why.{Timed, Shut}
 use Rattle.rtc_part_media.specs.declared.media_error.MediaError.{MediaError}
 use Rattle.rtc_part_media.specs.declared.media_error.MediaError.TheVariants.{Rtp, Alloc}
 use Rattle.rtc_part_media.specs.MediaMeaning.{MediaMeaning, held_media}
@@ -19,40 +46,12 @@ use Rattle.rtc_part_media.specs.MediaActs.{
   ByShut,
   ByLoan,
   ByOther,
-  ChangesLines,
-  Committed,
-  LineRemoved,
-  LendsMedia,
-  WriterLent,
-  RxExpected,
-  TxDeclared,
-  RxLent,
-  TxLent,
-  RxNamedLent,
-  TxNamedLent,
-  TxReset,
-  StirsMedia,
-  Configured,
-  Prepared,
-  Keyed,
-  EventTold,
-  FallibleTold,
-  FeedbackCleared,
-  StatsVisited,
-  RedSet,
-  TwccEnabled,
-  AppFed,
-  PliFed,
-  RxRemoved,
-  TxRemoved,
-  is_commit,
-  is_preparing,
   changes_pending,
 }
 use Rattle.rtc_part_media.specs.MediaLaws.{MediaLaws, SameLines, UsesStream}
 use Rattle.rtc_faulty.specs.declared.faulty.Faulty.{Faulty}
-use Rattle.rtc_faulty.specs.Numbering.{is_failing, one_fault_more, call_failed, faults_ahead}
-use Rattle.rtc_faulty.specs.FaultyCalls.{Numbered}
+use Rattle.rtc_faulty.specs.Numbering.{is_failing, faults_ahead}
+use Rattle.rtc_faulty.specs.FaultyCalls.{CanFail}
 use Rattle.rtc_faulty.specs.FaultyLemmas.{
   rose_inside,
   rose_outside,
@@ -60,12 +59,12 @@ use Rattle.rtc_faulty.specs.FaultyLemmas.{
   later_outside,
   never_fault,
   failed_or_reached,
-  reaches-faults,
   reaches-numbers,
   reaches_same,
 }
 use Rattle.rtc_faulty.specs.RowLemmas.{ahead_fails, ahead_ends, fails_none}
 use Rattle.rtc_faulty.specs.FaultyMedia.{faulty_media}
+use Rattle.rtc_faulty.specs.FaultyMediaActs.{media_loan_inside, media_stir_inside, media_act_inside}
 
 -- what is held: events e, datagrams d and faults to come f, before and after
 fewer_held : (e d f e' d' f' : ℕ) → f' ≡ f → e' + d' < e + d → e' + f' + d' < e + f + d
@@ -91,83 +90,10 @@ module _ {M E X T W : Type 0} (m : MediaMeaning M E X T W) (w : MediaLaws m) whe
   uses_inside : (p q : Faulty M) (ssrc : Ssrc) (rtx : Option Ssrc) → UsesStream m p.inner ssrc rtx q.inner → UsesStream Whole p ssrc rtx q
   uses_inside p q ssrc rtx s = record { lines = s.lines; own = s.own; retransmissions = s.retransmissions; others = s.others }
 
-  -- a call failed before the part inside
-  abbrev FailedMedia : Faulty M → Faulty M → Type 0
-  FailedMedia p q = (q.inner ≡ p.inner) × (q.numbers.faults ≡ one_fault_more p.numbers.faults)
-
-  -- an act failed before the part inside, or is one of it that changes what is prepared if this one does
-  abbrev ActInside : (p : Faulty M) (act : MediaAct) (q : Faulty M) → MediaActed Whole p act q → Type 0
-  ActInside p act q h = FailedMedia p q ⊎ ((k : MediaActed m p.inner act q.inner)
-      × ((changes_pending m p.inner q.inner act k ≡ changes_pending Whole p q act h) × (q.numbers.faults ≡ p.numbers.faults)))
-
-  abbrev LendsInside : (p q : Faulty M) → Type 0
-  LendsInside p q = LendsMedia m p.inner q.inner × (q.numbers.faults ≡ p.numbers.faults)
-
-  lends_inside : (p q : Faulty M) → LendsMedia Whole p q → LendsInside p q
-  lends_inside p q (WriterLent mid lent left h) = (WriterLent mid lent left h.0, reaches-faults p q h.1)
-  lends_inside p q (RxExpected ssrc rtx mid rid lent left h) = (RxExpected ssrc rtx mid rid lent left h.0, reaches-faults p q h.1)
-  lends_inside p q (TxDeclared ssrc rtx mid rid lent left h) = (TxDeclared ssrc rtx mid rid lent left h.0, reaches-faults p q h.1)
-  lends_inside p q (RxLent ssrc lent left h) = (RxLent ssrc lent left h.0, reaches-faults p q h.1)
-  lends_inside p q (TxLent ssrc lent left h) = (TxLent ssrc lent left h.0, reaches-faults p q h.1)
-  lends_inside p q (RxNamedLent mid rid lent left h) = (RxNamedLent mid rid lent left h.0, reaches-faults p q h.1)
-  lends_inside p q (TxNamedLent mid rid lent left h) = (TxNamedLent mid rid lent left h.0, reaches-faults p q h.1)
-  lends_inside p q (TxReset mid rid ssrc rtx lent left h) = (TxReset mid rid ssrc rtx lent left h.0, reaches-faults p q h.1)
-
-  abbrev StirsInside : (p q : Faulty M) → StirsMedia Whole p q → Type 0
-  StirsInside p q h = FailedMedia p q ⊎ ((k : StirsMedia m p.inner q.inner)
-      × ((is_preparing m p.inner q.inner k ≡ is_preparing Whole p q h) × (q.numbers.faults ≡ p.numbers.faults)))
-
-  fallible_inside : (p q : Faulty M) (now : ℕ) (r : Result (Option E) MediaError) (h : Whole.told_fallible p now r q)
-      → StirsInside p q (FallibleTold now r h)
-  fallible_inside p q now r h =
-      elim (failed_or_reached Rtp (λ _. false) (λ i a j. m.told_fallible i now a j) (is_failing p.numbers) p q r h) [
-        | inl f ↦ inl (f.inner, f.faults)
-        | inr k ↦ inr (FallibleTold now r k.did, (refl, k.faults))
-      ]
-
-  stirs_inside : (p q : Faulty M) (h : StirsMedia Whole p q) → StirsInside p q h
-  stirs_inside p q (Configured settings h) = inr (Configured settings h.0, (refl, reaches-faults p q h.1))
-  stirs_inside p q (Prepared updates (Ok x) h) = inr (Prepared updates (Ok x) h.0, (refl, reaches-faults p q h.1))
-  stirs_inside p q (Prepared updates (Err e) h) = inr (Prepared updates (Err e) h.0, (refl, reaches-faults p q h.1))
-  stirs_inside p q (Keyed key profile active r h) = inr (Keyed key profile active r h.0, (refl, reaches-faults p q h.1))
-  stirs_inside p q (EventTold e h) = inr (EventTold e h.0, (refl, reaches-faults p q h.1))
-  stirs_inside p q (FallibleTold now r h) = fallible_inside p q now r h
-  stirs_inside p q (FeedbackCleared h) = inr (FeedbackCleared h.0, (refl, reaches-faults p q h.1))
-  stirs_inside p q (StatsVisited now s r t h) = inr (StatsVisited now s r t h.0, (refl, reaches-faults p q h.1))
-  stirs_inside p q (RedSet mid on b h) = inr (RedSet mid on b h.0, (refl, reaches-faults p q h.1))
-  stirs_inside p q (TwccEnabled h) = inr (TwccEnabled h.0, (refl, reaches-faults p q h.1))
-  stirs_inside p q (AppFed sender media payload r h) = inr (AppFed sender media payload r h.0, (refl, reaches-faults p q h.1))
-  stirs_inside p q (PliFed sender media r h) = inr (PliFed sender media r h.0, (refl, reaches-faults p q h.1))
-  stirs_inside p q (RxRemoved ssrc b h) = inr (RxRemoved ssrc b h.0, (refl, reaches-faults p q h.1))
-  stirs_inside p q (TxRemoved ssrc b h) = inr (TxRemoved ssrc b h.0, (refl, reaches-faults p q h.1))
-
-  timed_inside : (p q : Faulty M) (now : ℕ) (h : MediaActed Whole p (MediaStirred (Timed now)) q) → ActInside p (MediaStirred (Timed now)) q h
-  timed_inside p q now h = elim (failed_or_reached Rtp (λ _. true) (λ i a j. m.timed i now a j) (is_failing p.numbers) p q h.0 h.1) [
-    | inl f ↦ inl (f.inner, f.faults)
-    | inr k ↦ inr ((h.0, k.did), (refl, k.faults))
-  ]
-
-  stirred_inside : (p q : Faulty M) (h : StirsMedia Whole p q) → ActInside p (MediaStirred Other) q (inr (inr h))
-  stirred_inside p q h = elim (stirs_inside p q h) [
-    | inl f ↦ inl f
-    | inr k ↦ inr (inr (inr k.0), (k.1.0, k.1.1))
-  ]
-
-  act_inside : (p q : Faulty M) (act : MediaAct) (h : MediaActed Whole p act q) → ActInside p act q h
-  act_inside p q (MediaGiven packet) (now, (r, inl h)) = inr ((now, (r, inl h.0)), (refl, reaches-faults p q h.1))
-  act_inside p q (MediaGiven packet) (now, (r, inr h)) = inr ((now, (r, inr h.0)), (refl, reaches-faults p q h.1))
-  act_inside p q (MediaTaken datagram) (now, h) = inr ((now, h.0), (refl, reaches-faults p q h.1))
-  act_inside p q (MediaStirred (Timed now)) h = timed_inside p q now h
-  act_inside p q (MediaStirred Shut) (r, h) = inr ((r, h.0), (refl, reaches-faults p q h.1))
-  act_inside p q (MediaStirred Other) (inl (Committed h)) = inr (inl (Committed h.0), (refl, reaches-faults p q h.1))
-  act_inside p q (MediaStirred Other) (inl (LineRemoved mid h)) = inr (inl (LineRemoved mid h.0), (refl, reaches-faults p q h.1))
-  act_inside p q (MediaStirred Other) (inr (inl h)) = let k = lends_inside p q h in inr (inr (inl k.0), (refl, k.1))
-  act_inside p q (MediaStirred Other) (inr (inr h)) = stirred_inside p q h
-
   -- what keeps lines keeps those of the part inside
   kept_by_act : (p q : Faulty M) (mid : List ℕ) (act : MediaAct) (h : MediaActed Whole p act q)
       → (MediaActed m p.inner act q.inner → KeepsLines m p.inner q.inner) → m.line q.inner mid ≡ m.line p.inner mid
-  kept_by_act p q mid act h keeps = elim (act_inside p q act h) [
+  kept_by_act p q mid act h keeps = elim (media_act_inside m p q act h) [
     | inl f ↦ ap (λ (i : M). m.line i mid) f.0
     | inr k ↦ w.lines_stay p.inner q.inner mid (keeps k.0)
   ]
@@ -177,28 +103,30 @@ module _ {M E X T W : Type 0} (m : MediaMeaning M E X T W) (w : MediaLaws m) whe
   lines_kept p q mid (ByTaken datagram h) = kept_by_act p q mid (MediaTaken datagram) h (λ k. ByTaken datagram k)
   lines_kept p q mid (ByTime now h) = kept_by_act p q mid (MediaStirred (Timed now)) h (λ k. ByTime now k)
   lines_kept p q mid (ByShut h) = kept_by_act p q mid (MediaStirred Shut) h (λ k. ByShut k)
-  lines_kept p q mid (ByLoan h) = w.lines_stay p.inner q.inner mid (ByLoan (lends_inside p q h).0)
-  lines_kept p q mid (ByOther h) = elim (stirs_inside p q h) [
+  lines_kept p q mid (ByLoan h) = w.lines_stay p.inner q.inner mid (ByLoan (media_loan_inside m p q h).0)
+  lines_kept p q mid (ByOther h) = elim (media_stir_inside m p q h) [
     | inl f ↦ ap (λ (i : M). m.line i mid) f.0
     | inr k ↦ w.lines_stay p.inner q.inner mid (ByOther k.0)
   ]
 
   pending_kept : (p q : Faulty M) (act : MediaAct) (h : MediaActed Whole p act q) → changes_pending Whole p q act h ≡ false
       → m.pending q.inner ≡ m.pending p.inner
-  pending_kept p q act h e = elim (act_inside p q act h) [
+  pending_kept p q act h e = elim (media_act_inside m p q act h) [
     | inl f ↦ ap m.pending f.0
     | inr k ↦ w.pending_stays p.inner q.inner act k.0 (k.1.0 ∙ e)
   ]
 
   -- faults
   never_falls : (p q : Faulty M) (act : MediaAct) → MediaActed Whole p act q → Whole.faults p ≤ Whole.faults q
-  never_falls p q act h = elim (act_inside p q act h) [
+  never_falls p q act h = elim (media_act_inside m p q act h) [
     | inl f ↦ later_outside (m.faults p.inner) (m.faults q.inner) p.numbers.faults q.numbers.faults (ap m.faults f.0) f.1
-    | inr k ↦ later_inside (m.faults p.inner) (m.faults q.inner) p.numbers.faults q.numbers.faults k.1.1 (w.faults_rise p.inner q.inner act k.0)
+    | inr k ↦ later_inside (m.faults p.inner) (m.faults q.inner) p.numbers.faults q.numbers.faults k.1.1
+        (w.faults_rise p.inner q.inner act k.0)
   ]
 
-  rose : {A : Type 0} (uses : Result A MediaError → Bool) (R : M → Result A MediaError → M → Type 0) (p q : Faulty M) (r : Result A MediaError)
-      → (R p.inner r q.inner → Rose (m.faults p.inner) (m.faults q.inner)) → Numbered (is_failing p.numbers) Rtp uses R p r q
+  rose : {A : Type 0} (uses : Result A MediaError → Bool) (R : M → Result A MediaError → M
+      → Type 0) (p q : Faulty M) (r : Result A MediaError)
+      → (R p.inner r q.inner → Rose (m.faults p.inner) (m.faults q.inner)) → CanFail (is_failing p.numbers) Rtp uses R p r q
       → Rose (Whole.faults p) (Whole.faults q)
   rose uses R p q r law h = elim (failed_or_reached Rtp uses R (is_failing p.numbers) p q r h) [
     | inl f ↦ rose_outside (m.faults p.inner) (m.faults q.inner) p.numbers.faults q.numbers.faults (ap m.faults f.inner) f.faults
@@ -230,7 +158,7 @@ module _ {M E X T W : Type 0} (m : MediaMeaning M E X T W) (w : MediaLaws m) whe
 
   -- polls of events whose making may fail
   abbrev Fallible : Bool → ℕ → Faulty M → Result (Option E) MediaError → Faulty M → Type 0
-  Fallible b now p r q = Numbered b Rtp (λ _. false) (λ i a j. m.told_fallible i now a j) p r q
+  Fallible b now p r q = CanFail b Rtp (λ _. false) (λ i a j. m.told_fallible i now a j) p r q
 
   told_none : (b : Bool) (p q : Faulty M) (now : ℕ) → Fallible b now p (Ok None) q → q ≡ p
   told_none true p q now h = absurd (never_fault None Rtp h.0)
@@ -241,7 +169,8 @@ module _ {M E X T W : Type 0} (m : MediaMeaning M E X T W) (w : MediaLaws m) whe
   told_quiet true p q now r e none h = absurd (let x : true ≡ false = e in cc)
   told_quiet false p q now r e none h = w.quiet_fallible p.inner q.inner now r none h.0
 
-  told_silent : (b : Bool) (p q o : Faulty M) (now : ℕ) → is_failing p.numbers ≡ b → m.told p.inner None q.inner → Fallible b now p (Ok None) o
+  told_silent : (b : Bool) (p q o : Faulty M) (now : ℕ) → is_failing p.numbers ≡ b → m.told p.inner None q.inner
+      → Fallible b now p (Ok None) o
       → m.held_events p.inner + faults_ahead p.numbers ≡ 0
   told_silent true p q o now e h k = absurd (never_fault None Rtp k.0)
   told_silent false p q o now e h k =
@@ -255,7 +184,8 @@ module _ {M E X T W : Type 0} (m : MediaMeaning M E X T W) (w : MediaLaws m) whe
       → held_media Whole q < held_media Whole p
   fault_falls true p q now e due n h =
       let inner : q.inner ≡ p.inner = ap (λ (c : Faulty M). c.inner) h.1 in
-      fault_held (m.held_events p.inner) (m.held_datagrams p.inner) (faults_ahead p.numbers) (m.held_events q.inner) (m.held_datagrams q.inner)
+      fault_held (m.held_events p.inner) (m.held_datagrams p.inner) (faults_ahead p.numbers)
+      (m.held_events q.inner) (m.held_datagrams q.inner)
       (faults_ahead q.numbers) (ahead_fails p.numbers due ∙ ap (λ (c : Faulty M). suc (faults_ahead c.numbers)) (sym h.1))
       (ap m.held_events inner) (ap m.held_datagrams inner)
   fault_falls false p q now e due n h = falls_held p q h.1 (w.fault_falls p.inner q.inner now e n h.0)

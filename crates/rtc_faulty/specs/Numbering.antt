@@ -18,12 +18,12 @@ used_before (Some next) = next
 used_before None = 2 ^ 64
 
 -- a number is listed
-abbrev pub is_listed : ℕ → List ℕ → Bool
-is_listed number failing = list_any (λ other. other == number) failing
+abbrev pub lists_number : ℕ → List ℕ → Bool
+lists_number number failing = list_any (λ other. other == number) failing
 
 -- whether the next call with a number fails
 abbrev pub is_failing : Numbering → Bool
-is_failing n = nat_le n.used (2 ^ 64 - 1) && is_listed n.used n.failing
+is_failing n = nat_le n.used (2 ^ 64 - 1) && lists_number n.used n.failing
 
 -- a number was used
 abbrev pub number_used : Numbering → Numbering
@@ -40,7 +40,7 @@ call_failed n = record (number_used n) { faults = one_fault_more n.faults }
 -- how many numbers in a row are listed, from one on with which so many are left
 unfoldable pub row_of_listed : (left number : ℕ) → List ℕ → ℕ
 row_of_listed zero number failing = 0
-row_of_listed (suc left) number failing = if is_listed number failing then suc (row_of_listed left (number + 1) failing) else 0
+row_of_listed (suc left) number failing = if lists_number number failing then suc (row_of_listed left (number + 1) failing) else 0
 
 -- how many calls with a number fail before one that does not
 abbrev pub faults_ahead : Numbering → ℕ
