@@ -1,1 +1,2 @@
 mod NumberingFacts
+mod LoanLemmas
