@@ -39,7 +39,7 @@ def build(name):
         trying = subprocess.Popen(words, stdin=subprocess.DEVNULL, stdout=log, stderr=log, **where)
         while trying.poll() is None:
             keep(scratch, program(name))
-            time.sleep(0.002)
+            time.sleep(0.01)
     return os.path.isfile(program(name))
 
 
