@@ -34,6 +34,9 @@ def families():
 def reached(listed):
     below = {}
     for name, others in listed.items():
+        above = [other for other in others if other not in below]
+        if above:
+            sys.exit(f"crates.txt has {name} before {above[0]}, on which it stands")
         below[name] = set(others).union(*(below[other] for other in others))
     return below
 
