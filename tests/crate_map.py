@@ -8,6 +8,7 @@ usage: tests/crate_map.py [--check]     with --check nothing is written, and the
 import os
 import re
 import sys
+from itertools import zip_longest
 
 TOP = os.path.dirname(os.path.dirname(os.path.abspath(__file__)))
 OUT = os.path.join(TOP, "docs", "ARCHITECTURE.md")
@@ -90,12 +91,10 @@ def entries(text):
 def faults(found, text):
     told = list(entries(text))
     names, wanted = [name for name, _ in told], expected(found)
-    for place, (name, due) in enumerate(zip(names + [None] * len(wanted), wanted)):
-        if name != due:
-            yield f"entry {place + 1} of its tables is {name} and not {due}"
-            return
-    if len(names) > len(wanted):
-        yield f"its tables have {names[len(wanted)]}, which crates.txt has not"
+    differs = [place for place, pair in enumerate(zip_longest(names, wanted)) if len(set(pair)) > 1]
+    if differs:
+        name, due = (dict(enumerate(those)).get(differs[0], "missing") for those in (names, wanted))
+        yield f"entry {differs[0] + 1} of its tables is {name}; by crates.txt it is {due}"
     for name, words in told:
         if len(words.split()) > WORDS:
             yield f"the row of {name} has more than {WORDS} words"
