@@ -1,5 +1,5 @@
 //! What a peer is built from.
-ghost use Rattle.std.specs.Prelude.{◌≡◌, IfOk, None, true};
+ghost use Rattle.std.specs.Prelude.{◌≡◌, IfOk, None, true, false};
 ghost use Rattle.rtc_peer_core.specs.Built.{AreFresh, Builds};
 ghost use Rattle.rtc_config.specs.RtcConfig.{default_config};
 ghost use Rattle.rtc_peer_core.specs.Formats.{formats_of, AreFormedFormats};
@@ -39,7 +39,7 @@ impl<
         requires fresh { AreFresh (meanings I.ice D.dtls S.association M.media N.ids) ice dtls association media }
         ensures built { IfOk result (λ rtc. Builds (meanings I.ice D.dtls S.association M.media N.ids)
             alloc default_config start ice dtls association media ids rtc.core) }
-        ensures unconnected { IfOk result (λ rtc. rtc.transport ≡ no_transport true None) }
+        ensures unconnected { IfOk result (λ rtc. rtc.transport ≡ no_transport true false None) }
         ensures formed { IfOk result (λ rtc. IsFormed (stance_of (meanings I.ice D.dtls S.association M.media N.ids) rtc.core)) }
     {
         let config = RtcConfig::new(alloc)?;

@@ -87,12 +87,13 @@ impl<
         ensures built { IfOk result (λ rtc. Builds (meanings I.ice D.dtls S.association M.media N.ids)
             alloc config start ice dtls association media ids rtc.core) }
         ensures unconnected { IfOk result (λ rtc. rtc.transport
-            ≡ no_transport config.dtls.fingerprint_verification config.stats_interval) }
+            ≡ no_transport config.dtls.fingerprint_verification config.media.rtp_mode config.stats_interval) }
         ensures formed { IfOk result (λ rtc. IfSome config.ice.credentials AreSdpCreds → AreFormedFormats (formats_of config)
             → IsFormed (stance_of (meanings I.ice D.dtls S.association M.media N.ids) rtc.core)) }
     {
         let verifies = config.fingerprint_verification();
-        let transport = Transport::new(alloc, verifies, config.stats_interval())?;
+        let rtp_mode = config.rtp_mode();
+        let transport = Transport::new(alloc, verifies, rtp_mode, config.stats_interval())?;
         let core = build_peer(alloc, config, start, ice, dtls, association, media, ids)?;
         let _session = core.session_id;
         let _most = core.sctp.local_max_message_size();

@@ -1,5 +1,5 @@
 -- The pair that scripts are performed on.
-use Rattle.std.specs.Prelude.{◌≡◌, ◌+◌, ◌%◌, ◌^◌, ℕ, true, List, [], ◌∷◌, Some, Ok, codes}
+use Rattle.std.specs.Prelude.{◌≡◌, ◌+◌, ◌%◌, ◌^◌, ℕ, true, false, List, [], ◌∷◌, Some, Ok, codes}
 use Rattle.std.specs.declared.alloc.Global.{Global}
 use Rattle.rtc_wire.specs.declared.addr.Addr.{Addr}
 use Rattle.rtc_wire.specs.declared.protocol.Protocol.TheVariants.{Udp}
@@ -82,8 +82,8 @@ right_address = record { ip = 2 ∷ 2 ∷ 2 ∷ 2 ∷ []; port = 2000 }
 pub record IsProgramPair (alloc : Global) (left_settings right_settings : PeerSettings) (pair : PlainPairState) : Type 0 where
   pub left : IsProgramPeer alloc left_settings (codes "abc") 1 left_address pair.left.core
   pub right : IsProgramPeer alloc right_settings (codes "def") 1000001 right_address pair.right.core
-  pub left_transport : pair.left.transport ≡ no_transport true left_settings.stats_interval
-  pub right_transport : pair.right.transport ≡ no_transport true right_settings.stats_interval
+  pub left_transport : pair.left.transport ≡ no_transport true false left_settings.stats_interval
+  pub right_transport : pair.right.transport ≡ no_transport true false right_settings.stats_interval
   pub left_addr : pair.left_addr ≡ left_address
   pub right_addr : pair.right_addr ≡ right_address
   pub sdps : pair.sdps ≡ []

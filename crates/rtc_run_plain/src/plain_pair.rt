@@ -1,5 +1,5 @@
 //! The pair that scripts are performed on.
-ghost use Rattle.std.specs.Prelude.{◌≡◌, ◌≤◌, [], true, IfOk, OnOk, Ok, None, length};
+ghost use Rattle.std.specs.Prelude.{◌≡◌, ◌≤◌, [], true, false, IfOk, OnOk, Ok, None, length};
 ghost use Rattle.rtc_plain_ice.specs.Contents.{fresh_ice};
 ghost use Rattle.rtc_plain_ice.specs.PlainMeaning.{plain_ice};
 ghost use Rattle.rtc_plain_dtls.specs.Contents.{fresh_dtls};
@@ -50,7 +50,7 @@ fn make_config(alloc: Global, settings: PeerSettings, name: &str) -> Result<RtcC
 fn build_peer(alloc: Global, config: RtcConfig, first: u64) -> Result<PlainPeer, AllocError>
     ensures built { IfOk result (λ rtc. Builds plain_parts alloc config 0 fresh_ice fresh_dtls fresh_contents fresh_media first rtc.core) }
     ensures unconnected { IfOk result (λ rtc. rtc.transport
-        ≡ no_transport config.dtls.fingerprint_verification config.stats_interval) }
+        ≡ no_transport config.dtls.fingerprint_verification config.media.rtp_mode config.stats_interval) }
     ensures formed { IfOk result (λ rtc. config.ice.credentials ≡ None → AreFormedFormats (formats_of config)
         → IsFormed (stance_of plain_parts rtc.core)) }
 {
@@ -88,7 +88,7 @@ fn make_peer(
 ) -> Result<PlainPeer, AllocError>
     requires { length name.now ≤ 1900 }
     ensures peer { IfOk result (λ rtc. IsProgramPeer alloc settings name.now first addr rtc.core) }
-    ensures unconnected { IfOk result (λ rtc. rtc.transport ≡ no_transport true settings.stats_interval) }
+    ensures unconnected { IfOk result (λ rtc. rtc.transport ≡ no_transport true false settings.stats_interval) }
     ensures fresh { IfOk result (λ rtc. IsJustBuilt (stance_of plain_parts rtc.core)) }
     ensures unused { IfOk result (λ rtc. rtc.core.sctp.entries ≡ []) }
     ensures formed { IfOk result (λ rtc. IsHostCandidate (host_at addr) → IsFormed (stance_of plain_parts rtc.core)) }

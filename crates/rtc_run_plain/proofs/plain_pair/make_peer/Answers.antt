@@ -26,4 +26,4 @@ pub returns-clause-unconnected : goal.returns-clause-unconnected
 returns-clause-unconnected c =
     c.in_ok-add_address.ensures.connection
     ∙ c.in_ok-rtc.ensures.unconnected
-    ∙ ap (λ (config : PeerConfig). no_transport config.dtls.fingerprint_verification config.stats_interval) c.in_ok-config.ensures.value
+    ∙ ap (λ (config : PeerConfig). no_transport config.dtls.fingerprint_verification config.media.rtp_mode config.stats_interval) c.in_ok-config.ensures.value
