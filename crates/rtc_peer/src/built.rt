@@ -19,6 +19,16 @@ use rtc_part_media::MediaSession;
 use rtc_wire::Moment;
 use std::alloc::{AllocError, Global};
 
+// The default config, whose codecs and header extensions are formed.
+#[tactic(auto, using(rtc_peer_core::proofs::BuiltPeers::formats_formed))]
+fn make_default(alloc: Global) -> Result<RtcConfig, AllocError>
+    ensures value { IfOk result (λ config. config ≡ default_config) }
+    ensures formed { IfOk result (λ config. AreFormedFormats (formats_of config)) }
+{
+    let config = RtcConfig::new(alloc)?;
+    Ok(config)
+}
+
 impl<
     I: IceAgent + Drop,
     D: DtlsInstance + Drop,
@@ -42,7 +52,7 @@ impl<
         ensures unconnected { IfOk result (λ rtc. rtc.transport ≡ no_transport true false None) }
         ensures formed { IfOk result (λ rtc. IsFormed (stance_of (meanings I.ice D.dtls S.association M.media N.ids) rtc.core)) }
     {
-        let config = RtcConfig::new(alloc)?;
+        let config = make_default(alloc)?;
         Rtc::build(alloc, config, start, ice, dtls, association, media, ids)
     }
 }
@@ -53,8 +63,7 @@ impl<I: IceAgent, D: DtlsInstance, S: Association, M: MediaSession, N: Ids> Rtc<
         ensures value { IfOk result (λ config. config ≡ default_config) }
         ensures formed { IfOk result (λ config. AreFormedFormats (formats_of config)) }
     {
-        let config = RtcConfig::new(alloc)?;
-        Ok(config)
+        make_default(alloc)
     }
 
     /// The codecs of the config that it was built from. Negotiation leaves them as they are: what a line has is its own.

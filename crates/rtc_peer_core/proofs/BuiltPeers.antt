@@ -19,6 +19,7 @@ use Rattle.rtc_peer_core.specs.Built.{AreFresh, Builds, creds_or, session_drawn}
 use Rattle.rtc_peer_core.specs.Creds.{lower_hex_digit, hex_digits, drawn_creds}
 use Rattle.rtc_peer_core.specs.Meanings.{Meanings, PartsLaws}
 use Rattle.rtc_peer_core.specs.Stance.{stance_of}
+use Rattle.rtc_sdp_codecs.specs.FormedCodecs.{AreFormedRows, AreFormedExtensions}
 use Rattle.rtc_config.specs.RtcConfig.{PeerConfig}
 use Rattle.rtc_part_draws.specs.Draws.{Draws}
 use Rattle.rtc_part_media.specs.MediaActs.{ByOther, Configured}
@@ -89,6 +90,11 @@ fingerprint_by_sha256 : (cert : List ℕ) (made : Fingerprint) → certificate_f
 fingerprint_by_sha256 cert made is =
     let same : (let by : Fingerprint = record { hash_func = codes "sha-256"; bytes = sha256 cert } in by) ≡ made = cc in
     subst IsSha256 same (record { name = refl; size = length-sha256 cert; bytes = sha256_small cert })
+
+-- the codecs and header extensions of a config are formed where both are
+pub formats_formed : (config : PeerConfig) → AreFormedRows config.codecs.rows → AreFormedExtensions config.extensions.rows
+    → AreFormedFormats (formats_of config)
+formats_formed config codecs extensions = record { codecs = codecs; extensions = extensions }
 
 -- credentials that are set are words, and so are drawn ones
 creds_are_words : {N : Type 0} (draws : Draws N) (set : Option IceCreds) (ids : N) → IfSome set AreSdpCreds → AreSdpCreds (creds_or draws set ids)

@@ -28,6 +28,7 @@ pub type PlainPeer = Rtc<PlainIce, PlainDtls, PlainAssociation, PlainMedia, Coun
 /// A pair of such peers.
 pub type PlainPair = Pair<PlainIce, PlainDtls, PlainAssociation, PlainMedia, CountIds>;
 
+#[tactic(auto, using(rtc_peer_core::proofs::BuiltPeers::formats_formed))]
 fn make_config(alloc: Global, settings: PeerSettings, name: &str) -> Result<RtcConfig, AllocError>
     requires { length name.now ≤ 1900 }
     ensures value { IfOk result (λ config. config ≡ program_config settings name.now) }
