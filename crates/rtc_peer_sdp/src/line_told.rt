@@ -6,6 +6,7 @@ ghost use Rattle.rtc_peer_core.specs.MadeSdp.{
   media_of_update as MediaOfUpdate,
   media_of_added as MediaOfAdded,
   media_of_declared as MediaOfDeclared,
+  media_held as MediaHeld,
   media_told as MediaTold,
   newest as Newest,
 };
@@ -139,6 +140,23 @@ fn newest<'a>(updates: &'a [MediaUpdate], held: Option<&'a MediaUpdate>) -> Opti
     }
 }
 
+// What a line carries of which the media part has this, and which is as it was declared where it has nothing.
+fn media_held(
+    alloc: Global,
+    formats: &Formats,
+    stopped: bool,
+    kind: MediaKind,
+    mid: Mid,
+    held: Option<&MediaUpdate>,
+) -> Result<LineMedia, AllocError>
+    ensures { IfOk result (λ media. media ≡ MediaHeld (MediaOfDeclared formats.now stopped kind mid) (option_copied held.entry)) }
+{
+    match held {
+        None => media_of_declared(alloc, formats, stopped, kind, mid),
+        Some(update) => media_of_update(alloc, update),
+    }
+}
+
 /// What is told of the line of a row: of media what the first of these updates says, or else what the media part has of its line. One of
 /// which it has nothing was declared.
 pub fn media_told<M: MediaSession>(
@@ -158,10 +176,8 @@ pub fn media_told<M: MediaSession>(
             ..
         } => {
             let held = media.line(*mid);
-            match newest(updates, held) {
-                Some(update) => media_of_update(alloc, update),
-                None => media_of_declared(alloc, formats, *stopped, *kind, *mid),
-            }
+            let last = newest(updates, held);
+            media_held(alloc, formats, *stopped, *kind, *mid, last)
         }
         LineRow::App { .. } => Ok(no_media(alloc)),
     }
