@@ -1,5 +1,5 @@
 #!/usr/bin/env python3
-"""Writes `stdin` and `stdout` of the programs that the gate runs over stored examples, those of crates/rtc_*_examples that have
+"""Writes `stdin` and `stdout` of the programs that the gate runs over stored examples, those of crates/rtc_examples_* that have
 `data/calls`. `stdin` names each example of the crate's `data/`: the lines of each file `calls`, and the offers, each beside its
 answer. `stdout` has each of these lines behind `agrees`. With --check nothing is written, and what is not current is refused, as are
 an offer without an answer and a call that `data/calls` leaves out.
@@ -47,7 +47,7 @@ def main():
     if sys.argv[1:] and not check:
         sys.exit(__doc__)
     wrong = []
-    for calls in sorted(glob.glob(os.path.join(TOP, "crates", "rtc_*_examples", "data", "calls"))):
+    for calls in sorted(glob.glob(os.path.join(TOP, "crates", "rtc_examples_*", "data", "calls"))):
         crate = os.path.dirname(os.path.dirname(calls))
         name = os.path.basename(crate)
         lines, found = examples(crate)

@@ -1,6 +1,6 @@
 //! One end of an association in memory, by steps that are tables of examples.
 use rtc_assoc_end::PlainAssociation;
-use rtc_cases::{is_ok, is_refused};
+use rtc_examples_cases::{is_ok, is_refused};
 use rtc_part_association::{AssocError, AssocEvent, Association, Ppi};
 use rtc_wire::{Bytes, Moment, ReliabilityType};
 use std::alloc::Global;

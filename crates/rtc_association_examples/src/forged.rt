@@ -1,6 +1,6 @@
 //! Packets that are none, and packets that somebody else made.
 use crate::ends::{Call, Step, fresh, is_played, make};
-use rtc_cases::is_ok;
+use rtc_examples_cases::is_ok;
 use rtc_part_association::{AssocEvent, Association};
 use std::alloc::Global;
 

@@ -2,7 +2,7 @@
 use rtc_assoc_packets::{
     Header, Item, ItemPart, Outgoing, Packet, content_of, cut_message, packets_of,
 };
-use rtc_cases::{every, is_true};
+use rtc_examples_cases::{every, is_true};
 use std::alloc::{AllocError, Global};
 use std::collections::VecDeque;
 

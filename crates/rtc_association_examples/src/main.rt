@@ -14,7 +14,7 @@ mod pieces;
 mod scripts;
 mod starts;
 
-use rtc_cases::{Examples, run};
+use rtc_examples_cases::{Examples, run};
 use std::io;
 use std::process::ExitCode;
 use std::rt::Files;

@@ -1,7 +1,7 @@
 //! Messages between two associations in memory.
 use crate::scripts::{Do, L, R, Says, add_steps, replies_to};
 use rtc_assoc::{AssocReply, AssocStep};
-use rtc_cases::{every, is_true};
+use rtc_examples_cases::{every, is_true};
 use rtc_part_association::Ppi;
 use rtc_wire::{Bytes, Moment};
 use std::alloc::{AllocError, Global};

@@ -1,6 +1,6 @@
 //! Scripts of two ends, each step with the reply that the rules of the association give by hand.
 use rtc_assoc::{AssocReply, AssocStep, PlainAssociation, run_assoc};
-use rtc_cases::{is_list, is_true};
+use rtc_examples_cases::{is_list, is_true};
 use rtc_part_association::{AssocError, AssocEvent, Ppi};
 use rtc_wire::{Bytes, Moment};
 use std::alloc::{AllocError, Global};

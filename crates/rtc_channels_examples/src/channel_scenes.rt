@@ -1,7 +1,7 @@
 //! Streams that channels are given, hold and let go.
 use crate::channels::{ChannelCall, Channels};
 use crate::notes::Notes;
-use rtc_cases::is_refused;
+use rtc_examples_cases::is_refused;
 use rtc_channels::ChannelError;
 use rtc_wire::{ChannelConfig, ChannelId, Text};
 use std::alloc::{AllocError, Global};

@@ -1,5 +1,5 @@
 //! What examples ask of the channels of one side.
-use rtc_cases::is_ok;
+use rtc_examples_cases::is_ok;
 use rtc_channels::{ChannelError, ChannelHandler};
 use rtc_part_association::Association;
 use rtc_ready::Readiness;

@@ -1,5 +1,5 @@
 //! What is noted of the streams and channels of peers.
-use rtc_cases::is_ok;
+use rtc_examples_cases::is_ok;
 use std::alloc::Global;
 
 /// What was noted, a line for each thing, and whether something failed that was to succeed, as want of memory.

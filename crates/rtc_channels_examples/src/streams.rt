@@ -1,5 +1,5 @@
 //! What examples ask of the streams of a peer.
-use rtc_cases::is_ok;
+use rtc_examples_cases::is_ok;
 use rtc_part_association::Association;
 use rtc_ready::Readiness;
 use rtc_sctp::{RtcSctp, SctpEvent};

@@ -1,6 +1,6 @@
 //! Peers that are driven without session descriptions.
 use crate::{AskDirect, AskStreams, Direct};
-use rtc_cases::{is_ok, is_true};
+use rtc_examples_cases::{is_ok, is_true};
 use rtc_peer::{Association, DtlsInstance, IceAgent, IceCreds, Ids, MediaSession, Rtc, Ssrc};
 use rtc_plain::PlainMark;
 use std::alloc::AllocError;

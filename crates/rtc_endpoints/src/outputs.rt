@@ -1,6 +1,6 @@
 //! What a peer gave.
 use crate::Fault;
-use rtc_cases::is_ok;
+use rtc_examples_cases::is_ok;
 use rtc_peer::{ChannelData, Event, Output, RtcError, Why};
 use rtc_plain::PlainMediaEvent;
 use rtc_wire::{Bytes, Transmit};

@@ -1,6 +1,6 @@
 //! Inputs and outputs of peers over any parts.
 use crate::{Ask, Outputs, Polled, host};
-use rtc_cases::is_true;
+use rtc_examples_cases::is_true;
 use rtc_peer::{Association, DtlsInstance, IceAgent, Ids, Input, MediaSession, Rtc, RtcError};
 use rtc_plain::PlainMediaEvent;
 use rtc_wire::{ChannelId, Moment, Protocol, Receive, Transmit};

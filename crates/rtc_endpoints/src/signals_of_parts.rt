@@ -2,7 +2,7 @@
 use crate::layers::simulcast;
 use crate::texts::write_offer;
 use crate::{Layers, Reply, Signals, Texts, candidate};
-use rtc_cases::{is_ok, is_true};
+use rtc_examples_cases::{is_ok, is_true};
 use rtc_peer::{
     Association, Direction, DtlsInstance, IceAgent, Ids, MediaKind, MediaSession, Rtc, RtcError,
     SdpOffer, SdpPendingOffer,

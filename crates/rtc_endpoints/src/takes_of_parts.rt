@@ -1,6 +1,6 @@
 //! What peers over any parts are given to keep.
 use crate::{Given, Takes};
-use rtc_cases::{gives, is_ok};
+use rtc_examples_cases::{gives, is_ok};
 use rtc_peer::{Association, DtlsInstance, IceAgent, Ids, MediaSession, Rtc};
 use rtc_wire::ChannelId;
 use rtc_wire_drops::release;

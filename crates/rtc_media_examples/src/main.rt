@@ -10,7 +10,7 @@ mod media;
 mod reports;
 mod sessions;
 
-use rtc_cases::{Examples, run};
+use rtc_examples_cases::{Examples, run};
 use std::io;
 use std::process::ExitCode;
 use std::rt::Files;

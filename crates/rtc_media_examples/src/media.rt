@@ -1,7 +1,7 @@
 //! The calls of the media part in memory, with the bytes and events that its rules state.
 use crate::sessions::{Part, commit, counts, is_silent, sends, settings, shows, tells};
 use crate::{exchanges, lookups, marks, reports};
-use rtc_cases::is_true;
+use rtc_examples_cases::is_true;
 use rtc_part_media::{MediaError, RawPacket, SrtpProfile, StatsSnapshot};
 use rtc_plain_media::{PlainMedia, PlainMediaEvent};
 use rtc_sdp_values::{Direction, MediaKind, Mid, Ssrc};

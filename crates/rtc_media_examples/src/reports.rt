@@ -1,7 +1,7 @@
 //! Printed faults of media, reports put together, and raw packets copied.
 ghost use Rattle.std.specs.Prelude.{◌≡◌, None};
 
-use rtc_cases::{is_copied, prints};
+use rtc_examples_cases::{is_copied, prints};
 use rtc_part_media::{MediaError, MediaIngressStats, RawPacket, RemoteEgressStats};
 use rtc_sdp_values::{Mid, Pt};
 use rtc_wire::{Bytes, Moment, Span};

@@ -1,5 +1,5 @@
 //! Two ICE agents in memory, by steps that are tables of examples.
-use rtc_cases::{gives, is_ok};
+use rtc_examples_cases::{gives, is_ok};
 use rtc_part_ice::{IceAgent, IceEvent};
 use rtc_plain_ice::PlainIce;
 use rtc_sdp_values::{Candidate, IceCreds};

@@ -1,5 +1,5 @@
 //! Two DTLS connections over plain parts, by steps that are tables of examples.
-use rtc_cases::{is_ok, is_refused, is_true};
+use rtc_examples_cases::{is_ok, is_refused, is_true};
 use rtc_part_dtls::{Dtls, DtlsError, DtlsInstance, DtlsOutput, SrtpProfile};
 use rtc_plain_dtls::PlainDtls;
 use rtc_wire::Moment;

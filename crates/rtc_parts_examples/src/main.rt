@@ -8,7 +8,7 @@ mod connections;
 mod dtls;
 mod ice;
 
-use rtc_cases::{Examples, run};
+use rtc_examples_cases::{Examples, run};
 use std::io;
 use std::process::ExitCode;
 use std::rt::Files;

@@ -1,7 +1,7 @@
 //! The examples by their names.
 use crate::giving::takes;
 use crate::{announced, changes, channels, connected, copies, halves, lines, parts, streams};
-use rtc_cases::is_true;
+use rtc_examples_cases::is_true;
 use rtc_endpoints::{Direct, Polled, Signals, Takes};
 use rtc_peer::{Mid, RtcConfig};
 use rtc_plain_peers::PairExamples;

@@ -1,6 +1,6 @@
 //! Staged changes: channels that are taken out of them, the lines that they add, and what peers tell of them.
 use crate::copies::media;
-use rtc_cases::{is_ok, is_true};
+use rtc_examples_cases::{is_ok, is_true};
 use rtc_change::{Change, Changes, Lines, count_added};
 use rtc_endpoints::{Layers, Signals, Texts, has_lines};
 use rtc_lines::{Direction, LineRow, MediaKind, Mid};

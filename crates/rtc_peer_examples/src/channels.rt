@@ -1,5 +1,5 @@
 //! Channels that are made and closed.
-use rtc_cases::every;
+use rtc_examples_cases::every;
 use rtc_endpoints::{AskDirect, Direct, Given, Takes};
 use rtc_wire::{ChannelConfig, ChannelId};
 use std::alloc::Global;

@@ -1,5 +1,5 @@
 //! Copies of staged changes, offers and answers.
-use rtc_cases::{is_copied, is_ok, is_true};
+use rtc_examples_cases::{is_copied, is_ok, is_true};
 use rtc_change::{AddMedia, Change, Changes};
 use rtc_lines::{Direction, MediaKind, Mid, Msid, Sdp, SdpAnswer, SdpOffer, Ssrc};
 use rtc_wire::{Seq, Text};

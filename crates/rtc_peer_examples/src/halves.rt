@@ -1,6 +1,6 @@
 //! Associations that are started by the halves of both sides.
 use crate::giving::{refuses, takes};
-use rtc_cases::is_true;
+use rtc_examples_cases::is_true;
 use rtc_endpoints::{Given, Signals, Takes, Texts, has_lines};
 use rtc_peer::SctpInitData;
 use rtc_plain::CountIds;

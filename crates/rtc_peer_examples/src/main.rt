@@ -18,7 +18,7 @@ mod parts;
 mod streams;
 
 use calls::Calls;
-use rtc_cases::{Examples, is_true, run};
+use rtc_examples_cases::{Examples, is_true, run};
 use std::io;
 use std::process::ExitCode;
 use std::rt::Files;

@@ -1,7 +1,7 @@
 //! What a peer answers to offers that come as text.
 use crate::describing::describe;
 use crate::turn::Turn;
-use rtc_cases::is_text;
+use rtc_examples_cases::is_text;
 use rtc_endpoints::{Reply, Signals};
 use rtc_peer::{RtcError, SdpAnswer};
 use rtc_wire_drops::release;

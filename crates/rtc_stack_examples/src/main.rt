@@ -22,7 +22,7 @@ mod work;
 
 use configs::config_for;
 use reading::read_turns;
-use rtc_cases::{Examples, is_true, run};
+use rtc_examples_cases::{Examples, is_true, run};
 use rtc_endpoints::{Direct, Polled, Signals, Takes};
 use rtc_peer::RtcConfig;
 use rtc_plain_peers::PairExamples;

@@ -1,5 +1,5 @@
 //! What a peer offers.
-use rtc_cases::is_true;
+use rtc_examples_cases::is_true;
 use rtc_endpoints::{Layers, Signals, Texts, has_lines};
 use rtc_wire::Text;
 use std::alloc::{AllocError, Global};

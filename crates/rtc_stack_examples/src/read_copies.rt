@@ -1,6 +1,6 @@
 //! Copies of offers that were read.
 use crate::turn::Turn;
-use rtc_cases::{is_copied, is_true};
+use rtc_examples_cases::{is_copied, is_true};
 use rtc_peer::{SdpError, SdpOffer};
 use rtc_wire_drops::release;
 use std::alloc::Global;

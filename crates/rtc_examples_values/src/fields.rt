@@ -1,5 +1,5 @@
 //! Fields of text: words, lines, numbers, hex and tokens.
-use rtc_cases::{every, has_length, is_list, is_true};
+use rtc_examples_cases::{every, has_length, is_list, is_true};
 use rtc_wire_text::{
     ShortToken, cut, hex_bytes, lines, lower, number, number_up_to, parts, pieces, push_hex,
     read_decimal, same_letters, without_blanks, without_first, words,

@@ -1,7 +1,7 @@
 //! Sources and sinks: pieces, calls that fail, and the limit.
 ghost use Rattle.std.specs.Prelude.{◌<◌, ◌-◌, ◌^◌};
 
-use rtc_cases::{every, is_ok, is_true};
+use rtc_examples_cases::{every, is_ok, is_true};
 use rtc_io::{
     INPUT_LIMIT, MemSink, MemSource, ReadError, Sink, Source, StdSink, StdSource, read_all,
     read_input, refuse_input, write_all,

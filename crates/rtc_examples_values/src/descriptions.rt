@@ -1,5 +1,5 @@
 //! Values of session descriptions: layers, extensions, and hashes of certificates.
-use rtc_cases::{every, is_true};
+use rtc_examples_cases::{every, is_true};
 use rtc_sdp_values::{Extension, ExtensionMap, Fingerprint, Rid, Simulcast, SimulcastLayer};
 use rtc_wire::{Seq, TryCopy};
 use rtc_wire_text::push_hex;

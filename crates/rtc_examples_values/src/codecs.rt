@@ -1,6 +1,6 @@
 //! The codecs of a configuration, and what settings leave of them.
 use crate::config::{Config, Named, fresh, with_codecs};
-use rtc_cases::{is_list, is_true};
+use rtc_examples_cases::{is_list, is_true};
 use rtc_sdp_values::PayloadRow;
 use std::alloc::{AllocError, Global};
 

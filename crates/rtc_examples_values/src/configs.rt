@@ -1,6 +1,6 @@
 //! Configurations: their copies and their header extensions.
 use crate::config::{Config, fresh};
-use rtc_cases::{is_ok, is_true};
+use rtc_examples_cases::{is_ok, is_true};
 use rtc_sdp_values::{Extension, ExtensionMap, IceCreds};
 use rtc_wire::{Text, TryCopy};
 use std::alloc::{AllocError, Global};

@@ -1,5 +1,5 @@
 //! Records of a file by their bytes, and a receiver that gets them at right and at wrong moments.
-use rtc_cases::{every, gives, is_ok, is_refused, is_true};
+use rtc_examples_cases::{every, gives, is_ok, is_refused, is_true};
 use rtc_file_records::{FileError, FileReceiver, FileRecord};
 use rtc_wire::Text;
 use std::alloc::Global;

@@ -1,7 +1,7 @@
 //! What media lines have of the codecs and header extensions of a configuration.
 use crate::codecs::numbers;
 use crate::config::{Config, Named, fresh, with_codecs};
-use rtc_cases::{every, is_list, is_true};
+use rtc_examples_cases::{every, is_list, is_true};
 use rtc_sdp_codecs::{extensions_of_kind, match_rows, rows_of_kind, share_extensions};
 use rtc_sdp_values::{Extension, MediaKind, PayloadRow, Pt};
 use rtc_wire::Text;

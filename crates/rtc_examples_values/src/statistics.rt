@@ -1,5 +1,5 @@
 //! Rounds of statistics.
-use rtc_cases::{every, is_true};
+use rtc_examples_cases::{every, is_true};
 use rtc_config::Stats;
 use rtc_part_media::{StatsEvent, StatsSnapshot};
 use rtc_wire::{Moment, Span};

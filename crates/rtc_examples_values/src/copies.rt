@@ -1,5 +1,5 @@
 //! Copies of lists, texts, numbers and words. That a copy is equal to its value is a clause of `copy`.
-use rtc_cases::{every, is_ok, is_true};
+use rtc_examples_cases::{every, is_ok, is_true};
 use rtc_sdp_values::{CandidateKind, Direction, LineKind, LineRow, MediaKind, Mid, Pt, Rid, Setup};
 use rtc_wire::{Bytes, Reliability, ReliabilityType, Seq, Text, TryCopy, copy_all};
 use std::alloc::{AllocError, Global};

@@ -1,6 +1,6 @@
 //! Open messages of data channels (RFC 8832, section 5.1), byte by byte.
 use crate::copies::is_copied;
-use rtc_cases::{every, gives, is_true, prints};
+use rtc_examples_cases::{every, gives, is_true, prints};
 use rtc_wire::{ChannelConfig, ChannelId, DcepError, DcepOpen, Reliability, Text};
 use std::alloc::Global;
 

@@ -1,5 +1,5 @@
 //! What is printed of datagrams.
-use rtc_cases::{every, prints, shows};
+use rtc_examples_cases::{every, prints, shows};
 use rtc_wire::{DatagramRecv, IoKind, IoText, NetError, StunError, StunView};
 use std::alloc::Global;
 
