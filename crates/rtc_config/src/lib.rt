@@ -15,5 +15,6 @@ mod stats;
 
 pub use dtls_settings::DtlsSettings;
 pub use ice_settings::IceSettings;
+pub use rtc_config::RtcConfig;
 pub use sctp_settings::SctpSettings;
 pub use stats::Stats;
