@@ -8,7 +8,7 @@ use Rattle.rtc_part_association.specs.declared.ppi.Ppi.{Ppi}
 use Rattle.rtc_part_association.specs.Ppi.{ppi_number}
 use Rattle.rtc_part_values.specs.Why.{Timed, Shut, Other}
 use Rattle.rtc_part_association.specs.AssociationWords.{told}
-use Rattle.rtc_part_association.specs.AssociationActs.{AssociationAct, Started, Opened, Wrote, Ended, Given, Taken, Read, Told, Stirred, starts, Starts, Stirs, LimitsSet, ConnectRefused, AcceptRefused, SnapRefused, OpenRefused, WriteRefused, ReadRefused, EndRefused, ThresholdSet, ReliabilitySet, Acted}
+use Rattle.rtc_part_association.specs.AssociationActs.{AssociationAct, Started, Opened, Wrote, Ended, Given, Taken, Read, Told, Stirred, starts, Starts, Stirs, LimitsSet, ConnectRefused, AcceptRefused, SnapRefused, OpenRefused, WriteRefused, ReadRefused, EndRefused, ThresholdSet, ReliabilitySet, Acted, is_threshold_set, brings_threshold}
 use Rattle.rtc_part_association.specs.AssociationLaws.{AssociationLaws, Buffers}
 use Rattle.rtc_assoc_packets.specs.Packets.{frame_in}
 use Rattle.rtc_assoc_packets.specs.Pieces.{pieces_of}
@@ -57,11 +57,11 @@ courses_set : (p q : Contents) (id n : ℕ) (r : Result (Unit {0}) AssocError) �
 courses_set p q id n r h = does_leaves (Courses p) (stream_cause p id) p (thresholded id n p) q r (courses_none p) (courses_thresholded id n p) h
 
 -- every act but a start, an event and a threshold keeps; each of these is told apart
-pub data Kept (p : Contents) (act : AssociationAct) (q : Contents) : Type 0 where
-  Keeping : told (act ∷ []) ≡ [] → KeepsContents p q → Kept p act q
-  Starting : act ≡ Started → Starts plain_meaning p q → Kept p act q
-  Telling : (e : AssocEvent) (w : Popped p.events e) → act ≡ Told e → q ≡ event_given w.rest p → Kept p act q
-  Setting : (id n : ℕ) (r : Result (Unit {0}) AssocError) → told (act ∷ []) ≡ [] → Does (stream_cause p id) p (Leaves (thresholded id n p)) r q → Kept p act q
+pub data Kept (p : Contents) (act : AssociationAct) (brings : Bool) (q : Contents) : Type 0 where
+  Keeping : told (act ∷ []) ≡ [] → KeepsContents p q → Kept p act brings q
+  Starting : act ≡ Started → Starts plain_meaning p q → Kept p act brings q
+  Telling : (e : AssocEvent) (w : Popped p.events e) → act ≡ Told e → q ≡ event_given w.rest p → Kept p act brings q
+  Setting : (id n : ℕ) → told (act ∷ []) ≡ [] → brings ≡ true → Does (stream_cause p id) p (Leaves (thresholded id n p)) (Ok tt) q → Kept p act brings q
 
 keeps_same : (p q : Contents) → q ≡ p → KeepsContents p q
 keeps_same p q e = subst (KeepsContents p) (sym e) (keeps_none p)
@@ -69,7 +69,7 @@ keeps_same p q e = subst (KeepsContents p) (sym e) (keeps_none p)
 packet_keeps : (packets : List (List ℕ)) (p : Contents) → KeepsContents p (packet_given packets p)
 packet_keeps packets p = record { started = refl; max_send = refl; raises = raises_none p.streams p.events; readable = λ id g u. inl u }
 
-keeps_stirs : (p q : Contents) → Stirs plain_meaning p q → Kept p (Stirred Other) q
+keeps_stirs : (p q : Contents) (h : Stirs plain_meaning p q) → Kept p (Stirred Other) (is_threshold_set plain_meaning p q h) q
 keeps_stirs p q (LimitsSet n m h) = Keeping refl (subst (KeepsContents p) (sym h) (keeps_limited n m p))
 keeps_stirs p q (ConnectRefused now m e s h) = Keeping refl (keeps_same p q (refused_changes_nothing None p q (Leaves (connected now m p)) e h))
 keeps_stirs p q (AcceptRefused now m e s h) = Keeping refl (keeps_same p q (refused_changes_nothing None p q (Leaves (accepted now m p)) e h))
@@ -78,13 +78,14 @@ keeps_stirs p q (OpenRefused id e h) = Keeping refl (keeps_same p q (refused_cha
 keeps_stirs p q (WriteRefused id i b e h) = Keeping refl (keeps_same p q (refused_changes_nothing (write_cause p id b) p q (λ n o. (n ≡ length b) × Sends p (message_written id (ppi_number i) b p) o) e h))
 keeps_stirs p q (ReadRefused id e h) = Keeping refl (keeps_same p q (refused_changes_nothing (stream_cause p id) p q (λ m o. Reads (next_message id p) id p m o) e h))
 keeps_stirs p q (EndRefused id e h) = Keeping refl (keeps_same p q (refused_changes_nothing {T = Unit {0}} (end_cause p id) p q (λ _ o. Sends p (stream_ended p.clock.now id p) o) e h))
-keeps_stirs p q (ThresholdSet id n r h) = Setting id n r refl h
+keeps_stirs p q (ThresholdSet id n (Ok x) h) = Setting id n refl refl h
+keeps_stirs p q (ThresholdSet id n (Err e) h) = Keeping refl (keeps_same p q (refused_changes_nothing (stream_cause p id) p q (Leaves (thresholded id n p)) e h))
 keeps_stirs p q (ReliabilitySet id u t n r h) = Keeping refl (does_leaves (KeepsContents p) (stream_cause p id) p p q r (keeps_none p) (keeps_none p) h)
 
 keeps_written : (id i : ℕ) (b : List ℕ) (p : Contents) → KeepsContents p (message_written id i b p)
 keeps_written id i b p = keeps_sent p.clock.now _ p
 
-pub keeps_act : (p q : Contents) (act : AssociationAct) → Acted plain_meaning p act q → Kept p act q
+pub keeps_act : (p q : Contents) (act : AssociationAct) (h : Acted plain_meaning p act q) → Kept p act (brings_threshold plain_meaning p q act h) q
 keeps_act p q Started h = Starting refl h.1
 keeps_act p q (Opened s g) h = Keeping refl (subst (KeepsContents p) (sym h.0.1) (keeps_opened s p))
 keeps_act p q (Wrote s g i b) h = Keeping refl (subst (KeepsContents p) (sym h.1.1.0.1.1.0) (keeps_written s (ppi_number h.0) b p))
@@ -97,21 +98,21 @@ keeps_act p q (Stirred (Timed now)) h = Keeping refl (times (KeepsContents p) p 
 keeps_act p q (Stirred Shut) h = Keeping refl (does_leaves (KeepsContents p) (ending_cause p) p (shut_down p) q h.0 (keeps_none p) (keeps_shut_down p) h.1)
 keeps_act p q (Stirred Other) h = keeps_stirs p q h
 
-same_start : (p q : Contents) (act : AssociationAct) → starts act ≡ false → Kept p act q → (is_started q ≡ is_started p) × (q.limits.max_send ≡ p.limits.max_send)
-same_start p q act s (Keeping t k) = (k.started, k.max_send)
-same_start p q act s (Starting a k) = absurd (let e : true ≡ false = sym (ap starts a) ∙ s in cc)
-same_start p q act s (Telling e w a k) = (ap is_started k, ap (λ (c : Contents). c.limits.max_send) k)
-same_start p q act s (Setting id n r t k) = let c = courses_set p q id n r k in (c.started, c.max_send)
+same_start : (p q : Contents) (act : AssociationAct) (b : Bool) → starts act ≡ false → Kept p act b q → (is_started q ≡ is_started p) × (q.limits.max_send ≡ p.limits.max_send)
+same_start p q act b s (Keeping t k) = (k.started, k.max_send)
+same_start p q act b s (Starting a k) = absurd (let e : true ≡ false = sym (ap starts a) ∙ s in cc)
+same_start p q act b s (Telling e w a k) = (ap is_started k, ap (λ (c : Contents). c.limits.max_send) k)
+same_start p q act b s (Setting id n t o k) = let c = courses_set p q id n (Ok tt) k in (c.started, c.max_send)
 
-adds : (p q : Contents) (act : AssociationAct) → Kept p act q → AddsEvents plain_meaning p (act ∷ []) q
-adds p q act (Keeping t k) = record {
+adds : (p q : Contents) (act : AssociationAct) (b : Bool) → Kept p act b q → AddsEvents plain_meaning p (act ∷ []) q
+adds p q act b (Keeping t k) = record {
   more = k.raises.more;
   due_is = ap (λ l. l ++ q.events) t ∙ k.raises.told_is;
   rises = k.raises.rises;
   in_order = k.raises.in_order;
   readable = k.readable;
 }
-adds p q act (Starting a k) =
+adds p q act b (Starting a k) =
     let r = raised_starts p q k in
     record {
       more = r.more;
@@ -120,15 +121,15 @@ adds p q act (Starting a k) =
       in_order = r.in_order;
       readable = λ id g u. inl (ap (λ (i : Inbox). list_any (is_message_of id g) i.unread) (sym (inbox_starts p q k)) ∙ u);
     }
-adds p q act (Telling e w a k) = record {
+adds p q act b (Telling e w a k) = record {
   more = [];
   due_is = ap (λ (x : AssociationAct). told (x ∷ []) ++ q.events) a ∙ ap (λ (c : Contents). e ∷ c.events) k ∙ sym w.is ∙ sym (append-nil p.events);
   rises = λ id. omega (arith, ap (λ (c : Contents). generation_of c id) k);
   in_order = λ id. ap (λ (c : Contents). is_finished c id) k;
   readable = λ id g u. inl (ap (λ (c : Contents). has_unread c id g) (sym k) ∙ u);
 }
-adds p q act (Setting i n r t k) =
-    let c = courses_set p q i n r k in
+adds p q act b (Setting i n t o k) =
+    let c = courses_set p q i n (Ok tt) k in
     record {
       more = [];
       due_is = ap (λ l. l ++ q.events) t ∙ c.events ∙ sym (append-nil p.events);
@@ -137,15 +138,11 @@ adds p q act (Setting i n r t k) =
       readable = λ id g u. inl (ap (λ (b : Inbox). list_any (is_message_of id g) b.unread) (sym c.inbox) ∙ u);
     }
 
-sets_threshold : (p q : Contents) (id n : ℕ) (r : Result (Unit {0}) AssocError) → any_threshold p.streams ≡ false → any_threshold q.streams ≡ true → Does (stream_cause p id) p (Leaves (thresholded id n p)) r q → Does (stream_cause p id) p (Leaves (thresholded id n p)) (Ok tt) q
-sets_threshold p q id n (Ok x) f t h = h
-sets_threshold p q id n (Err e) f t h = absurd (let k : false ≡ true = sym f ∙ ap (λ (c : Contents). any_threshold c.streams) (sym (refused_changes_nothing (stream_cause p id) p q (Leaves (thresholded id n p)) e h)) ∙ t in cc)
-
-no_threshold : (p q : Contents) (act : AssociationAct) → any_threshold p.streams ≡ false → any_threshold q.streams ≡ true → Kept p act q → (id : ℕ) × ((n : ℕ) × Does (stream_cause p id) p (Leaves (thresholded id n p)) (Ok tt) q)
-no_threshold p q act f t (Keeping o k) = absurd (let e : false ≡ true = sym (k.raises.thresholds f) ∙ t in cc)
-no_threshold p q act f t (Starting a k) = absurd (let e : false ≡ true = sym ((raised_starts p q k).thresholds f) ∙ t in cc)
-no_threshold p q act f t (Telling e w a k) = absurd (let n : false ≡ true = sym f ∙ ap (λ (c : Contents). any_threshold c.streams) (sym k) ∙ t in cc)
-no_threshold p q act f t (Setting id n r o k) = (id, (n, sets_threshold p q id n r f t k))
+no_threshold : (p q : Contents) (act : AssociationAct) (b : Bool) → Kept p act b q → b ≡ false → any_threshold p.streams ≡ false → any_threshold q.streams ≡ false
+no_threshold p q act b (Keeping o k) e f = k.raises.thresholds f
+no_threshold p q act b (Starting a k) e f = (raised_starts p q k).thresholds f
+no_threshold p q act b (Telling event w a k) e f = ap (λ (c : Contents). any_threshold c.streams) k ∙ f
+no_threshold p q act b (Setting id n t o k) e f = absurd (let x : true ≡ false = sym o ∙ e in cc)
 
 -- the buffered amounts of a message that is written
 bytes_written : (p : Contents) (id i : ℕ) (bytes : List ℕ) (s : ℕ) → buffered s (message_written id i bytes p).outbox.items ≡ buffered s p.outbox.items + cond (id == s) (length bytes) 0
@@ -243,7 +240,7 @@ plain_laws = record {
   connect_starts = λ p q now m r f h. leaves_started m p (connected now m p) q r f (started-connected now m p) h;
   accept_starts = λ p q now m r f h. leaves_started m p (accepted now m p) q r f (started-accepted now m p) h;
   snap_starts = λ p q now m l o r f h. leaves_started m p (snapped now m p) q r f (started-snapped now m p) h;
-  same_start = λ p q act s h. same_start p q act s (keeps_act p q act h);
+  same_start = λ p q act s h. same_start p q act (brings_threshold plain_meaning p q act h) s (keeps_act p q act h);
   connect_generation = λ p q now m id r h. same_generation p (connected now m p) q r id (streams-connected now m p) h;
   accept_generation = λ p q now m id r h. same_generation p (accepted now m p) q r id (streams-accepted now m p) h;
   snap_generation = λ p q now m id l o r h. same_generation p (snapped now m p) q r id (streams-snapped now m p) h;
@@ -257,7 +254,7 @@ plain_laws = record {
   none_unread = λ p q id h. none-unread id (generation_of p id) p.inbox.unread (reads_none (next_message id p) id p q h.1).0;
   stale_there = λ p id h. both_hold (has_stream p id) (closed_here p id) h;
   none_buffered = λ p id h. ap (λ b. cond b (buffered id p.outbox.items) 0) h;
-  adds = λ p q act h. adds p q act (keeps_act p q act h);
+  adds = λ p q act h. adds p q act (brings_threshold plain_meaning p q act h) (keeps_act p q act h);
   poll_head = λ p q e h. let w = polls_some p.events p q e h in w.0.is ∙ ap (λ (c : Contents). e ∷ c.events) (sym w.1);
   poll_none = λ p q h. (polls_none p.events p q h).0;
   faults_rise = λ p q act h. omega arith;
@@ -280,5 +277,5 @@ plain_laws = record {
   end_units = λ p q id r h. let bound : work q ≤ work p + 1 = does_sends (AtMost p 1) (end_cause p id) p (stream_ended p.clock.now id p) q r (omega arith) (work-ended p.clock.now id p) h in omega (arith, bound);
   shut_units = λ p q r h. let bound : work q ≤ work p + 1 = does_leaves (AtMost p 1) (ending_cause p) p (shut_down p) q r (omega arith) (omega (arith, work-shut_down p)) h in omega (arith, bound);
   given_units = λ p q now b r f h. gives (AtMost p (16 * (1 + length b))) p q now b r (omega arith) (omega (arith, work-half (frame_in b) p f)) (work-input now b p f) h;
-  no_threshold = λ p q act h f t. no_threshold p q act f t (keeps_act p q act h);
+  no_threshold = λ p q act h e f. no_threshold p q act (brings_threshold plain_meaning p q act h) (keeps_act p q act h) e f;
 }

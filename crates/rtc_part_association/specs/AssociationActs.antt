@@ -61,6 +61,16 @@ Acted m p (Stirred (Timed now)) q = (r : _) × m.timed p now r q
 Acted m p (Stirred Shut) q = (r : _) × m.shut p r q
 Acted m p (Stirred Other) q = Stirs m p q
 
+-- whether a call of these sets a threshold and is answered Ok
+abbrev pub is_threshold_set : {S : Type 0} (m : AssociationMeaning S) (p q : S) → Stirs m p q → Bool
+is_threshold_set m p q (ThresholdSet id n (Ok _) h) = true
+is_threshold_set m p q _ = false
+
+-- whether an act is such a call
+abbrev pub brings_threshold : {S : Type 0} (m : AssociationMeaning S) (p q : S) (act : AssociationAct) → Acted m p act q → Bool
+brings_threshold m p q (Stirred Other) h = is_threshold_set m p q h
+brings_threshold m p q _ h = false
+
 -- a list of acts took the part from p to q
 abbrev pub Moved : {S : Type 0} → AssociationMeaning S → S → List AssociationAct → S → Type 0
 Moved m p [] q = q ≡ p

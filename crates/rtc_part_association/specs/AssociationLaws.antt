@@ -7,7 +7,7 @@ use Rattle.rtc_part_association.specs.declared.assoc_event.AssocEvent.{AssocEven
 use Rattle.rtc_part_association.specs.declared.ppi.Ppi.{Ppi}
 use Rattle.rtc_part_association.specs.AssociationMeaning.{AssociationMeaning}
 use Rattle.rtc_part_association.specs.AssociationNeeds.{Answered, closing_need, open_need, write_need, end_need, stream_need}
-use Rattle.rtc_part_association.specs.AssociationActs.{AssociationAct, starts, Acted}
+use Rattle.rtc_part_association.specs.AssociationActs.{AssociationAct, starts, Acted, brings_threshold}
 use Rattle.rtc_part_association.specs.AssociationEvents.{AddsEvents}
 
 -- what an answer of a starting call leaves: a started part with this limit, or one that is not started
@@ -109,6 +109,6 @@ pub record AssociationLaws {S : Type 0} (m : AssociationMeaning S) : Type 0 wher
   pub shut_units : (p q : S) (r : _) → m.shut p r q → m.units q ≤ m.units p + 2
   pub given_units : (p q : S) (now : ℕ) (bytes : List ℕ) (r : _) → m.has_threshold p ≡ false → m.given p now bytes r q
       → m.units q ≤ m.units p + 16 * (1 + length bytes)
-  -- only setting one brings a threshold
-  pub no_threshold : (p q : S) (act : AssociationAct) → Acted m p act q → m.has_threshold p ≡ false
-      → m.has_threshold q ≡ true → (id : ℕ) × ((n : ℕ) × m.threshold_set p id n (Ok tt) q)
+  -- no act but an Ok of setting one brings a threshold
+  pub no_threshold : (p q : S) (act : AssociationAct) (h : Acted m p act q) → brings_threshold m p q act h ≡ false
+      → m.has_threshold p ≡ false → m.has_threshold q ≡ false

@@ -1,6 +1,6 @@
 -- What was done to a media part, as a list of acts. The acts follow from the meaning of the calls.
-use Rattle.std.specs.Prelude.{ℕ, ◌≡◌, ◌⊎◌, Bool, List, [], ◌∷◌, ◌++◌, Option, Some, Result, refl}
-use Rattle.std.proofs.Common.{subst}
+use Rattle.std.specs.Prelude.{ℕ, ◌≡◌, ◌⊎◌, Bool, true, false, List, [], ◌∷◌, ◌++◌, Option, Some, Result, Ok, refl}
+use Rattle.std.proofs.Common.{subst, inl, inr}
 use Rattle.std.specs.declared.alloc.AllocError.{AllocError}
 use Rattle.rtc_sdp_values.specs.declared.ssrc.Ssrc.{Ssrc}
 use Rattle.rtc_part_values.specs.Why.{Why, Timed, Shut, Other}
@@ -63,6 +63,26 @@ MediaActed m p (MediaTaken datagram) q = (now : ℕ) × m.gave p now (Some datag
 MediaActed m p (MediaStirred (Timed now)) q = (r : _) × m.timed p now r q
 MediaActed m p (MediaStirred Shut) q = (r : _) × m.rtp_shut p r q
 MediaActed m p (MediaStirred Other) q = ChangesLines m p q ⊎ (LendsMedia m p q ⊎ StirsMedia m p q)
+
+-- whether a call of these changes what is prepared: a commit, or preparing with an Ok
+abbrev pub is_commit : {M E X T W : Type 0} (m : MediaMeaning M E X T W) (p q : M) → ChangesLines m p q → Bool
+is_commit m p q (Committed h) = true
+is_commit m p q (LineRemoved mid h) = false
+
+abbrev pub is_preparing : {M E X T W : Type 0} (m : MediaMeaning M E X T W) (p q : M) → StirsMedia m p q → Bool
+is_preparing m p q (Prepared updates (Ok _) h) = true
+is_preparing m p q _ = false
+
+abbrev pub is_preparing_or_commit : {M E X T W : Type 0} (m : MediaMeaning M E X T W) (p q : M)
+    → ChangesLines m p q ⊎ (LendsMedia m p q ⊎ StirsMedia m p q) → Bool
+is_preparing_or_commit m p q (inl h) = is_commit m p q h
+is_preparing_or_commit m p q (inr (inl h)) = false
+is_preparing_or_commit m p q (inr (inr h)) = is_preparing m p q h
+
+-- whether an act is such a call
+abbrev pub changes_pending : {M E X T W : Type 0} (m : MediaMeaning M E X T W) (p q : M) (act : MediaAct) → MediaActed m p act q → Bool
+changes_pending m p q (MediaStirred Other) h = is_preparing_or_commit m p q h
+changes_pending m p q _ h = false
 
 -- the calls that keep every line: all but a commit and the removal of a line
 pub data KeepsLines {M E X T W : Type 0} (m : MediaMeaning M E X T W) (p q : M) : Type 0 where

@@ -8,7 +8,7 @@ use Rattle.rtc_part_media.specs.declared.media_error.MediaError.TheVariants.{All
 use Rattle.rtc_part_media.specs.declared.media_update.MediaUpdate.{MediaUpdate}
 use Rattle.rtc_part_media.specs.MediaMeaning.{MediaMeaning, held_media}
 use Rattle.rtc_part_media.specs.MediaUpdates.{line_after, removed_by}
-use Rattle.rtc_part_media.specs.MediaActs.{MediaAct, MediaActed, KeepsLines}
+use Rattle.rtc_part_media.specs.MediaActs.{MediaAct, MediaActed, KeepsLines, changes_pending}
 
 -- the lines and the ssrcs in use are the same
 pub record SameLines {M E X T W : Type 0} (m : MediaMeaning M E X T W) (p q : M) : Type 0 where
@@ -22,11 +22,6 @@ pub record UsesStream {M E X T W : Type 0} (m : MediaMeaning M E X T W) (p : M) 
   pub retransmissions : (other : Ssrc) → rtx ≡ Some other → m.used q other ≡ true
   pub others : (other : Ssrc) → m.used q other ≡ true → (m.used p other ≡ true) ⊎ ((other ≡ ssrc) ⊎ (rtx ≡ Some other))
 
--- the calls by which what is prepared changes
-pub data ChangesPending {M E X T W : Type 0} (m : MediaMeaning M E X T W) (p q : M) : Type 0 where
-  ByPrepare : (updates : List MediaUpdate) → m.prepared p updates (Ok tt) q → ChangesPending m p q
-  ByCommit : m.committed p q → ChangesPending m p q
-
 pub record MediaLaws {M E X T W : Type 0} (m : MediaMeaning M E X T W) : Type 0 where
   -- a fresh part has no line
   pub fresh_line : (p : M) (mid : List ℕ) → m.fresh p → m.line p mid ≡ None
@@ -35,7 +30,8 @@ pub record MediaLaws {M E X T W : Type 0} (m : MediaMeaning M E X T W) : Type 0 
   pub prepare_pending : (p q : M) (updates : List MediaUpdate) → m.prepared p updates (Ok tt) q → m.pending q ≡ updates
   pub commit_lines : (p q : M) (mid : List ℕ) → m.committed p q → m.line q mid ≡ line_after (m.pending p) mid (m.line p mid)
   pub commit_streams : (p q : M) (mid : List ℕ) → m.committed p q → removed_by (m.pending p) mid ≡ true → m.has_streams q mid ≡ false
-  pub pending_stays : (p q : M) (act : MediaAct) → MediaActed m p act q → (m.pending q ≡ m.pending p) ⊎ ChangesPending m p q
+  pub pending_stays : (p q : M) (act : MediaAct) (h : MediaActed m p act q) → changes_pending m p q act h ≡ false
+      → m.pending q ≡ m.pending p
   -- a line that is removed is gone with its streams, and the others stay
   pub removed_line : (p q : M) (mid : List ℕ) → m.line_removed p mid q → m.line q mid ≡ None
   pub removed_streams : (p q : M) (mid : List ℕ) → m.line_removed p mid q → m.has_streams q mid ≡ false
@@ -86,6 +82,12 @@ pub record MediaLaws {M E X T W : Type 0} (m : MediaMeaning M E X T W) : Type 0 
   pub quiet_datagram : (p q : M) (now : ℕ) (r : _) → m.held_datagrams p ≡ 0 → m.gave p now r q → r ≡ None
   pub silent_events : (p q o : M) (now : ℕ) → m.told p None q → m.told_fallible p now (Ok None) o → m.held_events p ≡ 0
   pub silent_datagrams : (p q : M) (now : ℕ) → m.gave p now None q → m.held_datagrams p ≡ 0
+  -- if no event is held, a poll for an event may return none and leave the part as it was
+  pub quiet_told : (p : M) → m.held_events p ≡ 0 → m.told p None p
+  -- if no event is held, a poll for an event whose making may fail may do the same
+  pub quiet_told_fallible : (p : M) (now : ℕ) → m.held_events p ≡ 0 → m.told_fallible p now (Ok None) p
+  -- if no datagram is held, a poll for a datagram may return none and leave the part as it was
+  pub quiet_gave : (p : M) (now : ℕ) → m.held_datagrams p ≡ 0 → m.gave p now None p
   -- each poll that gives something lowers what is held, and none raises it
   pub event_falls : (p q : M) (e : E) → m.told p (Some e) q → held_media m q < held_media m p
   pub fallible_falls : (p q : M) (now : ℕ) (e : E) → m.told_fallible p now (Ok (Some e)) q → held_media m q < held_media m p
@@ -99,6 +101,8 @@ pub record MediaLaws {M E X T W : Type 0} (m : MediaMeaning M E X T W) : Type 0 
   pub clear_quiet : (p q : M) → held_media m p ≡ 0 → m.cleared p q → q ≡ p
   pub clear_wake : (p q : M) → m.cleared p q → m.wake q ≡ m.wake p
   pub app_wake : (p q : M) (sender media : Ssrc) (payload : List ℕ) (r : _) → m.app_fed p sender media payload r q → m.wake q ≡ m.wake p
+  -- if nothing is held, clearing the feedback may leave the part as it was
+  pub quiet_cleared : (p : M) → held_media m p ≡ 0 → m.cleared p p
   -- how much closing and keying add to what is held, at most
   pub shut_held : (p q : M) (r : _) → m.rtp_shut p r q → held_media m q ≤ held_media m p + 32
   pub key_held : (p q : M) (key : List ℕ) (profile : SrtpProfile) (active : Bool) (r : _) → m.keyed p key profile active r q

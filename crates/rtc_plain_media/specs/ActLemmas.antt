@@ -16,6 +16,9 @@ use Rattle.rtc_part_media.specs.MediaActs.{
   ByShut,
   ByLoan,
   ByOther,
+  is_commit,
+  is_preparing,
+  changes_pending,
   ChangesLines,
   LendsMedia,
   WriterLent,
@@ -114,15 +117,14 @@ keeps_goodbye p = by p.is_shut refl
     }) (said_goodbye p) (record { lines = λ mid. refl; pending = refl; begins = λ b. begins_more p.datagrams goodbye b refl }) (rw is refl)
 
 -- each call that keeps lines keeps both, or prepares
-pub data MediaStay (p q : MediaContents) : Type 0 where
-  Keeping : KeepsMedia p q → MediaStay p q
-  Preparing : (updates : List MediaUpdate) (r : Result (Unit {0}) AllocError)
-      → MediaLeaves p (record p { pending = updates }) r q → MediaStay p q
+pub data MediaStay (p : MediaContents) (prepares : Bool) (q : MediaContents) : Type 0 where
+  Keeping : KeepsMedia p q → MediaStay p prepares q
+  Preparing : (updates : List MediaUpdate) → prepares ≡ true → q ≡ record p { pending = updates } → MediaStay p prepares q
 
 -- each act is such a call, or changes lines
-pub data MediaEffect (p q : MediaContents) : Type 0 where
-  Staying : MediaStay p q → MediaEffect p q
-  ChangingLines : ChangesLines plain_media_meaning p q → MediaEffect p q
+pub data MediaEffect (p : MediaContents) (changes : Bool) (q : MediaContents) : Type 0 where
+  Staying : MediaStay p changes q → MediaEffect p changes q
+  ChangingLines : (h : ChangesLines plain_media_meaning p q) → changes ≡ is_commit plain_media_meaning p q h → MediaEffect p changes q
 
 lent_effect : (p q : MediaContents) → LendsMedia plain_media_meaning p q → KeepsMedia p q
 lent_effect p q (WriterLent mid lent left h) =
@@ -137,9 +139,10 @@ lent_effect p q (RxNamedLent mid rid lent left h) = keeps_by p _ q (record { lin
 lent_effect p q (TxNamedLent mid rid lent left h) = keeps_by p _ q (record { lines = λ m. refl; pending = refl; begins = λ b. b }) h.1
 lent_effect p q (TxReset mid rid ssrc rtx lent left h) = keeps_by p _ q (record { lines = λ m. refl; pending = refl; begins = λ b. b }) h.1
 
-stirred_effect : (p q : MediaContents) → StirsMedia plain_media_meaning p q → MediaStay p q
+stirred_effect : (p q : MediaContents) (h : StirsMedia plain_media_meaning p q) → MediaStay p (is_preparing plain_media_meaning p q h) q
 stirred_effect p q (Configured settings h) = Keeping (keeps_by p _ q (record { lines = λ m. refl; pending = refl; begins = λ b. b }) h)
-stirred_effect p q (Prepared updates r h) = Preparing updates r h
+stirred_effect p q (Prepared updates (Ok x) h) = Preparing updates refl h
+stirred_effect p q (Prepared updates (Err e) h) = Keeping (keeps_by p p q (keeps_self p) h)
 stirred_effect p q (Keyed key profile active r h) =
     Keeping (keeps_left p _ q r (record { lines = λ m. refl; pending = refl; begins = λ b. b }) h)
 stirred_effect p q (EventTold e h) =
@@ -165,7 +168,12 @@ stirred_effect p q (PliFed sender media r h) =
 stirred_effect p q (RxRemoved ssrc b h) = Keeping (keeps_by p _ q (record { lines = λ m. refl; pending = refl; begins = λ b. b }) h.1)
 stirred_effect p q (TxRemoved ssrc b h) = Keeping (keeps_by p _ q (record { lines = λ m. refl; pending = refl; begins = λ b. b }) h.1)
 
-pub stay : (p q : MediaContents) → KeepsLines plain_media_meaning p q → MediaStay p q
+-- whether a call that keeps lines is an Ok of preparing
+abbrev pub stay_prepares : (p q : MediaContents) → KeepsLines plain_media_meaning p q → Bool
+stay_prepares p q (ByOther h) = is_preparing plain_media_meaning p q h
+stay_prepares p q _ = false
+
+pub stay : (p q : MediaContents) (h : KeepsLines plain_media_meaning p q) → MediaStay p (stay_prepares p q h) q
 stay p q (ByGiven packet (now, (r, inl h))) =
     Keeping (keeps_left p _ q r (record { lines = λ m. refl; pending = refl; begins = λ b. b }) h)
 stay p q (ByGiven packet (now, (r, inr h))) =
@@ -182,11 +190,12 @@ stay p q (ByShut (r, h)) = Keeping (keeps_left p _ q r (keeps_goodbye p) h)
 stay p q (ByLoan h) = Keeping (lent_effect p q h)
 stay p q (ByOther h) = stirred_effect p q h
 
-pub effect : (p q : MediaContents) (act : MediaAct) → MediaActed plain_media_meaning p act q → MediaEffect p q
+pub effect : (p q : MediaContents) (act : MediaAct) (h : MediaActed plain_media_meaning p act q)
+    → MediaEffect p (changes_pending plain_media_meaning p q act h) q
 effect p q (MediaGiven packet) h = Staying (stay p q (ByGiven packet h))
 effect p q (MediaTaken datagram) h = Staying (stay p q (ByTaken datagram h))
 effect p q (MediaStirred (Timed now)) h = Staying (stay p q (ByTime now h))
 effect p q (MediaStirred Shut) h = Staying (stay p q (ByShut h))
-effect p q (MediaStirred Other) (inl h) = ChangingLines h
+effect p q (MediaStirred Other) (inl h) = ChangingLines h refl
 effect p q (MediaStirred Other) (inr (inl h)) = Staying (stay p q (ByLoan h))
 effect p q (MediaStirred Other) (inr (inr h)) = Staying (stay p q (ByOther h))

@@ -30,8 +30,8 @@ use Rattle.rtc_sdp_values.specs.declared.ssrc.Ssrc.{Ssrc}
 use Rattle.rtc_part_media.specs.declared.media_update.MediaUpdate.{MediaUpdate}
 use Rattle.rtc_part_media.specs.MediaUpdates.{same_mid, removed_by}
 use Rattle.rtc_part_media.specs.MediaMeaning.{held_media}
-use Rattle.rtc_part_media.specs.MediaActs.{Committed, LineRemoved}
-use Rattle.rtc_part_media.specs.MediaLaws.{MediaLaws, SameLines, UsesStream, ChangesPending, ByPrepare, ByCommit}
+use Rattle.rtc_part_media.specs.MediaActs.{Committed, LineRemoved, changes_pending}
+use Rattle.rtc_part_media.specs.MediaLaws.{MediaLaws, SameLines, UsesStream}
 use Rattle.rtc_plain_media.specs.declared.plain_mark.PlainMark.{PlainMark}
 use Rattle.rtc_plain_media.specs.declared.stream_row.StreamRow.{StreamRow}
 use Rattle.rtc_plain_media.specs.declared.plain_media_event.PlainMediaEvent.{PlainMediaEvent}
@@ -74,11 +74,14 @@ use Rattle.rtc_plain_media.specs.QueueLemmas.{
   event_fell,
   datagram_fell,
   no_length,
+  told_only,
+  gave_only,
+  fallible_only,
   quiet_told,
   quiet_gave,
-  fallible_only,
   no_event,
   cleared_quiet,
+  quiet_cleared,
   shut_most,
   keyed_most,
 }
@@ -90,6 +93,7 @@ use Rattle.rtc_plain_media.specs.ActLemmas.{
   Keeping,
   Preparing,
   stay,
+  stay_prepares,
   effect,
   leaves_with,
   tells_none,
@@ -111,16 +115,15 @@ prepared_same p q updates r h =
     (record { lines = λ mid. refl; used = λ ssrc. refl }) (record { lines = λ mid. refl; used = λ ssrc. refl }) h
 
 -- what is pending, and what lines are, after each act
-pending_after : (p q : MediaContents) → MediaEffect p q → (q.pending ≡ p.pending) ⊎ ChangesPending plain_media_meaning p q
-pending_after p q (Staying (Keeping k)) = inl k.pending
-pending_after p q (ChangingLines (Committed h)) = inr (ByCommit h)
-pending_after p q (ChangingLines (LineRemoved mid h)) = inl (ap (λ (c : MediaContents). c.pending) h)
-pending_after p q (Staying (Preparing updates (Ok x) h)) = inr (ByPrepare updates h)
-pending_after p q (Staying (Preparing updates (Err e) h)) = inl (ap (λ (c : MediaContents). c.pending) h)
+pending_after : (p q : MediaContents) (b : Bool) → MediaEffect p b q → b ≡ false → q.pending ≡ p.pending
+pending_after p q b (Staying (Keeping k)) e = k.pending
+pending_after p q b (Staying (Preparing updates t h)) e = absurd (let x : true ≡ false = sym t ∙ e in cc)
+pending_after p q b (ChangingLines (Committed h) t) e = absurd (let x : true ≡ false = sym t ∙ e in cc)
+pending_after p q b (ChangingLines (LineRemoved mid h) t) e = ap (λ (c : MediaContents). c.pending) h
 
-lines_kept : (p q : MediaContents) (mid : List ℕ) → MediaStay p q → update_of q mid ≡ update_of p mid
-lines_kept p q mid (Keeping k) = k.lines mid
-lines_kept p q mid (Preparing updates r h) = (prepared_same p q updates r h).lines mid
+lines_kept : (p q : MediaContents) (b : Bool) (mid : List ℕ) → MediaStay p b q → update_of q mid ≡ update_of p mid
+lines_kept p q b mid (Keeping k) = k.lines mid
+lines_kept p q b mid (Preparing updates t h) = (prepared_same p q updates (Ok tt) h).lines mid
 
 -- streams of lines that are gone
 no_streams : (p : MediaContents) (mid : List ℕ) (gone : List ℕ → Bool) → gone mid ≡ true
@@ -231,14 +234,14 @@ plain_media_laws = record {
   commit_lines = λ p q mid h. ap (λ (c : MediaContents). update_of c mid) h ∙ line-applied p mid;
   commit_streams = λ p q mid h gone.
       ap (λ (c : MediaContents). has_streams_of c mid) h ∙ no_streams p mid (removed_by p.pending) gone;
-  pending_stays = λ p q act h. pending_after p q (effect p q act h);
+  pending_stays = λ p q act h e. pending_after p q (changes_pending plain_media_meaning p q act h) (effect p q act h) e;
   removed_line = λ p q mid h. ap (λ (c : MediaContents). update_of c mid) h ∙ line-dropped p mid;
   removed_streams = λ p q mid h.
       ap (λ (c : MediaContents). has_streams_of c mid) h
       ∙ no_streams p mid (λ other. same_mid other mid) (is_same mid mid refl);
   removed_others = λ p q mid other n h.
       ap (λ (c : MediaContents). update_of c other) h ∙ line-dropped_other p mid other (other_mid other mid n);
-  lines_stay = λ p q mid h. lines_kept p q mid (stay p q h);
+  lines_stay = λ p q mid h. lines_kept p q (stay_prepares p q h) mid (stay p q h);
   writer_same = writer_kept;
   rx_same = λ p q ssrc lent left h. rx_marked p q (has_ssrc ssrc) left h.1;
   tx_same = λ p q ssrc lent left h. tx_marked p q (has_ssrc ssrc) left h.1;
@@ -266,11 +269,14 @@ plain_media_laws = record {
   event_none = λ p q h. (tells_none p.events p q h).0;
   fallible_none = λ p q now h. h.1;
   datagram_none = λ p q now h. (gives_none p.datagrams p q h).0;
-  quiet_event = λ p q r none h. quiet_told p.events p q r (no_length p.events none) h;
+  quiet_event = λ p q r none h. told_only p.events p q r (no_length p.events none) h;
   quiet_fallible = λ p q now r none h. inl (fallible_only p q r h);
-  quiet_datagram = λ p q now r none h. quiet_gave p.datagrams p q r (no_length p.datagrams none) h;
+  quiet_datagram = λ p q now r none h. gave_only p.datagrams p q r (no_length p.datagrams none) h;
   silent_events = λ p q o now h k. ap (λ (l : List PlainMediaEvent). length l) (tells_none p.events p q h).1;
   silent_datagrams = λ p q now h. ap (λ (l : List (List ℕ)). length l) (gives_none p.datagrams p q h).1;
+  quiet_told = λ p none. quiet_told p none;
+  quiet_told_fallible = λ p now none. (refl, refl);
+  quiet_gave = λ p now none. quiet_gave p none;
   event_falls = event_fell;
   fallible_falls = λ p q now e h. no_event e h.0;
   fault_falls = λ p q now e n h. absurd h;
@@ -282,6 +288,7 @@ plain_media_laws = record {
   clear_quiet = cleared_quiet;
   clear_wake = λ p q h. refl;
   app_wake = λ p q sender media payload r h. refl;
+  quiet_cleared = λ p none. quiet_cleared p none;
   shut_held = shut_most;
   key_held = λ p q key profile active r h. keyed_most p q r h;
 }

@@ -62,18 +62,25 @@ pub no_length : {A : Type 0} (xs : List A) → length xs ≡ 0 → xs ≡ []
 no_length [] h = refl
 no_length (x ∷ xs) h = absurd (omega (arith, h))
 
-pub quiet_told : (queue : List PlainMediaEvent) (p q : MediaContents) (r : Option PlainMediaEvent) → queue ≡ []
+-- polls of a queue with nothing in it: what they may return, and that returning none is possible
+pub told_only : (queue : List PlainMediaEvent) (p q : MediaContents) (r : Option PlainMediaEvent) → queue ≡ []
     → TellsNext queue p r q → r ≡ None
-quiet_told queue p q None e h = refl
-quiet_told queue p q (Some x) e h = absurd (subst (λ (l : List PlainMediaEvent). TellsNext l p (Some x) q) e h)
+told_only queue p q None e h = refl
+told_only queue p q (Some x) e h = absurd (subst (λ (l : List PlainMediaEvent). TellsNext l p (Some x) q) e h)
 
-pub quiet_gave : (queue : List (List ℕ)) (p q : MediaContents) (r : Option (List ℕ)) → queue ≡ [] → GivesNext queue p r q → r ≡ None
-quiet_gave queue p q None e h = refl
-quiet_gave queue p q (Some x) e h = absurd (subst (λ (l : List (List ℕ)). GivesNext l p (Some x) q) e h)
+pub gave_only : (queue : List (List ℕ)) (p q : MediaContents) (r : Option (List ℕ)) → queue ≡ [] → GivesNext queue p r q → r ≡ None
+gave_only queue p q None e h = refl
+gave_only queue p q (Some x) e h = absurd (subst (λ (l : List (List ℕ)). GivesNext l p (Some x) q) e h)
 
 pub fallible_only : (p q : MediaContents) (r : Result (Option PlainMediaEvent) MediaError) → MediaStays None p r q → r ≡ Ok None
 fallible_only p q (Ok x) h = ap (λ (o : Option PlainMediaEvent). Ok o) h.0
 fallible_only p q (Err e) h = absurd h
+
+pub quiet_told : (p : MediaContents) → length p.events ≡ 0 → TellsNext p.events p None p
+quiet_told p none = subst (λ (l : List PlainMediaEvent). TellsNext l p None p) (sym (no_length p.events none)) refl
+
+pub quiet_gave : (p : MediaContents) → length p.datagrams ≡ 0 → GivesNext p.datagrams p None p
+quiet_gave p none = subst (λ (l : List (List ℕ)). GivesNext l p None p) (sym (no_length p.datagrams none)) refl
 
 pub no_event : {P : Type 0} (e : PlainMediaEvent) → Some e ≡ None → P
 no_event e h = cc h
@@ -89,6 +96,9 @@ goodbye_held p = by p.is_shut refl
 pub cleared_quiet : (p q : MediaContents) → length p.events + length p.datagrams ≡ 0 → q ≡ record p { datagrams = [] } → q ≡ p
 cleared_quiet p q none h =
     h ∙ ap (λ (l : List (List ℕ)). record p { datagrams = l }) (sym (no_length p.datagrams (omega (arith, none))))
+
+pub quiet_cleared : (p : MediaContents) → length p.events + length p.datagrams ≡ 0 → p ≡ record p { datagrams = [] }
+quiet_cleared p none = ap (λ (l : List (List ℕ)). record p { datagrams = l }) (no_length p.datagrams (omega (arith, none)))
 
 pub shut_most : (p q : MediaContents) (r : Result (Unit {0}) AllocError) → MediaLeaves p (said_goodbye p) r q
     → held_media plain_media_meaning q ≤ held_media plain_media_meaning p + 32
