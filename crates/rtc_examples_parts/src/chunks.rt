@@ -1,7 +1,7 @@
 //! The INIT chunks of both ends of an association, as session descriptions tell them (draft-hancke-tsvwg-snap).
-use rtc_examples_cases::{every, is_list, is_ok, is_refused, is_text};
+use rtc_examples_cases::{every, is_list, is_ok, is_refused, is_text, prints};
 use rtc_plain::CountIds;
-use rtc_sctp::{SctpError, SctpInitData};
+use rtc_sctp::{ProtoError, SctpError, SctpInitData};
 use std::alloc::Global;
 
 // The chunk of the other end: its numbers are 11 and 12.
@@ -35,6 +35,10 @@ fn is_taken(halves: &mut SctpInitData) -> bool {
         halves.set_remote_init_string("Zm9vYg"),
         &SctpError::InvalidSnap,
     );
+    let other = is_refused(
+        halves.set_remote_init_string("!!!"),
+        &SctpError::InvalidSnap,
+    );
     let over = is_refused(
         halves.set_remote_init_string("Zm9vYh=="),
         &SctpError::InvalidSnap,
@@ -43,6 +47,7 @@ fn is_taken(halves: &mut SctpInitData) -> bool {
     let taken = is_ok(halves.set_remote_init_string(OTHER_TEXT));
     every(&[
         unpadded,
+        other,
         over,
         !none,
         taken,
@@ -57,6 +62,10 @@ pub fn does_agree(alloc: Global, example: &str) -> bool {
         "are drawn once and told as text" => {
             let mut halves = SctpInitData::new(alloc);
             is_drawn(&mut halves) & is_taken(&mut halves)
+        }
+        "of one end are too few" => {
+            let text = "SNAP requires both local and remote SCTP INIT chunks";
+            prints(alloc, &ProtoError::SnapHalf, text)
         }
         _ => false,
     }

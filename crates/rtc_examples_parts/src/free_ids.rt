@@ -9,7 +9,8 @@ fn follow_what_is_taken() -> bool {
     let taken = ids.take(1) & ids.take(5);
     let next = ids.least() == Some(3);
     let put = ids.put(1);
-    every(&[first, taken, next, put, ids.least() == Some(1)])
+    let least = ids.least() == Some(1);
+    every(&[first, taken, next, put, least, !ids.take(2)])
 }
 
 // Whether only a change is answered with true.

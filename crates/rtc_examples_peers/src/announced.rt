@@ -42,7 +42,7 @@ pub fn does_refuse<P: Signals + Polled>(
     call: &str,
 ) -> Result<bool, AllocError> {
     match call {
-        "another_certificate" => {
+        "of another certificate" => {
             is_refused(
                 alloc,
                 left,
@@ -51,7 +51,7 @@ pub fn does_refuse<P: Signals + Polled>(
                 Fault::OtherCertificate,
             )
         }
-        "unknown_hash_function" => is_refused(alloc, left, right, UNKNOWN_HASH, Fault::UnknownHash),
+        "of an unknown hash" => is_refused(alloc, left, right, UNKNOWN_HASH, Fault::UnknownHash),
         _ => Ok(false),
     }
 }

@@ -13,6 +13,8 @@ pub struct Outputs {
     pub sent: Vec<Transmit>,
     /// The messages that came.
     pub messages: Vec<Bytes>,
+    /// How many of them are text.
+    pub texts: usize,
     /// How many channels are open.
     pub opened: usize,
     pub fault: Option<Fault>,
@@ -32,6 +34,7 @@ impl Outputs {
         Outputs {
             sent: Vec::new(alloc),
             messages: Vec::new(alloc),
+            texts: 0,
             opened: 0,
             fault: None,
         }
@@ -63,6 +66,9 @@ impl Outputs {
     }
 
     fn keep_message(&mut self, message: ChannelData) -> bool {
+        if !message.binary {
+            self.texts = self.texts.saturating_add(1);
+        }
         let kept = is_ok(self.messages.push(message.bytes));
         self.note(kept)
     }

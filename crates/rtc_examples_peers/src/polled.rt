@@ -13,8 +13,8 @@ pub trait Polled {
     /// Polls once, and keeps what there is to give. It answers whether more may come.
     fn give_next(&mut self, outputs: &mut Outputs) -> bool;
 
-    /// Writes a binary message to an open channel. It answers whether it was taken.
-    fn write(&mut self, channel: ChannelId, message: &[u8]) -> bool;
+    /// Writes a message, binary or text, to an open channel. It answers whether it was taken.
+    fn write(&mut self, channel: ChannelId, binary: bool, message: &[u8]) -> bool;
 
     /// The answer to a question.
     fn holds(&self, ask: Ask) -> bool;

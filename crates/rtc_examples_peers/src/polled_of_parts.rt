@@ -31,9 +31,9 @@ impl<
         outputs.keep(self.poll_output())
     }
 
-    fn write(&mut self, channel: ChannelId, message: &[u8]) -> bool {
+    fn write(&mut self, channel: ChannelId, binary: bool, message: &[u8]) -> bool {
         match self.channel(channel) {
-            Some(mut channel) => is_true(channel.write(true, message)),
+            Some(mut channel) => is_true(channel.write(binary, message)),
             None => false,
         }
     }

@@ -78,7 +78,7 @@ impl<'a> Transfer<'a> {
             let Some(record) = self.next() else {
                 return;
             };
-            let taken = peer.write(ChannelId::new(0), record.as_slice());
+            let taken = peer.write(ChannelId::new(0), true, record.as_slice());
             if !self.keep(record, taken) {
                 return;
             }

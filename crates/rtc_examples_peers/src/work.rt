@@ -52,7 +52,8 @@ impl Work {
     }
 }
 
-fn message(alloc: Global, bytes: u32) -> Result<Vec<u8>, AllocError> {
+/// A message of so many bytes.
+pub fn message(alloc: Global, bytes: u32) -> Result<Vec<u8>, AllocError> {
     let mut message = Vec::new(alloc);
     for _ in 0..bytes {
         message.push(7u8)?;
@@ -70,7 +71,7 @@ fn begin<P: Polled>(left: &mut P, right: &mut P, wire: &mut Wire) {
 // Sends messages from left to right, each once the one before was read and acknowledged.
 fn send<P: Polled>(left: &mut P, right: &mut P, wire: &mut Wire, work: Work, message: &[u8]) {
     for number in 0..work.messages {
-        left.write(work.channel(number), message);
+        left.write(work.channel(number), true, message);
         settle(left, right, wire);
     }
 }

@@ -40,6 +40,12 @@ pub trait Config: Sized {
     /// It with these extensions in place of its own, and that of the audio level by the number 4.
     fn with_extensions(self, map: ExtensionMap) -> Result<Self, AllocError>;
 
+    /// It with datagrams that are kept to 900 bytes, and a warning above 1400.
+    fn with_short_datagrams(self) -> Self;
+
+    /// The size that datagrams are kept to, and the one above which a datagram is worth a warning.
+    fn datagram_sizes(&self) -> (usize, usize);
+
     /// Its codecs.
     fn rows(&self) -> &[PayloadRow];
 

@@ -39,6 +39,14 @@ impl Config for RtcConfig {
         config.set_extension(4, Extension::AudioLevel)
     }
 
+    fn with_short_datagrams(self) -> RtcConfig {
+        self.set_mtu((900, 1400))
+    }
+
+    fn datagram_sizes(&self) -> (usize, usize) {
+        (self.mtu(), self.mtu_warn())
+    }
+
     fn rows(&self) -> &[PayloadRow] {
         self.codecs().rows.as_slice()
     }

@@ -33,10 +33,16 @@ fn is_extended<C: Config + Drop>(
     Ok((rows.len() == 7) & (rows.last() == Some(&(4, Extension::AudioLevel))))
 }
 
+fn are_shortened<C: Config + Drop>(made: Result<C, AllocError>) -> Result<bool, AllocError> {
+    let config = made?.with_short_datagrams();
+    Ok(config.datagram_sizes() == (900, 1400))
+}
+
 /// Whether an example of configurations gives what is expected.
 pub fn does_agree(alloc: Global, example: &str) -> bool {
     match example {
         "that are copied" => is_true(is_copied(alloc, fresh(alloc))),
+        "of short datagrams" => is_true(are_shortened(fresh(alloc))),
         "with extensions" => is_true(is_extended(alloc, fresh(alloc))),
         _ => false,
     }

@@ -1,6 +1,6 @@
 //! Open messages of data channels (RFC 8832, section 5.1), byte by byte.
 use crate::copies::is_copied;
-use rtc_examples_cases::{every, gives, is_true, prints};
+use rtc_examples_cases::{every, gives, is_refused, is_true, prints};
 use rtc_wire::{ChannelConfig, ChannelId, DcepError, DcepOpen, Reliability, Text};
 use std::alloc::Global;
 
@@ -42,6 +42,25 @@ fn open(alloc: Global) -> Result<bool, DcepError> {
     is_announced(alloc, &config)
 }
 
+// Whether bytes that are no open message are refused: one that is too short, one of another type, and a label that is not UTF-8.
+fn refused(alloc: Global) -> bool {
+    let mut other_type = OPEN_A;
+    other_type[0] = 2;
+    let mut bad_label = OPEN_A;
+    bad_label[12] = 0xff;
+    every(&[
+        is_refused(
+            DcepOpen::read(alloc, &OPEN_A[..12]),
+            &DcepError::DcepOpenTooSmall,
+        ),
+        is_refused(
+            DcepOpen::read(alloc, &other_type),
+            &DcepError::DcepIncorrectMessageType,
+        ),
+        is_refused(DcepOpen::read(alloc, &bad_label), &DcepError::DcepBadUtf8),
+    ])
+}
+
 // Whether a config and its message are copied.
 fn are_copied(config: &ChannelConfig) -> Result<bool, DcepError> {
     let message = DcepOpen::from_config(config)?;
@@ -79,6 +98,7 @@ pub fn does_agree(alloc: Global, example: &str) -> bool {
     match example {
         "copied" => copies(alloc),
         "open a channel" => is_true(open(alloc)),
+        "are refused" => refused(alloc),
         "printed when refused" => printed(alloc),
         _ => false,
     }

@@ -1,6 +1,6 @@
 //! Rounds of statistics.
-use rtc_examples_cases::{every, is_true};
 use rtc_config::Stats;
+use rtc_examples_cases::{every, is_true};
 use rtc_part_media::{StatsEvent, StatsSnapshot};
 use rtc_wire::{Moment, Span};
 use std::alloc::{AllocError, Global};
