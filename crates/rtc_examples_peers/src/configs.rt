@@ -16,7 +16,7 @@ fn certified(
     config: RtcConfig,
     snap: bool,
 ) -> Result<Option<RtcConfig>, AllocError> {
-    let cert = b"abc".to_vec(alloc)?;
+    let cert = Vec::from_slice(alloc, b"abc")?;
     Ok(Some(config.set_dtls_cert(cert).set_snap_enabled(snap)))
 }
 
