@@ -1,4 +1,4 @@
-//! All settings of a configuration, which no peer takes yet, and the rounds of statistics.
+//! What a peer is built from, and the rounds of statistics.
 #![tactic(auto)]
 
 mod codec_setters;
