@@ -4,10 +4,11 @@ use rtc_peer::{CodecConfig, RtcConfig};
 use std::alloc::{AllocError, Global};
 
 fn with_codecs(
-    config: RtcConfig,
+    mut config: RtcConfig,
     codecs: Result<CodecConfig, AllocError>,
 ) -> Result<Option<RtcConfig>, AllocError> {
-    Ok(Some(config.set_codec_config(codecs?)))
+    *config.codec_config() = codecs?;
+    Ok(Some(config))
 }
 
 // The certificate `abc`, and starts that may be told by session descriptions, or not.
