@@ -1,7 +1,7 @@
 #!/usr/bin/env python3
 """Counts instructions of the proved programs by valgrind --tool=callgrind, so that growth is seen. It is no part of the gate.
 
-usage: tests/measure.py [PART..]     PART is descriptions, rounds, orderly, messages, associations, streams, channels, forged, lookups,
+usage: tests/measure.py [PART..]     PART is descriptions, rounds, orderly, associations, streams, channels, forged, lookups,
 frames, polls, connecting or demos; without one all are counted
 
 The programs are those that the gate left in crates/*/out/. Each figure is a difference of two runs, so that the start of the
@@ -105,14 +105,6 @@ def orderly():
             if report.count(b" finished\n") != rounds + 1:
                 sys.exit(f"measure: a round of {rounds} that are {kind} did not finish")
             print(f"| {kind} | {lines} | {rounds} | {cost - start:,} | {(cost - start) // rounds:,} | {(cost - start) // rounds // lines:,} |")
-
-
-def messages():
-    print("| Bytes | Instructions | A byte |\n|---|---|---|")
-    start, _ = count([program("rtc_examples_parts")], b"messages of 0 bytes\n")
-    for size in (1_024, 16_384, 65_536, 262_144):
-        cost, _ = count([program("rtc_examples_parts")], b"messages of %d bytes\n" % size)
-        print(f"| {size:,} | {cost - start:,} | {(cost - start) / size:.1f} |")
 
 
 # The line that asks the program of parts for some work, behind what that is to answer, and what it costs.
@@ -300,7 +292,7 @@ def demos():
 
 def main():
     parts = {
-        "descriptions": descriptions, "rounds": rounds, "orderly": orderly, "messages": messages, "associations": associations,
+        "descriptions": descriptions, "rounds": rounds, "orderly": orderly, "associations": associations,
         "streams": streams, "channels": channels, "forged": forged, "lookups": lookups, "frames": frames, "polls": polls,
         "connecting": connecting, "demos": demos,
     }

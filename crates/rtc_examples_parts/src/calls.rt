@@ -1,6 +1,7 @@
 //! Calls on one end, and their refusals.
 use crate::ends::{Call, SECOND, Step, is_played};
-use rtc_parts::{AssocError, AssocEvent};
+use rtc_examples_cases::every;
+use rtc_parts::{AssocError, AssocEvent, Ppi};
 use std::alloc::Global;
 
 static STARTED_BY_HALVES: [Step; 4] = [
@@ -66,6 +67,19 @@ static RELIABILITY: [Step; 4] = [
     Step::Refuses(Call::SetReliability(4), AssocError::NoStream),
 ];
 
+// Whether payload identifiers have their registered numbers (RFC 8831, section 8).
+fn identifiers() -> bool {
+    every(&[
+        Ppi::Dcep.number() == 50,
+        Ppi::Text.number() == 51,
+        Ppi::Binary.number() == 53,
+        Ppi::EmptyText.number() == 56,
+        Ppi::EmptyBinary.number() == 57,
+        Ppi::of(53) == Ppi::Binary,
+        Ppi::of(52) == Ppi::Other(52),
+    ])
+}
+
 /// Whether a call on one end answers as the rules of the association say.
 pub fn does_agree(alloc: Global, example: &str) -> bool {
     match example {
@@ -75,6 +89,7 @@ pub fn does_agree(alloc: Global, example: &str) -> bool {
         "a closed stream is there and stale" => is_played(alloc, &CLOSED),
         "a message longer than the other end takes is refused" => is_played(alloc, &TOO_LONG),
         "reliability is taken where the stream is there" => is_played(alloc, &RELIABILITY),
+        "of payloads have registered identifiers" => identifiers(),
         _ => false,
     }
 }

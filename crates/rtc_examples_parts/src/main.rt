@@ -16,7 +16,6 @@ mod dtls;
 mod ends;
 mod ends_work;
 mod forged;
-mod formats;
 mod free_ids;
 mod ice;
 mod lookups;
@@ -24,7 +23,6 @@ mod losses;
 mod media;
 mod media_steps;
 mod media_updates;
-mod messages;
 mod notes;
 mod peers;
 mod pieces;
@@ -50,9 +48,7 @@ fn do_associations_agree(alloc: Global, subject: &str, name: &str) -> bool {
     match subject {
         "calls" => calls::does_agree(alloc, name),
         "closes" => closes::does_agree(alloc, name),
-        "formats" => formats::does_agree(alloc, name),
         "losses" => losses::does_agree(alloc, name),
-        "messages" => messages::does_agree(alloc, name),
         "packets" => forged::does_agree(alloc, name),
         "pieces" => pieces::does_agree(alloc, name),
         "starts" => starts::does_agree(alloc, name),

@@ -26,6 +26,18 @@ static SENT: [Step; 8] = [
     Step::IsQuiet,
 ];
 
+// A message of exactly one piece, and one of no bytes.
+static WHOLE: [Step; 8] = [
+    Step::Does(Call::Connect(40)),
+    Step::Does(Call::Open(0)),
+    Step::Does(Call::Write(0, b"abcdefghijkl")),
+    Step::Does(Call::Write(0, b"")),
+    Step::Sends(&[1]),
+    Step::Sends(b"\x03\0\0\0\0\0\0\0\0\0\0\0\0\0\0\0\x01\0\0\0\0\0\0\x01\0\0\0\x35abcdefghijkl"),
+    Step::Sends(b"\x03\0\0\0\0\0\0\0\0\0\0\0\0\0\0\0\x02\0\0\0\0\0\0\x01\0\0\0\x35"),
+    Step::IsQuiet,
+];
+
 static TAKEN_IN_ORDER: [Step; 14] = [
     Step::Does(Call::Accept(40)),
     Step::Does(Call::Give(0, THIRD)),
@@ -84,6 +96,7 @@ static ACKNOWLEDGED: [Step; 14] = [
 pub fn does_agree(alloc: Global, example: &str) -> bool {
     match example {
         "a message goes in pieces of 12, 12 and 6 bytes" => is_played(alloc, &SENT),
+        "messages of one piece and of no bytes go whole" => is_played(alloc, &WHOLE),
         "pieces are taken in their order alone" => is_played(alloc, &TAKEN_IN_ORDER),
         "unacknowledged items are sent again after one second" => is_played(alloc, &SENT_AGAIN),
         "acknowledgements lower the buffered amount" => is_played(alloc, &ACKNOWLEDGED),

@@ -92,8 +92,7 @@ fn reply(alloc: Global, said: &Says) -> Result<AssocReply, AllocError> {
     })
 }
 
-/// Adds the steps of a script.
-pub fn add_steps(
+fn add_steps(
     alloc: Global,
     steps: &mut Vec<AssocStep>,
     script: &[(Do, Says)],
@@ -117,18 +116,14 @@ fn add_replies(
     Ok(())
 }
 
-/// The replies of two fresh ends, whose packets have at most so many bytes.
-pub fn replies_to(
-    alloc: Global,
-    max_payload: usize,
-    steps: &[AssocStep],
-) -> Result<Vec<AssocReply>, AllocError> {
-    if steps.len() > 10_000 || max_payload < 29 || max_payload > 1900 {
+// The replies of two fresh ends, whose packets have at most 40 bytes.
+fn replies_to(alloc: Global, steps: &[AssocStep]) -> Result<Vec<AssocReply>, AllocError> {
+    if steps.len() > 10_000 {
         return Err(AllocError);
     }
     let mut left = PlainAssociation::new(alloc);
     let mut right = PlainAssociation::new(alloc);
-    run_assoc(alloc, max_payload, steps, &mut left, &mut right)
+    run_assoc(alloc, 40, steps, &mut left, &mut right)
 }
 
 fn plays(
@@ -139,7 +134,7 @@ fn plays(
 ) -> Result<bool, AllocError> {
     add_steps(alloc, steps, script)?;
     add_replies(alloc, replies, script)?;
-    let given = replies_to(alloc, 40, steps.as_slice());
+    let given = replies_to(alloc, steps.as_slice());
     Ok(is_list(given, replies.as_slice()))
 }
 
