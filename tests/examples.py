@@ -1,8 +1,8 @@
 #!/usr/bin/env python3
-"""Writes `stdin` and `stdout` of the programs that the gate runs over stored examples, those of crates/rtc_*_examples that have
+"""Writes `stdin` and `stdout` of the programs that the gate runs over stored examples, those of crates/rtc_examples_* that have
 `data/calls`. `stdin` names each example of the crate's `data/`: the lines of each file `calls`, and the offers, each beside its
 answer. `stdout` has each of these lines behind `agrees`. With --check nothing is written, and what is not current is refused, as are
-an offer without an answer and a call that `data/calls` leaves out.
+an offer without an answer, a call that `data/calls` leaves out, and a file or a line of tests/WORKED_EXAMPLES.md that is not there.
 
 usage: tests/examples.py [--check]
 """
@@ -42,12 +42,26 @@ def examples(crate):
     return lines, wrong
 
 
+# What the list of worked examples names and is not there.
+def lost():
+    for line in read(os.path.join(TOP, "tests", "WORKED_EXAMPLES.md")).splitlines():
+        if not line.startswith("| ") or line.startswith("| Example "):
+            continue
+        for named in re.findall(r"`([^`]+)`", line.split(" | ")[-1]):
+            crate, _, example = named.partition(": ")
+            there = os.path.exists(os.path.join(TOP, named))
+            if example:
+                there = example in read(os.path.join(TOP, "crates", crate, "stdin")).splitlines()
+            if not there:
+                yield f"tests/WORKED_EXAMPLES.md: {named}"
+
+
 def main():
     check = sys.argv[1:] == ["--check"]
     if sys.argv[1:] and not check:
         sys.exit(__doc__)
     wrong = []
-    for calls in sorted(glob.glob(os.path.join(TOP, "crates", "rtc_*_examples", "data", "calls"))):
+    for calls in sorted(glob.glob(os.path.join(TOP, "crates", "rtc_examples_*", "data", "calls"))):
         crate = os.path.dirname(os.path.dirname(calls))
         name = os.path.basename(crate)
         lines, found = examples(crate)
@@ -59,6 +73,7 @@ def main():
                     out.write(text)
             elif not os.path.isfile(path) or read(path) != text:
                 wrong.append(f"{name}/{file}: run tests/examples.py")
+    wrong += list(lost())
     for what in wrong:
         print(f"WRONG {what}")
     return 1 if wrong else 0

@@ -1,7 +1,7 @@
 #!/usr/bin/env python3
 """Counts instructions of the proved programs by valgrind --tool=callgrind, so that growth is seen. It is no part of the gate.
 
-usage: tests/measure.py [PART..]     PART is descriptions, rounds, orderly, messages, associations, streams, channels, forged, lookups,
+usage: tests/measure.py [PART..]     PART is descriptions, rounds, orderly, associations, streams, channels, forged, lookups,
 frames, polls, connecting or demos; without one all are counted
 
 The programs are those that the gate left in crates/*/out/. Each figure is a difference of two runs, so that the start of the
@@ -107,27 +107,20 @@ def orderly():
             print(f"| {kind} | {lines} | {rounds} | {cost - start:,} | {(cost - start) // rounds:,} | {(cost - start) // rounds // lines:,} |")
 
 
-def messages():
-    print("| Bytes | Instructions | A byte |\n|---|---|---|")
-    start, _ = count([program("rtc_association_examples")], b"messages of 0 bytes\n")
-    for size in (1_024, 16_384, 65_536, 262_144):
-        cost, _ = count([program("rtc_association_examples")], b"messages of %d bytes\n" % size)
-        print(f"| {size:,} | {cost - start:,} | {(cost - start) / size:.1f} |")
+# The line that asks the program of parts for some work, behind what that is to answer, and what it costs.
+def work(answer, *words):
+    return f"work {answer} {' '.join(map(str, words))}\n".encode()
 
 
-# The line that asks the program of parts for some work, and what that costs.
-def work(*words):
-    return f"{' '.join(map(str, words))}\n".encode()
+def count_work(answer, *words):
+    return count([program("rtc_examples_parts")], work(answer, *words))[0]
 
 
-def count_work(*words):
-    return count([program("rtc_parts_measure")], work(*words))[0]
-
-
-# Two plain associations: a message over one of so many open streams, and streams that are opened, used and reset in turn.
+# Two plain associations: a message over one of so many open streams, and streams that are opened, used and reset in turn. The answer is
+# the length of the message, or the number of streams.
 def associations():
-    def cost(*words):
-        return count_work("association", *words)
+    def cost(word, amount, *more):
+        return count_work(amount, "association", word, amount, *more)
 
     print("| Open streams | Bytes | Instructions over those for 0 bytes | A byte |\n|---|---|---|---|")
     for streams in (1, 100, 10_000):
@@ -144,15 +137,17 @@ def associations():
     start = cost("resets", 0)
     for streams in (300, 3_000, 30_000):
         more = cost("resets", streams) - start
-        most = memory([program("rtc_parts_measure")], work("association", "resets", streams))
+        most = memory([program("rtc_examples_parts")], work(streams, "association", "resets", streams))
         print(f"| {streams:,} | {more:,} | {more // streams:,} | {most:,} |")
 
 
 # The streams of two peers: a poll that gives nothing, a message over the first or the last of so many open streams, streams that are
-# opened at once, and channels that are given streams.
+# opened at once, and channels that are given streams. The answer is how many events are told, two for each stream and one for each
+# message, or the stream of the last channel.
 def streams():
-    def cost(*words):
-        return count_work("streams", *words)
+    def cost(word, streams, *more):
+        messages = more[1] if word == "message" else 0
+        return count_work(2 * streams + messages, "streams", word, streams, *more)
 
     print("| Open streams | A poll that gives nothing | A stream | A message over the first | Over the last |\n|---|---|---|---|---|")
     for open_streams in (1, 100, 1_000, 10_000):
@@ -170,7 +165,7 @@ def streams():
         print(f"| {at_once:,} | {more:,} | {more // at_once:,} |")
     print("\n| Channels given streams at once | Instructions | A channel |\n|---|---|---|")
     for channels in (100, 1_000, 10_000, 30_000):
-        more = count_work("channels", "allocate", channels, 1) - count_work("channels", "allocate", channels, 0)
+        more = count_work(2 * (channels - 1), "channels", "allocate", channels, 1) - count_work(0, "channels", "allocate", channels, 0)
         print(f"| {channels:,} | {more:,} | {more // channels:,} |")
 
 
@@ -180,7 +175,7 @@ def streams():
 def channels():
     def cost(open_channels, messages, size):
         line = work("work", "one", open_channels, messages, size)
-        more, told = count([program("rtc_stack_examples")], line)
+        more, told = count([program("rtc_examples_peers")], line)
         if told != b"agrees " + line:
             sys.exit(f"measure: {line} ended with {told!r}")
         return more
@@ -205,13 +200,13 @@ def memory(words, given=b""):
 def forged():
     print("| Forged packets | Greatest memory, KiB |\n|---|---|")
     for packets in (1, 1_000, 100_000):
-        print(f"| {packets:,} | {memory([program('rtc_parts_measure')], work('association', 'forged', packets)):,} |")
+        print(f"| {packets:,} | {memory([program('rtc_examples_parts')], work(packets, 'association', 'forged', packets)):,} |")
 
 
 # Look-ups of the last of so many entries of a plain part.
 def lookups():
-    def cost(*words):
-        return count_work("lookups", *words)
+    def cost(subject, entries, times):
+        return count_work(times, "lookups", subject, entries, times)
 
     print("| Entries | An ssrc in use | A stream by line and layer | The address of a candidate |\n|---|---|---|---|")
     for entries in (10, 100, 1_000, 10_000):
@@ -297,7 +292,7 @@ def demos():
 
 def main():
     parts = {
-        "descriptions": descriptions, "rounds": rounds, "orderly": orderly, "messages": messages, "associations": associations,
+        "descriptions": descriptions, "rounds": rounds, "orderly": orderly, "associations": associations,
         "streams": streams, "channels": channels, "forged": forged, "lookups": lookups, "frames": frames, "polls": polls,
         "connecting": connecting, "demos": demos,
     }

@@ -5,7 +5,7 @@ usage: tests/real_texts.py crates/rtc_sdp_text/out/rtc_sdp_text FOLDER
 
 FOLDER has the texts and `verdicts.json`: for each text whether it is an offer or an answer, and whether the grammar reads
 it, with the kind, mid and direction of each line, or refuses it, with the number of the line. It is no part of the gate,
-and of such texts only some offers are in this repository, in crates/rtc_stack_examples/data/.
+and of such texts only some offers are in this repository, in crates/rtc_examples_peers/data/.
 """
 import json
 import os

@@ -1,7 +1,7 @@
 #!/usr/bin/env python3
-"""Writes what a fresh peer answers to each offer of another stack in crates/rtc_stack_examples/data/offers/, by the rules of
-docs/FORMATS.md ("What media lines have of them", "Which descriptions a peer accepts"): NAME.answer for NAME.offer, a line for each
-m-line of the answer, or `refused TEXT`. With --check nothing is written, and what is not current is refused.
+"""Writes what a fresh peer answers to each offer of another stack in crates/rtc_examples_peers/data/offers/, by the rules of
+docs/FORMATS.md ("What media lines have of them", "Which descriptions a peer accepts"): NAME.answer for NAME.offer, which has of the lines
+of the answer's text the m-lines, mids, extensions and directions, in their order, or `refused TEXT`. With --check nothing is written, and what is not current is refused.
 
 usage: tests/stack_answers.py [--check]
 """
@@ -9,7 +9,7 @@ import glob
 import os
 import sys
 
-OFFERS = os.path.join(os.path.dirname(os.path.dirname(os.path.abspath(__file__))), "crates", "rtc_stack_examples", "data", "offers")
+OFFERS = os.path.join(os.path.dirname(os.path.dirname(os.path.abspath(__file__))), "crates", "rtc_examples_peers", "data", "offers")
 # The codecs that are on by default, in their order: name, clock, channels, and whether packets are sent again.
 AUDIO = [("opus", 48000, 2, False)]
 VIDEO = [(name, 90000, 1, True) for name in ("vp8", "h264", "h265", "vp9", "av1")]
@@ -57,31 +57,28 @@ def payloads(part, own):
         fits = [pt for pt in formats if rows.get(pt) == (name, clock, channels)]
         if fits:
             rtx = again.get(fits[0]) if resends else None
-            yield f"{fits[0]}/{rtx}" if rtx else fits[0]
+            yield f"{fits[0]} {rtx}" if rtx else fits[0]
 
 
 def extensions(part):
     for value in values(part, "a=extmap:"):
         number, uri = value.split(" ")[:2]
         if uri in EXTENSIONS:
-            yield number.split("/")[0]
+            yield f"a=extmap:{number.split('/')[0]} {uri}"
 
 
-def listed(words):
-    return " ".join(words) or "-"
-
-
+# The lines of an answer that are compared, for a line of its offer. An answer names a line of data channels by its own words.
 def answered(part, group):
     kind, port = part[0][2:].split(" ")[:2]
     mid = values(part, "a=mid:")[0]
     offered = [line[2:] for line in part if line[2:] in INVERSE] + ["sendrecv"]
     rejected = port == "0" and mid not in group
-    direction = "inactive" if rejected else INVERSE[offered[0]]
-    head = f"line {mid} {kind} {direction} {'rejected' if rejected else 'taken'}"
+    place = "0" if rejected else "9"
     if kind == "application":
-        return head
-    rows = payloads(part, VIDEO if kind == "video" else AUDIO)
-    return f"{head} payloads {listed(rows)} extensions {listed(extensions(part))}"
+        return [f"m=application {place} UDP/DTLS/SCTP webrtc-datachannel", f"a=mid:{mid}"]
+    direction = "inactive" if rejected else INVERSE[offered[0]]
+    head = " ".join([f"m={kind} {place} UDP/TLS/RTP/SAVPF", *payloads(part, VIDEO if kind == "video" else AUDIO)])
+    return [head, f"a=mid:{mid}", *extensions(part), f"a={direction}"]
 
 
 def answer(offer):
@@ -93,7 +90,7 @@ def answer(offer):
     groups = values(parts[0], "a=group:BUNDLE")
     if not groups:
         return "refused no BUNDLE group\n"
-    return "".join(f"{answered(part, groups[0].split())}\n" for part in parts[1:])
+    return "".join(f"{line}\n" for part in parts[1:] for line in answered(part, groups[0].split()))
 
 
 def main():

@@ -1,4 +1,3 @@
 pub mod RtcConfig
 pub mod CodecSettings
-pub mod FormedConfig
 pub mod Stats

@@ -69,13 +69,20 @@ default_media = record {
 abbrev pub default_sctp : SctpSettings
 default_sctp = record { max_buffered_amount = 131_072; max_message_size = 262_144; snap_enabled = false }
 
+-- the codecs and the header extensions where none are set
+unfoldable pub unset_codecs : CodecConfig
+unset_codecs = default_codecs
+
+unfoldable pub unset_extensions : ExtensionMap
+unset_extensions = record { rows = standard_rows }
+
 -- what a peer is built from where nothing is set
 abbrev pub default_config : PeerConfig
 default_config = record {
   ice = default_ice;
   dtls = default_dtls;
-  codecs = default_codecs;
-  extensions = record { rows = standard_rows };
+  codecs = unset_codecs;
+  extensions = unset_extensions;
   stats_interval = None;
   media = default_media;
   sctp = default_sctp;

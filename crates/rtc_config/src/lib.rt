@@ -1,4 +1,4 @@
-//! All settings of a configuration, which no peer takes yet, and the rounds of statistics.
+//! What a peer is built from, and the rounds of statistics.
 #![tactic(auto)]
 
 mod codec_setters;
@@ -15,5 +15,6 @@ mod stats;
 
 pub use dtls_settings::DtlsSettings;
 pub use ice_settings::IceSettings;
+pub use rtc_config::RtcConfig;
 pub use sctp_settings::SctpSettings;
 pub use stats::Stats;

@@ -1,6 +1,6 @@
 //! Configurations of peers.
 ghost use Rattle.std.specs.Prelude.{◌≡◌, IfOk};
-ghost use Rattle.rtc_config.specs.FormedConfig.{IsFormedConfig};
+ghost use Rattle.rtc_sdp_codecs.specs.FormedCodecs.{AreFormedRows, AreFormedExtensions};
 ghost use Rattle.rtc_config.specs.RtcConfig as spec;
 
 use crate::{DtlsSettings, IceSettings, SctpSettings};
@@ -15,8 +15,8 @@ use rtc_wire::{
 use std::alloc::{AllocError, Global};
 use std::marker::Model;
 
-/// All settings of a peer. `Rtc::build` takes the smaller `RtcConfig` of `rtc_peer_core`; no peer takes this one yet.
-#[derive(Debug, Drop)]
+/// What a peer is built from.
+#[derive(Debug)]
 pub struct RtcConfig {
     pub(crate) alloc: Global,
     pub(crate) ice: IceSettings,
@@ -46,6 +46,23 @@ impl Model for RtcConfig {
     } };
 
     ghost invariant = { λ config. IsShortCert config.dtls.cert × AreMediaSettings config.media × IsMtu config.mtu };
+}
+
+// Written out, so that the proof of what owns a configuration sees one call and not the drop of each field.
+impl Drop for RtcConfig {
+    fn drop(self) {
+        let RtcConfig {
+            alloc: _alloc,
+            ice: _ice,
+            dtls: _dtls,
+            codecs: _codecs,
+            extensions: _extensions,
+            stats_interval: _stats_interval,
+            media: _media,
+            sctp: _sctp,
+            mtu: _mtu,
+        } = self;
+    }
 }
 
 // The settings of the ICE part where none are set.
@@ -92,11 +109,14 @@ fn default_sctp() -> SctpSettings
 }
 
 impl RtcConfig {
-    /// The default.
-    #[tactic(auto, using(crate::proofs::FormedDefault::formed_where_default))]
+    /// The default: an agent that makes checks, a peer that draws its credentials and its certificate, DTLS 1.2 and certificates that are
+    /// verified, the codecs and header extensions that are enabled by default, no statistics, and no start of the association by session
+    /// descriptions.
+    #[tactic(auto, using(crate::proofs::FormedDefault::rows_where_default, crate::proofs::FormedDefault::extensions_where_default), unfolding(crate::specs::RtcConfig::unset_codecs, crate::specs::RtcConfig::unset_extensions))]
     pub fn new(alloc: Global) -> Result<RtcConfig, AllocError>
         ensures value { IfOk result (λ config. config ≡ spec.default_config) }
-        ensures formed { IfOk result (λ config. IsFormedConfig config) }
+        ensures codecs { IfOk result (λ config. AreFormedRows config.codecs.rows) }
+        ensures extensions { IfOk result (λ config. AreFormedExtensions config.extensions.rows) }
     {
         let codecs = make_default_codecs(alloc)?;
         let extensions = ExtensionMap::standard(alloc)?;
@@ -115,6 +135,24 @@ impl RtcConfig {
             sctp: default_sctp(),
             mtu: (DATAGRAM_MTU_TARGET, DATAGRAM_MTU_WARN),
         })
+    }
+
+    /// The codecs and the header extensions, which are all that is kept of the configuration.
+    pub fn into_formats(self) -> (CodecConfig, ExtensionMap)
+        ensures { result ≡ (self.codecs, self.extensions) }
+    {
+        let RtcConfig {
+            alloc: _,
+            ice: _,
+            dtls: _,
+            codecs,
+            extensions,
+            stats_interval: _,
+            media: _,
+            sctp: _,
+            mtu: _,
+        } = self;
+        (codecs, extensions)
     }
 }
 

@@ -1,4 +1,3 @@
-pub mod BuiltFrom
 pub mod Described
 pub mod Labelled
 pub mod Readings

@@ -1,23 +1,33 @@
 //! What a peer is built from.
-ghost use Rattle.std.specs.Prelude.{◌≡◌, IfOk, None, true};
+ghost use Rattle.std.specs.Prelude.{◌≡◌, IfOk, None, true, false};
 ghost use Rattle.rtc_peer_core.specs.Built.{AreFresh, Builds};
-ghost use Rattle.rtc_peer_core.specs.Formats.{AreFormedFormats};
+ghost use Rattle.rtc_config.specs.RtcConfig.{default_config};
+ghost use Rattle.rtc_peer_core.specs.Formats.{formats_of, AreFormedFormats};
 ghost use Rattle.rtc_peer_core.specs.Formed.{IsFormed};
 ghost use Rattle.rtc_peer_core.specs.Meanings.{meanings};
 ghost use Rattle.rtc_peer_core.specs.Stance.{stance_of};
 ghost use Rattle.rtc_peer_transport.specs.Connection.{no_transport};
-ghost use Rattle.rtc_peer.specs.BuiltFrom.{standard_config};
 
 use crate::Rtc;
+use rtc_config::RtcConfig;
 use rtc_lines::CodecConfig;
 use rtc_part_association::Association;
 use rtc_part_draws::Ids;
 use rtc_part_dtls::DtlsInstance;
 use rtc_part_ice::IceAgent;
 use rtc_part_media::MediaSession;
-use rtc_peer_core::RtcConfig;
 use rtc_wire::Moment;
 use std::alloc::{AllocError, Global};
+
+// The default config, whose codecs and header extensions are formed.
+#[tactic(auto, using(rtc_peer_core::proofs::BuiltPeers::formats_formed))]
+fn make_default(alloc: Global) -> Result<RtcConfig, AllocError>
+    ensures value { IfOk result (λ config. config ≡ default_config) }
+    ensures formed { IfOk result (λ config. AreFormedFormats (formats_of config)) }
+{
+    let config = RtcConfig::new(alloc)?;
+    Ok(config)
+}
 
 impl<
     I: IceAgent + Drop,
@@ -38,11 +48,11 @@ impl<
     ) -> Result<Rtc<I, D, S, M, N>, AllocError>
         requires fresh { AreFresh (meanings I.ice D.dtls S.association M.media N.ids) ice dtls association media }
         ensures built { IfOk result (λ rtc. Builds (meanings I.ice D.dtls S.association M.media N.ids)
-            alloc standard_config start ice dtls association media ids rtc.core) }
-        ensures unconnected { IfOk result (λ rtc. rtc.transport ≡ no_transport true None) }
+            alloc default_config start ice dtls association media ids rtc.core) }
+        ensures unconnected { IfOk result (λ rtc. rtc.transport ≡ no_transport true false None) }
         ensures formed { IfOk result (λ rtc. IsFormed (stance_of (meanings I.ice D.dtls S.association M.media N.ids) rtc.core)) }
     {
-        let config = RtcConfig::new(alloc)?;
+        let config = make_default(alloc)?;
         Rtc::build(alloc, config, start, ice, dtls, association, media, ids)
     }
 }
@@ -50,10 +60,10 @@ impl<
 impl<I: IceAgent, D: DtlsInstance, S: Association, M: MediaSession, N: Ids> Rtc<I, D, S, M, N> {
     /// The default config, whose setters say what a peer is built from.
     pub fn builder(alloc: Global) -> Result<RtcConfig, AllocError>
-        ensures value { IfOk result (λ config. config ≡ standard_config) }
-        ensures formed { IfOk result (λ config. AreFormedFormats config.formats) }
+        ensures value { IfOk result (λ config. config ≡ default_config) }
+        ensures formed { IfOk result (λ config. AreFormedFormats (formats_of config)) }
     {
-        RtcConfig::new(alloc)
+        make_default(alloc)
     }
 
     /// The codecs of the config that it was built from. Negotiation leaves them as they are: what a line has is its own.

@@ -20,6 +20,7 @@ pub use direct_api::DirectApi;
 pub use rtc::Rtc;
 pub use rtc_change::{AddMedia, Change, Changes, Lines, NewLine, SdpPendingOffer, Why};
 pub use rtc_channels::{ChannelError, ChannelRow};
+pub use rtc_config::RtcConfig;
 pub use rtc_lines::{
     Candidate, CandidateKind, CodecConfig, Direction, Extension, ExtensionMap, Fingerprint,
     IceCreds, Inconsistent, LineKind, LineRow, MediaKind, MediaLine, Mid, Msid, PayloadRow, Pt,
@@ -29,9 +30,9 @@ pub use rtc_part_association::Association;
 pub use rtc_part_draws::Ids;
 pub use rtc_part_dtls::{DtlsError, DtlsInstance, DtlsVersion};
 pub use rtc_part_ice::{IceAgent, IceConnectionState};
-pub use rtc_part_media::{MediaError, MediaSession, NoStream};
+pub use rtc_part_media::{MediaError, MediaSession, MediaSettings, NoStream, Vp9PacketizerMode};
 pub use rtc_part_values::Reason;
-pub use rtc_peer_core::{RtcConfig, RtcError};
+pub use rtc_peer_core::RtcError;
 pub use rtc_peer_transport::{ChannelData, Event, Input, Output};
 pub use rtc_sctp::{ProtoError, SctpError, SctpInitData};
 pub use sdp_api::SdpApi;

@@ -1,10 +1,10 @@
 //! The peer that callers hold.
-ghost use Rattle.std.specs.Prelude.{◌≡◌, [], IfOk, IfSome, slice_get, true};
+ghost use Rattle.std.specs.Prelude.{◌≡◌, [], IfOk, IfSome, slice_get};
 ghost use Rattle.std.specs.Option.{option_copied};
 ghost use Rattle.rtc_peer_core.specs.declared.phase.Phase.TheVariants.{Closed};
 ghost use Rattle.rtc_peer_core.specs.ChannelRows.{channel_rows};
 ghost use Rattle.rtc_peer_core.specs.Built.{AreFresh, Builds};
-ghost use Rattle.rtc_peer_core.specs.Formats.{AreFormedFormats};
+ghost use Rattle.rtc_peer_core.specs.Formats.{formats_of, AreFormedFormats};
 ghost use Rattle.rtc_peer_core.specs.Formed.{AreSdpCreds, IsFormed};
 ghost use Rattle.rtc_peer_core.specs.Meanings.{meanings};
 ghost use Rattle.rtc_peer_core.specs.Stance.{stance_of};
@@ -14,13 +14,14 @@ ghost use Rattle.rtc_peer.specs.Readings.{media_row_of, is_alive_phase, AddsRemo
 use crate::SdpApi;
 use rtc_change::Lines;
 use rtc_channels::ChannelRow;
+use rtc_config::RtcConfig;
 use rtc_lines::{Candidate, LineRow, Mid};
 use rtc_part_association::Association;
 use rtc_part_draws::Ids;
 use rtc_part_dtls::DtlsInstance;
 use rtc_part_ice::IceAgent;
 use rtc_part_media::MediaSession;
-use rtc_peer_core::{Phase, RtcConfig};
+use rtc_peer_core::Phase;
 use rtc_peer_staging::{build_peer, list_channels, show_channel};
 use rtc_peer_transport::{PolledPeer, Transport};
 use rtc_wire::{Moment, Seq};
@@ -70,7 +71,8 @@ impl<
     N: Ids + Drop,
 > Rtc<I, D, S, M, N> {
     /// The peer of a config over five fresh parts. It draws the number of its session, and its credentials and its certificate
-    /// where none are set. The certificate of the other side has to match the fingerprint that it announces.
+    /// where none are set. Unless the config says otherwise, the certificate of the other side has to match the fingerprint that it
+    /// announces.
     pub fn build(
         alloc: Global,
         config: RtcConfig,
@@ -84,11 +86,14 @@ impl<
         requires fresh { AreFresh (meanings I.ice D.dtls S.association M.media N.ids) ice dtls association media }
         ensures built { IfOk result (λ rtc. Builds (meanings I.ice D.dtls S.association M.media N.ids)
             alloc config start ice dtls association media ids rtc.core) }
-        ensures unconnected { IfOk result (λ rtc. rtc.transport ≡ no_transport true config.stats_interval) }
-        ensures formed { IfOk result (λ rtc. IfSome config.creds AreSdpCreds → AreFormedFormats config.formats
+        ensures unconnected { IfOk result (λ rtc. rtc.transport
+            ≡ no_transport config.dtls.fingerprint_verification config.media.rtp_mode config.stats_interval) }
+        ensures formed { IfOk result (λ rtc. IfSome config.ice.credentials AreSdpCreds → AreFormedFormats (formats_of config)
             → IsFormed (stance_of (meanings I.ice D.dtls S.association M.media N.ids) rtc.core)) }
     {
-        let transport = Transport::new(alloc, true, config.stats_interval())?;
+        let verifies = config.fingerprint_verification();
+        let rtp_mode = config.rtp_mode();
+        let transport = Transport::new(alloc, verifies, rtp_mode, config.stats_interval())?;
         let core = build_peer(alloc, config, start, ice, dtls, association, media, ids)?;
         let _session = core.session_id;
         let _most = core.sctp.local_max_message_size();

@@ -11,6 +11,7 @@ use Rattle.rtc_sdp_values.specs.Direction.{does_send}
 use Rattle.rtc_sdp_values.specs.LineRow.{row_mid}
 use Rattle.rtc_sdp_values.specs.declared.line_row.LineRow.{LineRow}
 use Rattle.rtc_sdp_values.specs.declared.line_row.LineRow.TheVariants.{Media, App}
+use Rattle.rtc_sdp_values.specs.declared.media_kind.MediaKind.{MediaKind}
 use Rattle.rtc_sdp_values.specs.declared.media_line.MediaLine.{MediaLine}
 use Rattle.rtc_sdp_values.specs.declared.sdp.Sdp.{Sdp}
 use Rattle.rtc_sdp_codecs.proofs.AllLemmas.{AreOthers, all_left, all_right, others_none, others_joined}
@@ -21,6 +22,7 @@ use Rattle.rtc_change.specs.declared.add_media.AddMedia.{AddMedia as AddedMedia}
 use Rattle.rtc_change.specs.declared.change.Change.{Change}
 use Rattle.rtc_change.specs.declared.change.Change.TheVariants.{AddMedia, AddApp, AddChannel, Direction as SetDirection, IceRestart}
 use Rattle.rtc_peer_core.specs.declared.formats.Formats.{Formats}
+use Rattle.rtc_peer_core.specs.declared.line_media.LineMedia.{LineMedia}
 use Rattle.rtc_peer_core.specs.declared.peer.Peer.{Peer}
 use Rattle.rtc_peer_core.specs.declared.sending.Sending.{Sending}
 use Rattle.rtc_peer_core.specs.declared.told_row.ToldRow.{ToldRow}
@@ -42,7 +44,7 @@ use Rattle.rtc_peer_core.specs.LineUpdates.{
   after_row,
   row_updates,
 }
-use Rattle.rtc_peer_core.specs.MadeSdp.{media_held, media_told, newest, updates_behind, told_rows, added_told, offered_told, answered_told}
+use Rattle.rtc_peer_core.specs.MadeSdp.{media_of_declared, media_held, media_told, newest, updates_behind, told_rows, added_told, offered_told, answered_told}
 use Rattle.rtc_peer_core.specs.Meanings.{Meanings}
 use Rattle.rtc_peer_core.specs.SdpMoves.{rows_of_sdp, sends_on, updates_for}
 use Rattle.rtc_peer_core.specs.Sources.{Pair, pair_count, next_pairs, is_number}
@@ -208,16 +210,22 @@ line_after_single updates mid before all single = latest_single mid updates _ al
 
 -- ---- rows as they are told
 
-newest_single : (updates : List MediaUpdate) (held : Option MediaUpdate) → AllByRecursion IsSingleUpdate updates → IfSome held IsSingleUpdate
-    → AreSingle (media_held (newest updates held)).ssrcs
-newest_single [] None all single = tt
-newest_single [] (Some update) all single = single
-newest_single (update ∷ updates) held all single = all.0
+declared_single : (formats : Formats) (stopped : Bool) (kind : MediaKind) (mid : List ℕ)
+    → AreSingle (media_of_declared formats stopped kind mid).ssrcs
+declared_single formats true kind mid = tt
+declared_single formats false kind mid = tt
 
-media_told_single : (line : List ℕ → Option MediaUpdate) (updates : List MediaUpdate) (row : LineRow) → AreLinesSingle line
-    → AllByRecursion IsSingleUpdate updates → AreSingle (media_told line updates row).ssrcs
-media_told_single line updates (Media place mid kind dir stopped remote_created) held all = newest_single updates (line mid) all (held mid)
-media_told_single line updates (App place mid) held all = tt
+newest_single : (declared : LineMedia) (updates : List MediaUpdate) (held : Option MediaUpdate) → AreSingle declared.ssrcs
+    → AllByRecursion IsSingleUpdate updates → IfSome held IsSingleUpdate → AreSingle (media_held declared (newest updates held)).ssrcs
+newest_single declared [] None own all single = own
+newest_single declared [] (Some update) own all single = single
+newest_single declared (update ∷ updates) held own all single = all.0
+
+media_told_single : (formats : Formats) (line : List ℕ → Option MediaUpdate) (updates : List MediaUpdate) (row : LineRow)
+    → AreLinesSingle line → AllByRecursion IsSingleUpdate updates → AreSingle (media_told formats line updates row).ssrcs
+media_told_single formats line updates (Media place mid kind dir stopped remote_created) held all =
+    newest_single (media_of_declared formats stopped kind mid) updates (line mid) (declared_single formats stopped kind mid) all (held mid)
+media_told_single formats line updates (App place mid) held all = tt
 
 behind_single : (row : LineRow) (updates : List MediaUpdate) → AllByRecursion IsSingleUpdate updates
     → AllByRecursion IsSingleUpdate (updates_behind row updates)
@@ -225,11 +233,13 @@ behind_single (Media place mid kind dir stopped remote_created) [] all = tt
 behind_single (Media place mid kind dir stopped remote_created) (update ∷ updates) all = all.1
 behind_single (App place mid) updates all = all
 
-told_single : (line : List ℕ → Option MediaUpdate) (updates : List MediaUpdate) (rows : List LineRow) → AreLinesSingle line
-    → AllByRecursion IsSingleUpdate updates → AllByRecursion IsSingleTold (told_rows line updates rows)
-told_single line updates [] held all = tt
-told_single line updates (row ∷ rows) held all =
-    (media_told_single line updates row held all, told_single line (updates_behind row updates) rows held (behind_single row updates all))
+told_single : (formats : Formats) (line : List ℕ → Option MediaUpdate) (updates : List MediaUpdate) (rows : List LineRow)
+    → AreLinesSingle line → AllByRecursion IsSingleUpdate updates → AllByRecursion IsSingleTold (told_rows formats line updates rows)
+told_single formats line updates [] held all = tt
+told_single formats line updates (row ∷ rows) held all = (
+  media_told_single formats line updates row held all,
+  told_single formats line (updates_behind row updates) rows held (behind_single row updates all),
+)
 
 added_told_single : (formats : Formats) (place : ℕ) (changes : List Change) → AreStagedSingle changes
     → AllByRecursion IsSingleTold (added_told formats place changes)
@@ -243,9 +253,9 @@ added_told_single formats place (IceRestart creds keeps ∷ changes) all = added
 -- what an offer tells, and what an answer does
 pub offered_single : (s : Stance) → AreLinesSingle s.line → AreStagedSingle s.staged → AllByRecursion IsSingleTold (offered_told s)
 offered_single s held staged =
-    all-append IsSingleTold (told_rows s.line [] s.lines) (added_told s.formats (length s.lines) s.staged)
-    (told_single s.line [] s.lines held tt) (added_told_single s.formats (length s.lines) s.staged staged)
+    all-append IsSingleTold (told_rows s.formats s.line [] s.lines) (added_told s.formats (length s.lines) s.staged)
+    (told_single s.formats s.line [] s.lines held tt) (added_told_single s.formats (length s.lines) s.staged staged)
 
 pub answered_single : (s : Stance) (updates : List MediaUpdate) (offer : Sdp) → AreLinesSingle s.line
     → AllByRecursion IsSingleUpdate updates → AllByRecursion IsSingleTold (answered_told s updates offer)
-answered_single s updates offer held all = told_single s.line updates _ held all
+answered_single s updates offer held all = told_single s.formats s.line updates _ held all

@@ -19,9 +19,11 @@ use Rattle.rtc_peer_core.specs.Built.{AreFresh, Builds, creds_or, session_drawn}
 use Rattle.rtc_peer_core.specs.Creds.{lower_hex_digit, hex_digits, drawn_creds}
 use Rattle.rtc_peer_core.specs.Meanings.{Meanings, PartsLaws}
 use Rattle.rtc_peer_core.specs.Stance.{stance_of}
-use Rattle.rtc_peer_core.specs.Config.{Config}
+use Rattle.rtc_sdp_codecs.specs.FormedCodecs.{AreFormedRows, AreFormedExtensions}
+use Rattle.rtc_config.specs.RtcConfig.{PeerConfig}
 use Rattle.rtc_part_draws.specs.Draws.{Draws}
-use Rattle.rtc_peer_core.specs.Formats.{AreFormedFormats}
+use Rattle.rtc_part_media.specs.MediaActs.{ByOther, Configured}
+use Rattle.rtc_peer_core.specs.Formats.{formats_of, AreFormedFormats}
 use Rattle.rtc_peer_core.specs.Formed.{IsSdpWord, AreSdpCreds, IsSha256, IsFormed}
 use Rattle.rtc_peer_core.proofs.Alls.{all-append, all_token}
 
@@ -89,6 +91,11 @@ fingerprint_by_sha256 cert made is =
     let same : (let by : Fingerprint = record { hash_func = codes "sha-256"; bytes = sha256 cert } in by) ≡ made = cc in
     subst IsSha256 same (record { name = refl; size = length-sha256 cert; bytes = sha256_small cert })
 
+-- the codecs and header extensions of a config are formed where both are
+pub formats_formed : (config : PeerConfig) → AreFormedRows config.codecs.rows → AreFormedExtensions config.extensions.rows
+    → AreFormedFormats (formats_of config)
+formats_formed config codecs extensions = record { codecs = codecs; extensions = extensions }
+
 -- credentials that are set are words, and so are drawn ones
 creds_are_words : {N : Type 0} (draws : Draws N) (set : Option IceCreds) (ids : N) → IfSome set AreSdpCreds → AreSdpCreds (creds_or draws set ids)
 creds_are_words draws None ids h = drawn_creds_words (draws.drawn ids)
@@ -96,23 +103,24 @@ creds_are_words draws (Some creds) ids h = h
 
 -- The peer that is built is formed, where the credentials of its config are words, its codecs and header extensions are formed, numbers
 -- that are drawn have 64 bits, and the longest message that its streams take is told in 32.
-pub built_formed : {I D S M E X T W N : Type 0} (m : Meanings I D S M E X T W N) → PartsLaws m → (alloc : Global) (config : Config) (start : ℕ)
-    (ice : I) (dtls : D) (association : S) (media : M) (ids : N) (p : Peer I D S M N) → AreFresh m ice dtls association media
-    → IfSome config.creds AreSdpCreds → AreFormedFormats config.formats → m.ids.drawn ids < 2 ^ 64 → p.sctp.local_max < 2 ^ 32
+pub built_formed : {I D S M E X T W N : Type 0} (m : Meanings I D S M E X T W N) → PartsLaws m → (alloc : Global) (config : PeerConfig)
+    (start : ℕ) (ice : I) (dtls : D) (association : S) (media : M) (ids : N) (p : Peer I D S M N) → AreFresh m ice dtls association media
+    → IfSome config.ice.credentials AreSdpCreds → AreFormedFormats (formats_of config) → m.ids.drawn ids < 2 ^ 64 → p.sctp.local_max < 2 ^ 32
     → Builds m alloc config start ice dtls association media ids p → IsFormed (stance_of m p)
 built_formed m laws alloc config start ice dtls association media ids p fresh tokens formats small size built =
     let none : (m.ice.settings ice).candidates ≡ [] = laws.ice.fresh_candidates ice fresh.fresh_ice in
-    let lite = laws.ice.lite_settings ice built.lite_set config.ice_lite built.by_lite in
+    let timed = laws.ice.rto_settings ice built.timed _ _ _ built.by_rto in
+    let lite = laws.ice.lite_settings built.timed built.lite_set config.ice.lite built.by_lite in
     let local = laws.ice.local_settings built.lite_set p.ice _ built.by_creds in
     record {
       session = rw built.rest small;
-      creds = rw local (creds_are_words m.ids config.creds (session_drawn m.ids ids) tokens);
-      candidates = rw (local, lite, none) tt;
+      creds = rw local (creds_are_words m.ids config.ice.credentials (session_drawn m.ids ids) tokens);
+      candidates = rw (local, lite, timed, none) tt;
       fingerprint = fingerprint_by_sha256 _ p.dtls.local built.by_cert.fingerprint;
       rows = rw built.rest tt;
       staged = rw built.rest tt;
       size = size;
       changes = rw built.rest tt;
       formats = rw built.rest formats;
-      media = λ mid. rw (built.rest, laws.media.fresh_line media mid fresh.fresh_media) tt;
+      media = λ mid. rw (laws.media.lines_stay media p.media mid (ByOther (Configured config.media built.by_settings)), laws.media.fresh_line media mid fresh.fresh_media) tt;
     }

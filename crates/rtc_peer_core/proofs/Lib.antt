@@ -1,4 +1,3 @@
-pub mod FormedFormats
 pub mod FreeMid
 pub mod Alls
 pub mod DrawnMids

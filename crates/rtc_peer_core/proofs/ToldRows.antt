@@ -1,10 +1,13 @@
 -- Rows as they are told: which rows they are, what negotiation reads of their lines, and that formed lines are told of formed media.
-use Rattle.std.proofs.Common.{◌≡◌, ◌+◌, inl, inr, true, false, ℕ, List, [], ◌∷◌, ◌++◌, map, length, Option, Some, None, refl, ap, ◌∙◌}
+use Rattle.std.proofs.Common.{◌≡◌, ◌+◌, inl, inr, Bool, true, false, ℕ, List, [], ◌∷◌, ◌++◌, map, length, Option, Some, None, refl, ap, ◌∙◌}
 use Rattle.std.specs.Prelude.{IfSome}
 use Rattle.std.specs.List.{AllByRecursion}
+use Rattle.rtc_wire_text.specs.Tokens.{is_token, is_short_token}
+use Rattle.rtc_wire_text.proofs.TokenLemmas.{both}
 use Rattle.rtc_sdp_values.specs.LineRow.{row_mid}
 use Rattle.rtc_sdp_values.specs.declared.line_row.LineRow.{LineRow}
 use Rattle.rtc_sdp_values.specs.declared.line_row.LineRow.TheVariants.{Media, App}
+use Rattle.rtc_sdp_values.specs.declared.media_kind.MediaKind.{MediaKind}
 use Rattle.rtc_sdp_values.specs.declared.sdp.Sdp.{Sdp}
 use Rattle.rtc_sdp_codecs.proofs.FormedLemmas.{kind_formed, extensions_formed}
 use Rattle.rtc_part_media.specs.declared.media_update.MediaUpdate.{MediaUpdate}
@@ -19,9 +22,10 @@ use Rattle.rtc_peer_core.specs.declared.line_media.LineMedia.{LineMedia}
 use Rattle.rtc_peer_core.specs.declared.sdp_head.SdpHead.{SdpHead}
 use Rattle.rtc_peer_core.specs.declared.told_row.ToldRow.{ToldRow}
 use Rattle.rtc_peer_core.specs.Formats.{AreFormedFormats}
-use Rattle.rtc_peer_core.specs.Formed.{IsFormedMedia, IsFormedUpdate, IsFormedAdded, AreFormedChanges, IsFormed}
+use Rattle.rtc_peer_core.specs.Formed.{HaveTokens, IsFormedMedia, IsFormedUpdate, IsFormedAdded, AreFormedChanges, IsFormed}
 use Rattle.rtc_peer_core.specs.MadeSdp.{
   no_media,
+  media_of_declared,
   media_held,
   media_of_added,
   media_told,
@@ -40,10 +44,11 @@ use Rattle.rtc_peer_core.proofs.Alls.{all-append}
 
 -- ---- which rows are told
 
-pub rows_of_told : (line : List ℕ → Option MediaUpdate) (updates : List MediaUpdate) (rows : List LineRow)
-    → map row_told (told_rows line updates rows) ≡ rows
-rows_of_told line updates [] = refl
-rows_of_told line updates (row ∷ rows) = ap (λ rest. row ∷ rest) (rows_of_told line (updates_behind row updates) rows)
+pub rows_of_told : (formats : Formats) (line : List ℕ → Option MediaUpdate) (updates : List MediaUpdate) (rows : List LineRow)
+    → map row_told (told_rows formats line updates rows) ≡ rows
+rows_of_told formats line updates [] = refl
+rows_of_told formats line updates (row ∷ rows) =
+    ap (λ rest. row ∷ rest) (rows_of_told formats line (updates_behind row updates) rows)
 
 pub rows_of_added : (formats : Formats) (place : ℕ) (changes : List Change)
     → map row_told (added_told formats place changes) ≡ added_rows place changes
@@ -65,13 +70,13 @@ join_same xs xs' ys ys' a b = rw (a, b) refl
 -- an offer tells the rows that are there, then those that it adds
 pub rows_of_offered : (s : Stance) → map row_told (offered_told s) ≡ offered_rows s
 rows_of_offered s =
-    rows_joined (told_rows s.line [] s.lines) (added_told s.formats (length s.lines) s.staged)
-    ∙ join_same _ _ _ _ (rows_of_told s.line [] s.lines) (rows_of_added s.formats (length s.lines) s.staged)
+    rows_joined (told_rows s.formats s.line [] s.lines) (added_told s.formats (length s.lines) s.staged)
+    ∙ join_same _ _ _ _ (rows_of_told s.formats s.line [] s.lines) (rows_of_added s.formats (length s.lines) s.staged)
 
 -- an answer tells the rows that its offer leaves
 pub rows_of_answered : (s : Stance) (updates : List MediaUpdate) (offer : Sdp)
     → map row_told (answered_told s updates offer) ≡ table_after s.lines (parsed_lines offer) true
-rows_of_answered s updates offer = rows_of_told s.line updates (table_after s.lines (parsed_lines offer) true)
+rows_of_answered s updates offer = rows_of_told s.formats s.line updates (table_after s.lines (parsed_lines offer) true)
 
 -- ---- what negotiation reads of a line does not depend on what it carries
 
@@ -100,17 +105,25 @@ no_media_formed = record {
 abbrev pub IsToldFormed : ToldRow → Type 0
 IsToldFormed told = IsFormedMedia told.media
 
-newest_formed : (updates : List MediaUpdate) (held : Option MediaUpdate) → AllByRecursion IsFormedUpdate updates
-    → IfSome held IsFormedUpdate → IsFormedMedia (media_held (newest updates held))
-newest_formed [] None all formed = no_media_formed
-newest_formed [] (Some update) all formed = formed.carried
-newest_formed (update ∷ updates) held all formed = all.0.carried
+-- a line that was declared, under names that are tokens
+declared_formed : (formats : Formats) (stopped : Bool) (kind : MediaKind) (mid : List ℕ) → AreFormedFormats formats → is_token mid ≡ true
+    → IsFormedMedia (media_of_declared formats stopped kind mid)
+declared_formed formats true kind mid own token = no_media_formed
+declared_formed formats false kind mid own token = record {
+  payloads = kind_formed kind formats.codecs.rows own.codecs;
+  exts = extensions_formed kind formats.extensions.rows own.extensions;
+  simulcast = tt;
+  msid = record { stream = token; track = token };
+  cname = token;
+  named = inl refl;
+  ssrcs = tt;
+}
 
-media_told_formed : (line : List ℕ → Option MediaUpdate) (updates : List MediaUpdate) (row : LineRow)
-    → ((mid : List ℕ) → IfSome (line mid) IsFormedUpdate) → AllByRecursion IsFormedUpdate updates
-    → IsFormedMedia (media_told line updates row)
-media_told_formed line updates (Media place mid kind dir stopped remote_created) formed all = newest_formed updates (line mid) all (formed mid)
-media_told_formed line updates (App place mid) formed all = no_media_formed
+newest_formed : (declared : LineMedia) (updates : List MediaUpdate) (held : Option MediaUpdate) → IsFormedMedia declared
+    → AllByRecursion IsFormedUpdate updates → IfSome held IsFormedUpdate → IsFormedMedia (media_held declared (newest updates held))
+newest_formed declared [] None own all formed = own
+newest_formed declared [] (Some update) own all formed = formed.carried
+newest_formed declared (update ∷ updates) held own all formed = all.0.carried
 
 behind_formed : (row : LineRow) (updates : List MediaUpdate) → AllByRecursion IsFormedUpdate updates
     → AllByRecursion IsFormedUpdate (updates_behind row updates)
@@ -118,14 +131,22 @@ behind_formed (Media place mid kind dir stopped remote_created) [] all = tt
 behind_formed (Media place mid kind dir stopped remote_created) (update ∷ updates) all = all.1
 behind_formed (App place mid) updates all = all
 
-pub told_formed : (line : List ℕ → Option MediaUpdate) (updates : List MediaUpdate) (rows : List LineRow)
-    → ((mid : List ℕ) → IfSome (line mid) IsFormedUpdate) → AllByRecursion IsFormedUpdate updates
-    → AllByRecursion IsToldFormed (told_rows line updates rows)
-told_formed line updates [] formed all = tt
-told_formed line updates (row ∷ rows) formed all = (
-  media_told_formed line updates row formed all,
-  told_formed line (updates_behind row updates) rows formed (behind_formed row updates all),
-)
+module _ (formats : Formats) (own : AreFormedFormats formats) (line : List ℕ → Option MediaUpdate)
+    (formed : (mid : List ℕ) → IfSome (line mid) IsFormedUpdate) where
+  media_told_formed : (updates : List MediaUpdate) (row : LineRow) → is_short_token (row_mid row) ≡ true
+      → AllByRecursion IsFormedUpdate updates → IsFormedMedia (media_told formats line updates row)
+  media_told_formed updates (Media place mid kind dir stopped remote_created) short all =
+      newest_formed (media_of_declared formats stopped kind mid) updates (line mid)
+      (declared_formed formats stopped kind mid own (both (is_token mid) _ short).0) all (formed mid)
+  media_told_formed updates (App place mid) short all = no_media_formed
+
+  pub told_formed : (updates : List MediaUpdate) (rows : List LineRow) → HaveTokens rows → AllByRecursion IsFormedUpdate updates
+      → AllByRecursion IsToldFormed (told_rows formats line updates rows)
+  told_formed updates [] tokens all = tt
+  told_formed updates (row ∷ rows) tokens all = (
+    media_told_formed updates row tokens.0 all,
+    told_formed (updates_behind row updates) rows tokens.1 (behind_formed row updates all),
+  )
 
 media_of_added_formed : (formats : Formats) (media : AddedMedia) → AreFormedFormats formats → IsFormedAdded media
     → IsFormedMedia (media_of_added formats media)
@@ -152,10 +173,11 @@ added_formed formats place (IceRestart creds keeps ∷ changes) own all = added_
 -- what the offers and answers of a formed peer tell
 pub offered_media_formed : (s : Stance) → IsFormed s → AllByRecursion IsToldFormed (offered_told s)
 offered_media_formed s formed =
-    all-append IsToldFormed (told_rows s.line [] s.lines) (added_told s.formats (length s.lines) s.staged)
-    (told_formed s.line [] s.lines formed.media tt) (added_formed s.formats (length s.lines) s.staged formed.formats formed.changes)
+    all-append IsToldFormed (told_rows s.formats s.line [] s.lines) (added_told s.formats (length s.lines) s.staged)
+    (told_formed s.formats formed.formats s.line formed.media [] s.lines formed.rows tt) (added_formed s.formats (length s.lines) s.staged formed.formats formed.changes)
 
 pub answered_media_formed : (s : Stance) (updates : List MediaUpdate) (offer : Sdp) → IsFormed s
-    → AllByRecursion IsFormedUpdate updates → AllByRecursion IsToldFormed (answered_told s updates offer)
-answered_media_formed s updates offer formed all =
-    told_formed s.line updates (table_after s.lines (parsed_lines offer) true) formed.media all
+    → HaveTokens (table_after s.lines (parsed_lines offer) true) → AllByRecursion IsFormedUpdate updates
+    → AllByRecursion IsToldFormed (answered_told s updates offer)
+answered_media_formed s updates offer formed tokens all =
+    told_formed s.formats formed.formats s.line formed.media updates (table_after s.lines (parsed_lines offer) true) tokens all

@@ -1,5 +1,4 @@
 pub mod Formats
-pub mod Config
 pub mod Creds
 pub mod Meanings
 pub mod ChannelRows

@@ -43,7 +43,7 @@ change_of_mid mid change = elim (media_of_change change) [
 abbrev pub added_media : List Change → List ℕ → Option AddedMedia
 added_media changes mid = first (change_of_mid mid) changes
 
--- a line that came in an offer has its mid for all names, and no sources yet
+-- a line that came in an offer, or was declared, has its mid for all names, and no sources yet
 abbrev pub bare_sending : List ℕ → Sending
 bare_sending mid = record {
   simulcast = None;

@@ -58,10 +58,6 @@ media_of_update update = record {
   ssrcs = update.ssrcs_tx;
 }
 
-abbrev pub media_held : Option MediaUpdate → LineMedia
-media_held None = no_media
-media_held (Some update) = media_of_update update
-
 -- a line that this side adds has the rows and the extensions of its kind, and what was staged with it
 abbrev pub media_of_added : Formats → AddedMedia → LineMedia
 media_of_added formats media = record {
@@ -72,6 +68,24 @@ media_of_added formats media = record {
   cname = Some media.cname;
   ssrcs = media.ssrcs;
 }
+
+-- a line that was declared and is not negotiated yet has the rows and the extensions of its kind, and its mid for all names; one that is
+-- stopped before has nothing
+abbrev pub media_of_declared : Formats → (stopped : Bool) → MediaKind → List ℕ → LineMedia
+media_of_declared formats true kind mid = no_media
+media_of_declared formats false kind mid = record {
+  payloads = rows_of_kind kind formats.codecs.rows;
+  exts = extensions_of_kind kind formats.extensions.rows;
+  simulcast = None;
+  msid = Some (record { stream_id = mid; track_id = mid });
+  cname = Some mid;
+  ssrcs = [];
+}
+
+-- what a line carries of which a media part has this, if anything, and which is as it was declared where it has nothing
+abbrev pub media_held : LineMedia → Option MediaUpdate → LineMedia
+media_held declared None = declared
+media_held declared (Some update) = media_of_update update
 
 -- a stopped line tells no stream and no source
 abbrev pub shown_msid : Bool → Option Msid → Option Msid
@@ -148,10 +162,12 @@ abbrev pub newest : List MediaUpdate → Option MediaUpdate → Option MediaUpda
 newest [] held = held
 newest (update ∷ updates) held = Some update
 
--- what is told of the line of a row: of media what the first of these updates says, or else what a media part has of its line
-abbrev pub media_told : (List ℕ → Option MediaUpdate) → List MediaUpdate → LineRow → LineMedia
-media_told line updates (Media place mid kind dir stopped remote_created) = media_held (newest updates (line mid))
-media_told line updates (App place mid) = no_media
+-- what is told of the line of a row: of media what the first of these updates says, or else what a media part has of its line. One of which
+-- it has nothing was declared.
+abbrev pub media_told : Formats → (List ℕ → Option MediaUpdate) → List MediaUpdate → LineRow → LineMedia
+media_told formats line updates (Media place mid kind dir stopped remote_created) =
+    media_held (media_of_declared formats stopped kind mid) (newest updates (line mid))
+media_told formats line updates (App place mid) = no_media
 
 -- there is an update for each row of media, in their order
 abbrev pub updates_behind : LineRow → List MediaUpdate → List MediaUpdate
@@ -159,10 +175,10 @@ updates_behind (Media place mid kind dir stopped remote_created) updates = drop 
 updates_behind (App place mid) updates = updates
 
 -- rows, with what a media part is about to be told of those in front, and what it has of the others
-abbrev pub told_rows : (List ℕ → Option MediaUpdate) → List MediaUpdate → List LineRow → List ToldRow
-told_rows line updates [] = []
-told_rows line updates (row ∷ rows) =
-    record { row = row; media = media_told line updates row } ∷ told_rows line (updates_behind row updates) rows
+abbrev pub told_rows : Formats → (List ℕ → Option MediaUpdate) → List MediaUpdate → List LineRow → List ToldRow
+told_rows formats line updates [] = []
+told_rows formats line updates (row ∷ rows) =
+    record { row = row; media = media_told formats line updates row } ∷ told_rows formats line (updates_behind row updates) rows
 
 -- the row of the line that a change adds at a place, if it adds one
 abbrev pub new_told : Formats → ℕ → Change → Option ToldRow
@@ -227,7 +243,7 @@ offered_rows s = s.lines ++ added_rows (length s.lines) s.staged
 
 -- with what they carry
 abbrev pub offered_told : Stance → List ToldRow
-offered_told s = told_rows s.line [] s.lines ++ added_told s.formats (length s.lines) s.staged
+offered_told s = told_rows s.formats s.line [] s.lines ++ added_told s.formats (length s.lines) s.staged
 
 -- the offer of what is staged, with this text of a chunk for the start of the association
 unfoldable pub offer_sdp : Stance → Option (List ℕ) → Sdp
@@ -248,7 +264,7 @@ answer_head s restart init offer = record {
 
 -- the rows that an offer leaves, with what the lines carry once a media part was told these updates
 abbrev pub answered_told : Stance → List MediaUpdate → Sdp → List ToldRow
-answered_told s updates offer = told_rows s.line updates (table_after s.lines (parsed_lines offer) true)
+answered_told s updates offer = told_rows s.formats s.line updates (table_after s.lines (parsed_lines offer) true)
 
 -- the answer to an offer of whose lines the media part is told this, with this text of a chunk for the start of the association
 unfoldable pub answer_sdp : Stance → Option (IceCreds × Bool) → List MediaUpdate → Option (List ℕ) → Sdp → Sdp

@@ -1,5 +1,5 @@
 -- What a peer is once a reference that its media part lent is over, and what an answer is where a row has the mid.
-use Rattle.std.proofs.Common.{◌≡◌, ◌&&◌, ◌||◌, not, Bool, true, Option, Some, None, Result, Ok, Err, refl, ap}
+use Rattle.std.proofs.Common.{◌≡◌, ◌&&◌, ◌||◌, not, Bool, true, false, Option, Some, None, Result, Ok, Err, refl, ap}
 use Rattle.std.specs.Option.{IfSome}
 use Rattle.std.specs.Result.{IsOk, IfOk, OnErr}
 use Rattle.rtc_part_media.specs.declared.no_stream.NoStream.{NoStream}
@@ -32,5 +32,6 @@ pub part_answers : {X : Type 0} (there none : Bool) (r : Result X NoStream) → 
     → StreamAnswers (not there || none) r
 part_answers there none r is h = rw is h
 
-pub part_finds : (open_phase there has found : Bool) → open_phase ≡ true → there ≡ true → found ≡ has → found ≡ (open_phase && (there && has))
-part_finds open_phase there has found is_open is h = rw (is_open, is) h
+pub part_finds : (rtp_mode open_phase there has found : Bool) → rtp_mode ≡ false → open_phase ≡ true → there ≡ true → found ≡ has
+    → found ≡ (not rtp_mode && (open_phase && (there && has)))
+part_finds rtp_mode open_phase there has found samples is_open is h = rw (samples, is_open, is) h

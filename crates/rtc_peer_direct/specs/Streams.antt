@@ -27,9 +27,12 @@ module _ {I D S M E X T W N : Type 0} (media : MediaMeaning M E X T W) where
   abbrev pub gives_no_tx : Ssrc → Option Ssrc → List ℕ → Option (List ℕ) → PolledPeer I D S M N → Bool
   gives_no_tx ssrc rtx mid rid p = not (has_media_row mid p.core.lines) || media.declines_tx p.core.media ssrc rtx mid rid
 
-  -- whether a writer is lent: the peer is neither closing nor closed, a row of media has the mid, and the part has one
+  -- whether a writer is lent: samples are sent and not packets, the peer is neither closing nor closed, a row of media has the mid, and the
+  -- part has one
   abbrev pub gives_writer : List ℕ → PolledPeer I D S M N → Bool
-  gives_writer mid p = is_phase_open p.core.phase && (has_media_row mid p.core.lines && media.has_writer p.core.media mid)
+  gives_writer mid p =
+      not p.transport.rtp_mode
+      && (is_phase_open p.core.phase && (has_media_row mid p.core.lines && media.has_writer p.core.media mid))
 
   -- a stream is made, or replaced, and lent
   abbrev pub ExpectsRx : Ssrc → Option Ssrc → List ℕ → Option (List ℕ) → PolledPeer I D S M N → (lent left : X) → PolledPeer I D S M N

@@ -151,7 +151,7 @@ pub fn reset_stream_tx<I, D, S, M: MediaSession, N>(
     core.media.reset_stream_tx(mid, rid, new_ssrc, new_rtx)
 }
 
-/// What sends on a line. None where the peer is closing or closed, and where no row of media has the mid.
+/// What sends on a line. None in RTP mode, where the peer is closing or closed, and where no row of media has the mid.
 pub fn lend_writer<I, D, S, M: MediaSession, N>(
     peer: &mut PolledPeer<I, D, S, M, N>,
     mid: Mid,
@@ -160,6 +160,10 @@ pub fn lend_writer<I, D, S, M: MediaSession, N>(
         (λ n x. IfSome result (λ lent. LendsWriter M.media mid peer.old lent.now x n)) (λ n. n ≡ peer.old)) }
     ensures found { is_some result ≡ gives_writer M.media mid peer.old }
 {
+    let rtp_mode = peer.transport.rtp_mode;
+    if rtp_mode {
+        return None;
+    }
     if !is_open_phase(peer.core.phase) {
         return None;
     }

@@ -55,7 +55,7 @@ pub fn make_answer<I: IceAgent, D: DtlsInstance, S: Association, M: MediaSession
     ensures { IfOk result (λ answer. answer
         ≡ answer_sdp (stance_of (meanings I.ice D.dtls S.association M.media N.ids) peer.now) restart.now updates.now init offer.now) }
 {
-    let told = match tell_rows(peer.alloc, &peer.media, updates, rows) {
+    let told = match tell_rows(peer.alloc, &peer.formats, &peer.media, updates, rows) {
         Ok(told) => told,
         Err(error) => {
             drop(init);

@@ -10,7 +10,7 @@ use rtc_part_ice::IceAgent;
 use rtc_part_media::MediaSession;
 use rtc_peer_core::{Phase, RtcError};
 use rtc_peer_rows::Why;
-use rtc_peer_transport::{Met, PolledPeer};
+use rtc_peer_transport::{Met, PolledPeer, close_out_of_memory};
 use rtc_sdp_values::Fingerprint;
 use rtc_wire::TryCopy;
 use std::alloc::{AllocError, Global};
@@ -92,12 +92,10 @@ pub(crate) fn check_cert<I: IceAgent, D: DtlsInstance, S: Association, M: MediaS
     ensures { ChecksCert cert.now peer.old result peer.new }
 {
     let Ok(got) = hash_cert(peer.core.alloc, &peer.core.fingerprint, cert) else {
-        peer.core.phase = Phase::Closed;
-        return Met::Error(RtcError::Alloc);
+        return Met::Error(close_out_of_memory(&mut peer.core.phase));
     };
     let Ok(refusal) = judge(&peer.core.fingerprint, peer.transport.verifies, &got) else {
-        peer.core.phase = Phase::Closed;
-        return Met::Error(RtcError::Alloc);
+        return Met::Error(close_out_of_memory(&mut peer.core.phase));
     };
     peer.core.dtls.set_remote_fingerprint(got);
     match refusal {

@@ -11,7 +11,7 @@ use rtc_part_dtls::{DtlsError, DtlsInstance};
 use rtc_part_ice::IceAgent;
 use rtc_part_media::{MediaError, MediaSession};
 use rtc_peer_core::{Phase, RtcError};
-use rtc_peer_transport::{Input, PolledPeer};
+use rtc_peer_transport::{Input, PolledPeer, close_out_of_memory};
 use rtc_wire::{DatagramRecv, Moment, Receive, StunView};
 
 #[tactic(auto, unfolding(crate::specs::Inputs::TimesIce))]
@@ -23,10 +23,7 @@ fn time_ice<I: IceAgent, D: DtlsInstance, S: Association, M: MediaSession, N: Id
 {
     match peer.core.ice.handle_timeout(now) {
         Ok(()) => Ok(()),
-        Err(_) => {
-            peer.core.phase = Phase::Closed;
-            Err(RtcError::Alloc)
-        }
+        Err(_) => Err(close_out_of_memory(&mut peer.core.phase)),
     }
 }
 
@@ -40,10 +37,7 @@ fn time_media<I: IceAgent, D: DtlsInstance, S: Association, M: MediaSession, N: 
     match peer.core.media.handle_timeout(now) {
         Ok(()) => Ok(()),
         Err(error) => match error {
-            MediaError::Alloc => {
-                peer.core.phase = Phase::Closed;
-                Err(RtcError::Alloc)
-            }
+            MediaError::Alloc => Err(close_out_of_memory(&mut peer.core.phase)),
             cause => Err(RtcError::Media(cause)),
         },
     }
@@ -66,17 +60,11 @@ fn take_time<I: IceAgent, D: DtlsInstance, S: Association, M: MediaSession, N: I
     }
     match time_sctp(&mut peer.core.sctp, now) {
         Ok(()) => {}
-        Err(_) => {
-            peer.core.phase = Phase::Closed;
-            return Err(RtcError::Alloc);
-        }
+        Err(_) => return Err(close_out_of_memory(&mut peer.core.phase)),
     }
     match time_handler(&mut peer.core.channels, &mut peer.core.sctp, now) {
         Ok(()) => {}
-        Err(_) => {
-            peer.core.phase = Phase::Closed;
-            return Err(RtcError::Alloc);
-        }
+        Err(_) => return Err(close_out_of_memory(&mut peer.core.phase)),
     }
     match time_media(peer, now) {
         Ok(()) => {}
@@ -103,10 +91,7 @@ fn hear_stun<I: IceAgent, D: DtlsInstance, S: Association, M: MediaSession, N: I
         message,
     ) {
         Ok(()) => Ok(()),
-        Err(_) => {
-            peer.core.phase = Phase::Closed;
-            Err(RtcError::Alloc)
-        }
+        Err(_) => Err(close_out_of_memory(&mut peer.core.phase)),
     }
 }
 
@@ -122,10 +107,7 @@ fn hear_dtls<I: IceAgent, D: DtlsInstance, S: Association, M: MediaSession, N: I
         Ok(()) => Ok(()),
         Err(DtlsError::WouldBlock) => unreachable!(),
         Err(DtlsError::Fault) => Err(RtcError::Dtls(DtlsError::Fault)),
-        Err(DtlsError::Alloc) => {
-            peer.core.phase = Phase::Closed;
-            Err(RtcError::Alloc)
-        }
+        Err(DtlsError::Alloc) => Err(close_out_of_memory(&mut peer.core.phase)),
     }
 }
 
@@ -145,20 +127,14 @@ fn hear_kind<I: IceAgent, D: DtlsInstance, S: Association, M: MediaSession, N: I
             peer.transport.received = count_bytes(peer.transport.received, bytes);
             match peer.core.media.handle_rtp(now, bytes) {
                 Ok(()) => Ok(()),
-                Err(_) => {
-                    peer.core.phase = Phase::Closed;
-                    Err(RtcError::Alloc)
-                }
+                Err(_) => Err(close_out_of_memory(&mut peer.core.phase)),
             }
         }
         DatagramRecv::Rtcp(bytes) => {
             peer.transport.received = count_bytes(peer.transport.received, bytes);
             match peer.core.media.handle_rtcp(now, bytes) {
                 Ok(()) => Ok(()),
-                Err(_) => {
-                    peer.core.phase = Phase::Closed;
-                    Err(RtcError::Alloc)
-                }
+                Err(_) => Err(close_out_of_memory(&mut peer.core.phase)),
             }
         }
     }

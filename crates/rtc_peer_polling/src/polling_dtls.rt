@@ -12,7 +12,7 @@ use rtc_part_dtls::{DtlsError, DtlsInstance, DtlsOutput};
 use rtc_part_ice::IceAgent;
 use rtc_part_media::MediaSession;
 use rtc_peer_core::{Phase, RtcError};
-use rtc_peer_transport::{Event, Handshake, Met, PolledPeer};
+use rtc_peer_transport::{Event, Handshake, Met, PolledPeer, close_out_of_memory};
 use rtc_wire::Moment;
 
 /// Whether a moment that was asked for has come.
@@ -57,10 +57,7 @@ pub fn time_dtls<I: IceAgent, D: DtlsInstance, S: Association, M: MediaSession, 
             peer.core.phase = Phase::Closed;
             Met::Error(RtcError::Dtls(DtlsError::Fault))
         }
-        Err(DtlsError::Alloc) => {
-            peer.core.phase = Phase::Closed;
-            Met::Error(RtcError::Alloc)
-        }
+        Err(DtlsError::Alloc) => Met::Error(close_out_of_memory(&mut peer.core.phase)),
     }
 }
 
@@ -95,20 +92,14 @@ fn take_dtls_output<I: IceAgent, D: DtlsInstance, S: Association, M: MediaSessio
             let active = peer.core.dtls.is_active().unwrap_or(false);
             match peer.core.media.set_keying(key, *profile, active) {
                 Ok(()) => Met::Again,
-                Err(_) => {
-                    peer.core.phase = Phase::Closed;
-                    Met::Error(RtcError::Alloc)
-                }
+                Err(_) => Met::Error(close_out_of_memory(&mut peer.core.phase)),
             }
         }
         DtlsOutput::PeerCert(cert) => check_cert(peer, cert),
         DtlsOutput::ApplicationData(bytes) => {
             match peer.core.sctp.handle_input(peer.core.greatest, bytes) {
                 Ok(()) => Met::Again,
-                Err(_) => {
-                    peer.core.phase = Phase::Closed;
-                    Met::Error(RtcError::Alloc)
-                }
+                Err(_) => Met::Error(close_out_of_memory(&mut peer.core.phase)),
             }
         }
         DtlsOutput::Timeout(moment) => {
@@ -133,10 +124,7 @@ pub fn poll_dtls_outputs<I: IceAgent, D: DtlsInstance, S: Association, M: MediaS
                 Met::Again => {}
                 met => return met,
             },
-            Err(_) => {
-                peer.core.phase = Phase::Closed;
-                return Met::Error(RtcError::Alloc);
-            }
+            Err(_) => return Met::Error(close_out_of_memory(&mut peer.core.phase)),
         }
     }
 }

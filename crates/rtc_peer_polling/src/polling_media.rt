@@ -7,8 +7,8 @@ use rtc_part_draws::Ids;
 use rtc_part_dtls::DtlsInstance;
 use rtc_part_ice::IceAgent;
 use rtc_part_media::{MediaError, MediaSession};
-use rtc_peer_core::{Phase, RtcError};
-use rtc_peer_transport::{Event, Met, PolledPeer};
+use rtc_peer_core::RtcError;
+use rtc_peer_transport::{Event, Met, PolledPeer, close_out_of_memory};
 
 /// Tells the next event that cannot fail.
 #[tactic(auto, unfolding(crate::specs::MediaStages::TellsMedia))]
@@ -36,10 +36,7 @@ pub fn tell_fallible_media<I: IceAgent, D: DtlsInstance, S: Association, M: Medi
             None => Met::Nothing,
         },
         Err(error) => match error {
-            MediaError::Alloc => {
-                peer.core.phase = Phase::Closed;
-                Met::Error(RtcError::Alloc)
-            }
+            MediaError::Alloc => Met::Error(close_out_of_memory(&mut peer.core.phase)),
             cause => Met::Error(RtcError::Media(cause)),
         },
     }

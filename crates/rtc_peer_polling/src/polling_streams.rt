@@ -9,8 +9,7 @@ use rtc_part_draws::Ids;
 use rtc_part_dtls::DtlsInstance;
 use rtc_part_ice::IceAgent;
 use rtc_part_media::MediaSession;
-use rtc_peer_core::{Phase, RtcError};
-use rtc_peer_transport::{ChannelData, Event, Met, PolledPeer};
+use rtc_peer_transport::{ChannelData, Event, Met, PolledPeer, close_out_of_memory};
 use rtc_sctp::SctpEvent;
 use rtc_wire::Text;
 
@@ -24,10 +23,7 @@ fn open_channel_over<I: IceAgent, D: DtlsInstance, S: Association, M: MediaSessi
 {
     match peer.core.channels.ensure_channel_id_for(stream) {
         Ok(()) => {}
-        Err(_) => {
-            peer.core.phase = Phase::Closed;
-            return Met::Error(RtcError::Alloc);
-        }
+        Err(_) => return Met::Error(close_out_of_memory(&mut peer.core.phase)),
     }
     match peer.core.channels.channel_id_by_stream_id(stream) {
         Some(id) => Met::Event(Event::ChannelOpen(id, label)),
@@ -107,10 +103,7 @@ pub fn poll_stream_events<I: IceAgent, D: DtlsInstance, S: Association, M: Media
                 },
                 None => return Met::Nothing,
             },
-            Err(_) => {
-                peer.core.phase = Phase::Closed;
-                return Met::Error(RtcError::Alloc);
-            }
+            Err(_) => return Met::Error(close_out_of_memory(&mut peer.core.phase)),
         }
     }
 }

@@ -8,8 +8,8 @@ use rtc_part_draws::Ids;
 use rtc_part_dtls::{DtlsError, DtlsInstance};
 use rtc_part_ice::IceAgent;
 use rtc_part_media::MediaSession;
-use rtc_peer_core::{Phase, RtcError};
-use rtc_peer_transport::{Met, PolledPeer, is_closing};
+use rtc_peer_core::RtcError;
+use rtc_peer_transport::{Met, PolledPeer, close_out_of_memory, is_closing};
 use rtc_sctp::RtcSctp;
 use rtc_wire::{Bytes, Seq};
 
@@ -56,8 +56,7 @@ fn send_first<I: IceAgent, D: DtlsInstance, S: Association, M: MediaSession, N: 
         }
         Err(DtlsError::Alloc) => {
             keep_rest(&mut peer.core.sctp, packets);
-            peer.core.phase = Phase::Closed;
-            Met::Error(RtcError::Alloc)
+            Met::Error(close_out_of_memory(&mut peer.core.phase))
         }
     }
 }

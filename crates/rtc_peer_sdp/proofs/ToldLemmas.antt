@@ -43,12 +43,13 @@ live_row told left rest done more all here live more_is h =
     rw (more_is, append_assoc) (rw live at inv)
 
 -- one row more, with what it carries
-pub one_told : (line : List ℕ → Option MediaUpdate) (updates : List MediaUpdate) (row : LineRow) (left rows : List LineRow) (media : LineMedia)
-    (done more all : List ToldRow) → left ≡ row ∷ rows → media ≡ media_told line updates row → more ≡ done ++ record { row = row; media = media } ∷ []
-    → done ++ told_rows line updates left ≡ all → more ++ told_rows line (updates_behind row updates) rows ≡ all
-one_told line updates row left rows media done more all here media_is more_is h =
-    let inv : done ++ told_rows line updates (row ∷ rows) ≡ all =
-    subst (λ (those : List LineRow). done ++ told_rows line updates those ≡ all) here h in
+pub one_told : (formats : Formats) (line : List ℕ → Option MediaUpdate) (updates : List MediaUpdate) (row : LineRow) (left rows : List LineRow)
+    (media : LineMedia) (done more all : List ToldRow) → left ≡ row ∷ rows → media ≡ media_told formats line updates row
+    → more ≡ done ++ record { row = row; media = media } ∷ [] → done ++ told_rows formats line updates left ≡ all
+    → more ++ told_rows formats line (updates_behind row updates) rows ≡ all
+one_told formats line updates row left rows media done more all here media_is more_is h =
+    let inv : done ++ told_rows formats line updates (row ∷ rows) ≡ all =
+    subst (λ (those : List LineRow). done ++ told_rows formats line updates those ≡ all) here h in
     rw (more_is, media_is, append_assoc) inv
 
 -- a change that adds no line

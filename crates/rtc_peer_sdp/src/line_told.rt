@@ -1,20 +1,22 @@
 //! What the lines of a peer tell of their media.
-ghost use Rattle.std.specs.Prelude.{◌≡◌, IfOk, OnOk, Option, Some, None};
+ghost use Rattle.std.specs.Prelude.{◌≡◌, IfOk, OnOk, Option, Some, None, false};
 ghost use Rattle.std.specs.Option.{option_copied};
 ghost use Rattle.rtc_peer_core.specs.MadeSdp.{
   no_media as NoMedia,
   media_of_update as MediaOfUpdate,
-  media_held as MediaHeld,
   media_of_added as MediaOfAdded,
+  media_of_declared as MediaOfDeclared,
+  media_held as MediaHeld,
   media_told as MediaTold,
   newest as Newest,
 };
 
+use crate::sent_on_lines::bare_sending;
 use rtc_change::AddMedia;
 use rtc_part_media::{MediaSession, MediaUpdate};
-use rtc_peer_core::{Formats, LineMedia};
+use rtc_peer_core::{Formats, LineMedia, Sending};
 use rtc_sdp_codecs::{extensions_of_kind, rows_of_kind};
-use rtc_sdp_values::LineRow;
+use rtc_sdp_values::{LineRow, MediaKind, Mid};
 use rtc_wire::Seq;
 use rtc_wire_drops::{fill, fill_some, set, whole};
 use std::alloc::{AllocError, Global};
@@ -52,16 +54,6 @@ fn media_of_update(alloc: Global, update: &MediaUpdate) -> Result<LineMedia, All
     whole(media, put)
 }
 
-// What a media part was told last of a line.
-fn media_held(alloc: Global, held: Option<&MediaUpdate>) -> Result<LineMedia, AllocError>
-    ensures { IfOk result (λ media. media ≡ MediaHeld (option_copied held.entry)) }
-{
-    match held {
-        None => Ok(no_media(alloc)),
-        Some(update) => media_of_update(alloc, update),
-    }
-}
-
 fn put_added(
     alloc: Global,
     formats: &Formats,
@@ -93,6 +85,51 @@ pub fn media_of_added(
     whole(media, put)
 }
 
+fn put_declared(
+    alloc: Global,
+    formats: &Formats,
+    kind: MediaKind,
+    mid: Mid,
+    media: &mut LineMedia,
+) -> Result<(), AllocError>
+    ensures { OnOk result (media.new ≡ MediaOfDeclared formats.now false kind mid) }
+{
+    let payloads = rows_of_kind(alloc, kind, formats.codecs.rows.as_slice())?;
+    set(&mut media.payloads, Seq::new(payloads));
+    let exts = extensions_of_kind(alloc, kind, formats.extensions.rows.as_slice())?;
+    set(&mut media.exts, Seq::new(exts));
+    let bare = bare_sending(alloc, mid)?;
+    let Sending {
+        simulcast,
+        msid,
+        cname,
+        ssrcs,
+    } = bare;
+    set(&mut media.simulcast, simulcast);
+    set(&mut media.msid, msid);
+    set(&mut media.cname, cname);
+    set(&mut media.ssrcs, ssrcs);
+    Ok(())
+}
+
+// What a line carries that was declared and is not negotiated yet.
+fn media_of_declared(
+    alloc: Global,
+    formats: &Formats,
+    stopped: bool,
+    kind: MediaKind,
+    mid: Mid,
+) -> Result<LineMedia, AllocError>
+    ensures { IfOk result (λ made. made ≡ MediaOfDeclared formats.now stopped kind mid) }
+{
+    let mut media = no_media(alloc);
+    if stopped {
+        return Ok(media);
+    }
+    let put = put_declared(alloc, formats, kind, mid, &mut media);
+    whole(media, put)
+}
+
 // The first of these updates, or else what is held.
 fn newest<'a>(updates: &'a [MediaUpdate], held: Option<&'a MediaUpdate>) -> Option<&'a MediaUpdate>
     ensures { option_copied result ≡ Newest updates.now (option_copied held.entry) }
@@ -103,19 +140,44 @@ fn newest<'a>(updates: &'a [MediaUpdate], held: Option<&'a MediaUpdate>) -> Opti
     }
 }
 
-/// What is told of the line of a row: of media what the first of these updates says, or else what the media part has of its line.
+// What a line carries of which the media part has this, and which is as it was declared where it has nothing.
+fn media_held(
+    alloc: Global,
+    formats: &Formats,
+    stopped: bool,
+    kind: MediaKind,
+    mid: Mid,
+    held: Option<&MediaUpdate>,
+) -> Result<LineMedia, AllocError>
+    ensures { IfOk result (λ media. media ≡ MediaHeld (MediaOfDeclared formats.now stopped kind mid) (option_copied held.entry)) }
+{
+    match held {
+        None => media_of_declared(alloc, formats, stopped, kind, mid),
+        Some(update) => media_of_update(alloc, update),
+    }
+}
+
+/// What is told of the line of a row: of media what the first of these updates says, or else what the media part has of its line. One of
+/// which it has nothing was declared.
 pub fn media_told<M: MediaSession>(
     alloc: Global,
+    formats: &Formats,
     media: &M,
     updates: &[MediaUpdate],
     row: &LineRow,
 ) -> Result<LineMedia, AllocError>
-    ensures { IfOk result (λ told. told ≡ MediaTold (M.media.line media.now) updates.now row.now) }
+    ensures { IfOk result (λ told. told ≡ MediaTold formats.now (M.media.line media.now) updates.now row.now) }
 {
     match row {
-        LineRow::Media { mid, .. } => {
+        LineRow::Media {
+            mid,
+            kind,
+            stopped,
+            ..
+        } => {
             let held = media.line(*mid);
-            media_held(alloc, newest(updates, held))
+            let last = newest(updates, held);
+            media_held(alloc, formats, *stopped, *kind, *mid, last)
         }
         LineRow::App { .. } => Ok(no_media(alloc)),
     }

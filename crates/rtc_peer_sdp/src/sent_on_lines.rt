@@ -57,8 +57,8 @@ fn put_media(media: &AddMedia, sending: &mut Sending) -> Result<(), AllocError>
     fill(&mut sending.ssrcs, &media.ssrcs)
 }
 
-// A line that came in an offer has its mid for all names, and no sources yet.
-fn bare_sending(alloc: Global, mid: Mid) -> Result<Sending, AllocError>
+/// A line that came in an offer or was declared has its mid for all names, and no sources yet.
+pub fn bare_sending(alloc: Global, mid: Mid) -> Result<Sending, AllocError>
     ensures { IfOk result (λ sending. sending ≡ BareSending mid) }
 {
     let stream_id = Text::from_str(alloc, mid.as_str())?;

@@ -26,16 +26,17 @@ fn updates_behind<'a>(row: &LineRow, updates: &'a [MediaUpdate]) -> &'a [MediaUp
 /// Rows, with what the media part is about to be told of those in front, and what it has of the others.
 pub fn tell_rows<M: MediaSession>(
     alloc: Global,
+    formats: &Formats,
     media: &M,
     updates: &[MediaUpdate],
     rows: &[LineRow],
 ) -> Result<Vec<ToldRow>, AllocError>
-    ensures { IfOk result (λ told. told.items ≡ told_rows (M.media.line media.now) updates.now rows.now) }
+    ensures { IfOk result (λ told. told.items ≡ told_rows formats.now (M.media.line media.now) updates.now rows.now) }
 {
     let mut told = Vec::with_capacity(alloc, rows.len())?;
     let mut rest = updates;
     for row in rows {
-        let media = media_told(alloc, media, rest, row)?;
+        let media = media_told(alloc, formats, media, rest, row)?;
         told.push(ToldRow { row: *row, media })?;
         rest = updates_behind(row, rest);
     }
@@ -108,9 +109,9 @@ pub fn tell_offered<M: MediaSession>(
 ) -> Result<Vec<ToldRow>, AllocError>
     requires { length rows.now + length (added_mids staged.now) < 2 ^ 32 }
     ensures { IfOk result (λ told. told.items
-        ≡ told_rows (M.media.line media.now) [] rows.now ++ added_told formats.now (length rows.now) staged.now) }
+        ≡ told_rows formats.now (M.media.line media.now) [] rows.now ++ added_told formats.now (length rows.now) staged.now) }
 {
-    let mut told = tell_rows(alloc, media, &[], rows)?;
+    let mut told = tell_rows(alloc, formats, media, &[], rows)?;
     push_added(alloc, formats, &mut told, rows.len() as u32, staged)?;
     Ok(told)
 }

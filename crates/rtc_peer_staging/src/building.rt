@@ -3,25 +3,24 @@ ghost use Rattle.std.specs.Prelude.{◌≡◌, ◌≤◌, ◌<◌, ◌^◌, fals
 ghost use Rattle.std.specs.Option.{option_copied};
 ghost use Rattle.rtc_part_dtls.specs.DtlsState.{BeginsDtls};
 ghost use Rattle.rtc_peer_core.specs.Built.{Builds, creds_or, after_creds, cert_or, after_cert};
-ghost use Rattle.rtc_peer_core.specs.Built.{empty_peer as EmptyPeer, limited_streams, allowed_halves, streams_of_config};
+ghost use Rattle.rtc_peer_core.specs.Built.{empty_peer as EmptyPeer, payload_of_mtu, limited_streams, allowed_halves, streams_of_config};
+ghost use Rattle.rtc_peer_core.specs.Formats.{formats_of};
 ghost use Rattle.rtc_peer_core.specs.Meanings.{meanings};
 
 use rtc_change::Lines;
 use rtc_channels::ChannelHandler;
+use rtc_config::RtcConfig;
 use rtc_part_association::Association;
 use rtc_part_draws::Ids;
 use rtc_part_dtls::{Dtls, DtlsInstance};
 use rtc_part_ice::IceAgent;
 use rtc_part_media::MediaSession;
-use rtc_peer_core::{Formats, Peer, Phase, RtcConfig, Staged};
+use rtc_peer_core::{Formats, Peer, Phase, Staged};
 use rtc_peer_draws::make_creds;
 use rtc_sctp::RtcSctp;
 use rtc_sdp_values::IceCreds;
 use rtc_wire::{Bytes, Moment, TryCopy};
 use std::alloc::{AllocError, Global};
-
-// The sizes of datagrams that the DTLS part and the association aim at, and that the DTLS part warns of, in bytes.
-const MTU: (usize, usize) = (1150, 1280);
 
 // The credentials that are given, or else those that are drawn.
 fn take_creds<N: Ids>(
@@ -73,14 +72,16 @@ fn draw_own<D: DtlsInstance + Drop, N: Ids>(
     ids: &mut N,
     dtls: D,
 ) -> Result<OwnSide<D>, AllocError>
-    ensures creds { IfOk result (λ own. own.creds ≡ creds_or N.ids config.now.creds ids.old) }
+    ensures creds { IfOk result (λ own. own.creds ≡ creds_or N.ids config.now.ice.credentials ids.old) }
     ensures dtls { IfOk result (λ own. BeginsDtls D.dtls
-        (cert_or N.ids config.now.cert (after_creds N.ids config.now.creds ids.old)) dtls (1150, 1280) own.dtls) }
-    ensures after { OnOk result (ids.new ≡ after_cert N.ids config.now.cert (after_creds N.ids config.now.creds ids.old)) }
+        (cert_or N.ids config.now.dtls.cert (after_creds N.ids config.now.ice.credentials ids.old)) dtls config.now.mtu own.dtls) }
+    ensures after { OnOk result (ids.new
+        ≡ after_cert N.ids config.now.dtls.cert (after_creds N.ids config.now.ice.credentials ids.old)) }
 {
     let creds = take_creds(alloc, ids, config.local_ice_credentials())?;
     let cert = make_cert(alloc, ids, config.dtls_cert())?;
-    let dtls = Dtls::new(alloc, cert.as_slice(), dtls, MTU)?;
+    let mtu = (config.mtu(), config.mtu_warn());
+    let dtls = Dtls::new(alloc, cert.as_slice(), dtls, mtu)?;
     Ok(OwnSide { creds, dtls })
 }
 
@@ -92,12 +93,14 @@ fn limit_streams<S: Association>(
     association: S,
 ) -> RtcSctp<S>
     requires { S.association.fresh association }
-    ensures limits { S.association.limits_set association 1062 config.now.max_message_size result.association }
+    ensures limits { S.association.limits_set association (payload_of_mtu config.now.mtu.0) config.now.sctp.max_message_size
+        result.association }
     ensures made { result ≡ limited_streams config.now start result.association }
     ensures unstarted { S.association.started result.association ≡ false }
 {
+    let mtu = config.mtu();
     let size = config.sctp_max_message_size();
-    let mut sctp = RtcSctp::new(alloc, MTU.0, size, start, association);
+    let mut sctp = RtcSctp::new(alloc, mtu, size, start, association);
     sctp.set_max_buffered_amount(config.sctp_max_buffered_amount());
     sctp
 }
@@ -120,12 +123,31 @@ fn make_streams<S: Association>(
     association: S,
 ) -> RtcSctp<S>
     requires { S.association.fresh association }
-    ensures limits { S.association.limits_set association 1062 config.now.max_message_size result.association }
+    ensures limits { S.association.limits_set association (payload_of_mtu config.now.mtu.0) config.now.sctp.max_message_size
+        result.association }
     ensures made { result ≡ streams_of_config config.now start result.association }
 {
     let mut sctp = limit_streams(alloc, config, start, association);
     allow_snap(&mut sctp, config.snap_enabled());
     sctp
+}
+
+// Gives an agent the times of its checks.
+fn set_times<I: IceAgent>(ice: &mut I, config: &RtcConfig)
+    ensures { I.ice.rto_set ice.old config.now.ice.initial_stun_rto config.now.ice.max_stun_rto config.now.ice.max_stun_retransmits
+        ice.new }
+{
+    let initial = config.initial_stun_rto();
+    let most = config.max_stun_rto();
+    ice.set_rto(initial, most, config.max_stun_retransmits());
+}
+
+// The codecs and header extensions of a config.
+fn take_formats(config: RtcConfig) -> Formats
+    ensures { result ≡ formats_of config }
+{
+    let (codecs, extensions) = config.into_formats();
+    Formats { codecs, extensions }
 }
 
 fn empty_peer<I, D, S, M, N>(
@@ -172,19 +194,18 @@ pub fn build_peer<
     alloc: Global,
     config: RtcConfig,
     start: Moment,
-    ice: I,
-    dtls: D,
+    mut ice: I,
+    mut dtls: D,
     association: S,
-    media: M,
-    ids: N,
+    mut media: M,
+    mut ids: N,
 ) -> Result<Peer<I, D, S, M, N>, AllocError>
     requires { S.association.fresh association }
     ensures { IfOk result (λ p. Builds (meanings I.ice D.dtls S.association M.media N.ids)
         alloc config start ice dtls association media ids p) }
 {
-    let mut ids = ids;
-    let mut ice = ice;
     let session_id = ids.draw();
+    dtls.set_version(config.dtls_version());
     let own = match draw_own(alloc, &config, &mut ids, dtls) {
         Ok(own) => own,
         Err(error) => {
@@ -193,10 +214,12 @@ pub fn build_peer<
         }
     };
     let OwnSide { creds, dtls } = own;
+    set_times(&mut ice, &config);
     ice.set_ice_lite(config.ice_lite());
     ice.set_local_credentials(creds);
+    media.configure(config.media_settings());
     let sctp = make_streams(alloc, &config, start, association);
-    let formats = config.into_formats();
+    let formats = take_formats(config);
     Ok(empty_peer(
         alloc, formats, session_id, start, ice, dtls, sctp, media, ids,
     ))

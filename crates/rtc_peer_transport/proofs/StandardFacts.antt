@@ -4,8 +4,8 @@ use Rattle.rtc_part_values.specs.declared.reason.Reason.TheVariants.{NotHappenin
 use Rattle.rtc_peer_transport.specs.Connection.{no_transport}
 use Rattle.rtc_peer_transport.specs.Deadlines.{sooner}
 
-pub new_peer_waits_for_nothing : (verifies : Bool) (interval : Option ℕ) → (no_transport verifies interval).last_reason ≡ NotHappening
-new_peer_waits_for_nothing verifies interval = refl
+pub new_peer_waits_for_nothing : (verifies rtp_mode : Bool) (interval : Option ℕ) → (no_transport verifies rtp_mode interval).last_reason ≡ NotHappening
+new_peer_waits_for_nothing verifies rtp_mode interval = refl
 
 pub first_of_equal_deadlines : sooner (250, DTLS) (Some (250, Ice)) ≡ (250, DTLS)
 first_of_equal_deadlines = refl

@@ -16,13 +16,14 @@ first_stats None = None
 first_stats (Some interval) = Some (record { interval = interval; last = None; events = [] })
 
 -- nothing is known of the other side
-abbrev pub no_transport : Bool → (interval : Option ℕ) → Transport
-no_transport verifies interval = record {
+abbrev pub no_transport : (verifies rtp_mode : Bool) → (interval : Option ℕ) → Transport
+no_transport verifies rtp_mode interval = record {
   send_addr = None;
   discovered = [];
   handshake = Pending;
   dtls_wake = 2 ^ 64 - 1;
   verifies = verifies;
+  rtp_mode = rtp_mode;
   last_reason = NotHappening;
   received = 0;
   sent = 0;

@@ -1,5 +1,7 @@
 //! How a peer is closed.
 ghost use Rattle.std.specs.Prelude.{◌≡◌};
+ghost use Rattle.rtc_peer_core.specs.declared.phase.Phase.TheVariants.{Closed};
+ghost use Rattle.rtc_peer_core.specs.declared.rtc_error.RtcError.TheVariants.{Alloc};
 ghost use Rattle.rtc_peer_core.specs.Meanings.{meanings};
 ghost use Rattle.rtc_peer_transport.specs.Closing.{ShutsStreams, ShutsDtls};
 ghost use Rattle.rtc_peer_transport.specs.Closing.{ClosesPeer, is_phase_closing, is_closing_complete};
@@ -21,6 +23,15 @@ pub fn is_closing(phase: Phase) -> bool
         Phase::Closing => true,
         Phase::Alive | Phase::Closed => false,
     }
+}
+
+/// Closes a peer that ran out of memory, and answers the error that tells of it.
+pub fn close_out_of_memory(phase: &mut Phase) -> RtcError
+    ensures closed { phase.new ≡ Closed }
+    ensures told { result ≡ Alloc }
+{
+    *phase = Phase::Closed;
+    RtcError::Alloc
 }
 
 impl<I: IceAgent, D: DtlsInstance, S: Association, M: MediaSession, N: Ids> PolledPeer<
@@ -60,10 +71,7 @@ impl<I: IceAgent, D: DtlsInstance, S: Association, M: MediaSession, N: Ids> Poll
                 self.core.phase = Phase::Closed;
                 Err(RtcError::Dtls(DtlsError::Fault))
             }
-            Err(DtlsError::Alloc) => {
-                self.core.phase = Phase::Closed;
-                Err(RtcError::Alloc)
-            }
+            Err(DtlsError::Alloc) => Err(close_out_of_memory(&mut self.core.phase)),
         }
     }
 
@@ -79,10 +87,7 @@ impl<I: IceAgent, D: DtlsInstance, S: Association, M: MediaSession, N: Ids> Poll
         }
         match self.core.media.close_rtp() {
             Ok(()) => {}
-            Err(_) => {
-                self.core.phase = Phase::Closed;
-                return Err(RtcError::Alloc);
-            }
+            Err(_) => return Err(close_out_of_memory(&mut self.core.phase)),
         }
         match self.shut_streams() {
             Ok(()) => {}

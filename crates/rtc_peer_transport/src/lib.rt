@@ -17,7 +17,7 @@ mod statistics;
 mod transport;
 
 pub use channel_data::ChannelData;
-pub use closing::is_closing;
+pub use closing::{close_out_of_memory, is_closing};
 pub use event::Event;
 pub use handshake::Handshake;
 pub use input::Input;

@@ -4,14 +4,14 @@ ghost use Rattle.rtc_peer_core.specs.Meanings.{meanings};
 ghost use Rattle.rtc_peer_transport.specs.Statistics.{IsGathered, Reports, ReportsRound, TellsStatistics, TimesStatistics};
 ghost use Rattle.rtc_peer_transport.specs.Statistics.{event_of_report as EventOfReport};
 
-use crate::{Event, Met, PolledPeer};
+use crate::{Event, Met, PolledPeer, close_out_of_memory};
 use rtc_config::Stats;
 use rtc_part_association::Association;
 use rtc_part_draws::Ids;
 use rtc_part_dtls::DtlsInstance;
 use rtc_part_ice::IceAgent;
 use rtc_part_media::{CandidatePairStats, CandidateStats, MediaSession, StatsEvent, StatsSnapshot};
-use rtc_peer_core::{Phase, RtcError};
+use rtc_peer_core::RtcError;
 use rtc_wire::Moment;
 use std::alloc::AllocError;
 
@@ -112,10 +112,7 @@ impl<I: IceAgent, D: DtlsInstance, S: Association, M: MediaSession, N: Ids> Poll
             None => Ok(()),
             Some(stats) => match report(stats, &mut self.core.media, now, &mut gathered) {
                 Ok(()) => Ok(()),
-                Err(_) => {
-                    self.core.phase = Phase::Closed;
-                    Err(RtcError::Alloc)
-                }
+                Err(_) => Err(close_out_of_memory(&mut self.core.phase)),
             },
         }
     }

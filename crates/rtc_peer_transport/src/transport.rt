@@ -18,6 +18,8 @@ pub struct Transport {
     pub dtls_wake: Moment,
     /// Whether the certificate of the other side has to match the fingerprint that it announced.
     pub verifies: bool,
+    /// Whether callers send and receive packets in place of samples, so that no writer is lent.
+    pub rtp_mode: bool,
     /// The reason of the last timeout that was answered.
     pub last_reason: Reason,
     /// The bytes of the DTLS, RTP and RTCP datagrams that came in, at most `u64::MAX`.
@@ -37,6 +39,7 @@ impl Drop for Transport {
             handshake: _handshake,
             dtls_wake: _dtls_wake,
             verifies: _verifies,
+            rtp_mode: _rtp_mode,
             last_reason: _last_reason,
             received: _received,
             sent: _sent,
@@ -59,9 +62,10 @@ impl Transport {
     pub fn new(
         alloc: Global,
         verifies: bool,
+        rtp_mode: bool,
         interval: Option<Span>,
     ) -> Result<Transport, AllocError>
-        ensures { IfOk result (λ made. made ≡ no_transport verifies interval) }
+        ensures { IfOk result (λ made. made ≡ no_transport verifies rtp_mode interval) }
     {
         let discovered = RecentAddrs::new(alloc)?;
         Ok(Transport {
@@ -70,6 +74,7 @@ impl Transport {
             handshake: Handshake::Pending,
             dtls_wake: Moment::FAR_FUTURE,
             verifies,
+            rtp_mode,
             last_reason: Reason::NotHappening,
             received: 0,
             sent: 0,

@@ -8,9 +8,10 @@ use Rattle.rtc_sdp_values.specs.declared.fingerprint.Fingerprint.{Fingerprint}
 use Rattle.rtc_sdp_values.specs.declared.sdp.Sdp.{Sdp}
 use Rattle.rtc_sctp_values.specs.SnapHalves.{nothing_kept}
 use Rattle.rtc_channels.specs.Channels.{no_channels}
+use Rattle.rtc_config.specs.RtcConfig.{default_config}
 use Rattle.rtc_peer_core.specs.declared.sdp_head.SdpHead.{SdpHead}
 use Rattle.rtc_peer_core.specs.declared.told_row.ToldRow.{ToldRow}
-use Rattle.rtc_peer_core.specs.Formats.{default_formats}
+use Rattle.rtc_peer_core.specs.Formats.{formats_of}
 use Rattle.rtc_peer_core.specs.MadeSdp.{no_media, sdp_of_rows}
 use Rattle.rtc_run_history.specs.declared.side.Side.{Side}
 use Rattle.rtc_run_history.specs.declared.step.Step.{Step}
@@ -59,7 +60,7 @@ says at offer rows = says_with worked_creds false at offer rows
 abbrev pub plain : Stances
 plain at = record {
   session = 1;
-  formats = default_formats;
+  formats = formats_of default_config;
   lines = [];
   staged = [];
   channels = no_channels;

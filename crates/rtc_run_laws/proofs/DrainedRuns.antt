@@ -10,6 +10,7 @@ use Rattle.rtc_plain_media.specs.MediaContents.{MediaContents}
 use Rattle.rtc_plain_media.specs.declared.plain_media_event.PlainMediaEvent.{PlainMediaEvent}
 use Rattle.rtc_part_draws.specs.Draws.{Draws}
 use Rattle.rtc_sctp.specs.Streams.{SctpStreams}
+use Rattle.rtc_peer_core.specs.Built.{payload_of_mtu}
 use Rattle.rtc_peer_core.specs.declared.peer.Peer.{Peer}
 use Rattle.rtc_run_history.specs.declared.outcome.Outcome.{Outcome}
 use Rattle.rtc_run_history.specs.declared.reply.Reply.{Reply}
@@ -46,7 +47,7 @@ module _ {N : Type 0} (draws : Draws N) where
   new_unstarted p h =
       ap (λ (x : SctpStreams Contents). is_started x.association) (new_streams p h)
       ∙ (plain_laws.same_start fresh_contents h.built.sctp.association (Stirred Other) refl
-      (LimitsSet 1062 h.config.max_message_size h.by_build.by_limits)).0
+      (LimitsSet (payload_of_mtu h.config.mtu.0) h.config.sctp.max_message_size h.by_build.by_limits)).0
 
   new_empty : (p : PlainPolled N) → IsNewPeer draws p.core → IsUnused (plain_over draws) (plain_over_laws draws) p.core
   new_empty p h = record {

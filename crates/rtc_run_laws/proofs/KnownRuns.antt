@@ -11,6 +11,7 @@ use Rattle.rtc_plain_media.specs.MediaContents.{MediaContents}
 use Rattle.rtc_sctp_laws.proofs.BackedRows.{plain_unread}
 use Rattle.rtc_sctp_laws.proofs.KnownStreams.{AreKnown, UnreadLaws}
 use Rattle.rtc_sctp_laws.proofs.PlainGenerations.{plain_generations}
+use Rattle.rtc_peer_core.specs.Built.{payload_of_mtu}
 use Rattle.rtc_peer_core.specs.declared.peer.Peer.{Peer}
 use Rattle.rtc_peer_core.specs.declared.phase.Phase.TheVariants.{Closed}
 use Rattle.rtc_peer_core.specs.Meanings.{Meanings, PartsLaws}
@@ -63,7 +64,7 @@ module _ {N : Type 0} (draws : Draws N) where
       none s g stands =
           true≢false
           (sym
-          (plain_unread.fewer fresh_contents h.built.sctp.association (Stirred Other) refl (LimitsSet 1062 h.config.max_message_size h.by_build.by_limits)
+          (plain_unread.fewer fresh_contents h.built.sctp.association (Stirred Other) refl (LimitsSet (payload_of_mtu h.config.mtu.0) h.config.sctp.max_message_size h.by_build.by_limits)
           s g stands))
 
       unestablished : is_established h.built.sctp.state ≡ false

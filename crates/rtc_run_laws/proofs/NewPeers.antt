@@ -1,5 +1,5 @@
 -- What building a peer over fresh plain parts does to these.
-use Rattle.std.proofs.Common.{◌≡◌, ◌∙◌, ◌∷◌, ℕ, Bool, List, [], None, Result, Ok, refl, sym, ap, subst}
+use Rattle.std.proofs.Common.{◌≡◌, ◌∙◌, ◌∷◌, inr, ℕ, Bool, List, [], None, Result, Ok, refl, sym, ap, subst}
 use Rattle.std.specs.declared.alloc.AllocError.{AllocError}
 use Rattle.rtc_sdp_values.specs.declared.candidate.Candidate.{Candidate}
 use Rattle.rtc_part_values.specs.Among.{Among, Member}
@@ -7,20 +7,21 @@ use Rattle.rtc_part_values.specs.Why.{Other}
 use Rattle.rtc_part_association.specs.AssociationActs.{LimitsSet, Stirred as AssociationStirred}
 use Rattle.rtc_part_association.proofs.AmongLemmas.{among_none}
 use Rattle.rtc_part_ice.specs.IceMeaning.{IceMeaning}
-use Rattle.rtc_part_ice.specs.IceActs.{LiteSet, LocalSet, LocalAdded, Stirred as IceStirred}
-use Rattle.rtc_part_dtls.specs.DtlsActs.{CertificateSet, Stirred as DtlsStirred}
+use Rattle.rtc_part_ice.specs.IceActs.{RtoSet, LiteSet, LocalSet, LocalAdded, Stirred as IceStirred}
+use Rattle.rtc_part_dtls.specs.DtlsActs.{VersionSet, CertificateSet, Stirred as DtlsStirred}
 use Rattle.rtc_part_dtls.specs.DtlsState.{DtlsState}
 use Rattle.rtc_part_dtls.specs.DtlsWords.{dtls_given}
+use Rattle.rtc_part_media.specs.MediaActs.{Configured, MediaStirred}
 use Rattle.rtc_sctp.specs.Streams.{SctpStreams}
 use Rattle.rtc_plain_ice.specs.Contents.{IceContents}
 use Rattle.rtc_plain_ice.specs.PlainMeaning.{plain_ice}
 use Rattle.rtc_plain_dtls.specs.Contents.{DtlsContents}
 use Rattle.rtc_assoc_state.specs.Contents.{Contents}
-use Rattle.rtc_plain_media.specs.MediaContents.{MediaContents, fresh_media}
+use Rattle.rtc_plain_media.specs.MediaContents.{MediaContents}
 use Rattle.rtc_part_draws.specs.Draws.{Draws}
 use Rattle.rtc_sctp_laws.specs.StreamMessages.{pushed_packets, reads_of, writes_of}
 use Rattle.rtc_peer_core.specs.declared.peer.Peer.{Peer}
-use Rattle.rtc_peer_core.specs.Built.{creds_or, cert_or, session_drawn, creds_drawn}
+use Rattle.rtc_peer_core.specs.Built.{payload_of_mtu, creds_or, cert_or, session_drawn, creds_drawn}
 use Rattle.rtc_peer_laws.specs.PeerActs.{PeerActs, peer_acts, contents_taken, dtls_roles, roles_after}
 use Rattle.rtc_peer_laws.specs.Exchanging.{parts_past}
 use Rattle.rtc_peer_laws.specs.JoinedPeers.{AreUnused, packet_parts}
@@ -67,11 +68,13 @@ module _ {N : Type 0} (draws : Draws N) where
   built_acts : (p : Peer IceContents DtlsContents Contents MediaContents N) → IsNewPeer draws p → PeerActs
   built_acts p h =
       peer_acts
-      (IceStirred (LiteSet h.config.ice_lite)
-      ∷ IceStirred (LocalSet (creds_or draws h.config.creds (session_drawn draws h.first)))
+      (IceStirred (RtoSet h.config.ice.initial_stun_rto h.config.ice.max_stun_rto h.config.ice.max_stun_retransmits)
+      ∷ IceStirred (LiteSet h.config.ice.lite)
+      ∷ IceStirred (LocalSet (creds_or draws h.config.ice.credentials (session_drawn draws h.first)))
       ∷ (candidates_told plain_ice h.built.ice h.candidates p.ice h.by_candidates).acts)
-      (DtlsStirred (CertificateSet (cert_or draws h.config.cert (creds_drawn draws h.config h.first)) (Ok tt)) ∷ [])
-      (AssociationStirred Other ∷ []) []
+      (DtlsStirred (VersionSet h.config.dtls.version)
+      ∷ DtlsStirred (CertificateSet (cert_or draws h.config.dtls.cert (creds_drawn draws h.config h.first)) (Ok tt)) ∷ [])
+      (AssociationStirred Other ∷ []) (MediaStirred Other ∷ [])
 
   pub new_built : (p : PlainPolled N) → IsNewPeer draws p.core → WasBuilt p
   unfolding built_acts
@@ -79,16 +82,21 @@ module _ {N : Type 0} (draws : Draws N) where
       let dtls : p.core.dtls ≡ h.built.dtls = ap (λ (x : Peer IceContents DtlsContents Contents MediaContents N). x.dtls) h.rest in
       let sctp : p.core.sctp ≡ h.built.sctp = ap (λ (x : Peer IceContents DtlsContents Contents MediaContents N). x.sctp) h.rest in
       let media : p.core.media ≡ h.built.media = ap (λ (x : Peer IceContents DtlsContents Contents MediaContents N). x.media) h.rest in
-      let fresh : h.built.media ≡ fresh_media = ap (λ (x : Peer IceContents DtlsContents Contents MediaContents N). x.media) h.by_build.rest in
       let packets : p.core.dtls.packets ≡ [] = ap (λ (x : DtlsState DtlsContents). x.packets) (dtls ∙ h.by_build.by_cert.others) in
       let told : AgentTold plain_ice h.built.ice p.core.ice = candidates_told plain_ice h.built.ice h.candidates p.core.ice h.by_candidates in
       record {
         acts = built_acts p.core h;
         unused = record {
-          dtls = (h.built.dtls.instance, (h.by_build.by_cert.certificate, ap (λ (x : DtlsState DtlsContents). x.instance) dtls));
+          dtls = (
+            h.by_build.versioned,
+            (
+              h.by_build.by_version,
+              (h.built.dtls.instance, (h.by_build.by_cert.certificate, ap (λ (x : DtlsState DtlsContents). x.instance) dtls)),
+            ),
+          );
           association = (
             h.built.sctp.association,
-            (LimitsSet 1062 h.config.max_message_size h.by_build.by_limits, ap (λ (x : SctpStreams Contents). x.association) sctp),
+            (LimitsSet (payload_of_mtu h.config.mtu.0) h.config.sctp.max_message_size h.by_build.by_limits, ap (λ (x : SctpStreams Contents). x.association) sctp),
           );
           none_given = λ bytes given. absurd given;
           none_sent = refl;
@@ -96,8 +104,14 @@ module _ {N : Type 0} (draws : Draws N) where
           none_pushed = ap (λ (x : SctpStreams Contents). pushed_packets x.pushed) (sctp ∙ h.by_build.streams);
         };
         shown = record {
-          ice_went = (h.by_build.lite_set, (h.by_build.by_lite, (h.built.ice, (h.by_build.by_creds, told.went))));
-          media_went = media ∙ fresh;
+          ice_went = (
+            h.by_build.timed,
+            (
+              h.by_build.by_rto,
+              (h.by_build.lite_set, (h.by_build.by_lite, (h.built.ice, (h.by_build.by_creds, told.went)))),
+            ),
+          );
+          media_went = (h.built.media, (inr (inr (Configured h.config.media h.by_build.by_settings)), media));
           sent = subst (λ (l : List (List ℕ)). Among l (contents_taken (built_acts p.core h))) (sym packets) (among_none (contents_taken (built_acts p.core h)));
         };
         wrote_none = refl;

@@ -132,4 +132,4 @@ unfolding answer_sdp
 answer_legible s restart told init offer tokens text formed names updates =
     sdp_legible (answer_head s restart init offer) (answered_told s told offer) (answer_head_formed s restart init offer tokens text formed)
     (subst HaveTokens (sym (rows_of_answered s told offer)) (table_after_tokens s.lines (parsed_lines offer) true formed.rows names))
-    (answered_media_formed s told offer formed updates)
+    (answered_media_formed s told offer formed (table_after_tokens s.lines (parsed_lines offer) true formed.rows names) updates)

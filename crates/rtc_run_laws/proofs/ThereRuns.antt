@@ -13,6 +13,7 @@ use Rattle.rtc_sctp_laws.proofs.HeldRows.{IsKept}
 use Rattle.rtc_sctp_laws.proofs.HeldActs.{plain_keeping}
 use Rattle.rtc_sctp_laws.proofs.ThereStreams.{AreBegunStreams, KeepingLaws, fine_on, goes_act}
 use Rattle.rtc_sctp_laws.proofs.PlainGenerations.{plain_generations}
+use Rattle.rtc_peer_core.specs.Built.{payload_of_mtu}
 use Rattle.rtc_peer_core.specs.declared.peer.Peer.{Peer}
 use Rattle.rtc_peer_core.specs.declared.phase.Phase.TheVariants.{Closed}
 use Rattle.rtc_peer_core.specs.Meanings.{Meanings, PartsLaws}
@@ -66,7 +67,7 @@ module _ {N : Type 0} (draws : Draws N) where
           inr
           (fine_on plain_meaning IsKept s fresh_contents h.built.sctp.association
           (goes_act plain_meaning IsKept plain_laws plain_generations plain_keeping s fresh_contents h.built.sctp.association (Stirred Other)
-          (LimitsSet 1062 h.config.max_message_size h.by_build.by_limits) refl)
+          (LimitsSet (payload_of_mtu h.config.mtu.0) h.config.sctp.max_message_size h.by_build.by_limits) refl)
           (λ z there. absurd (true≢false (sym there))))
 
   pub new_pair_there : (pair : PlainPair N) → IsNewPair draws pair → (at : Side)

@@ -10,9 +10,9 @@ use Rattle.rtc_plain_dtls.specs.Contents.{DtlsContents, fresh_dtls}
 use Rattle.rtc_assoc_state.specs.Contents.{Contents, fresh_contents}
 use Rattle.rtc_plain_media.specs.MediaContents.{MediaContents, fresh_media}
 use Rattle.rtc_part_draws.specs.Draws.{Draws}
+use Rattle.rtc_config.specs.RtcConfig.{PeerConfig}
 use Rattle.rtc_peer_core.specs.declared.peer.Peer.{Peer}
 use Rattle.rtc_peer_core.specs.Built.{Builds}
-use Rattle.rtc_peer_core.specs.Config.{Config}
 use Rattle.rtc_run_laws.specs.PlainPairs.{PlainPair, plain_over}
 
 -- an agent was given local candidates, one after the other, whatever it answered
@@ -24,7 +24,7 @@ GivenCandidates {I} m p (candidate ∷ candidates) q =
 -- a peer that was built over fresh plain parts, and was then given local candidates
 pub record IsNewPeer {N : Type 0} (draws : Draws N) (p : Peer IceContents DtlsContents Contents MediaContents N) : Type 0 where
   pub alloc : Global
-  pub config : Config
+  pub config : PeerConfig
   pub start : ℕ
   pub first : N
   pub built : Peer IceContents DtlsContents Contents MediaContents N

@@ -5,7 +5,7 @@ use Rattle.std.specs.declared.alloc.Global.{Global}
 use Rattle.rtc_wire.specs.declared.addr.Addr.{Addr}
 use Rattle.rtc_sdp_values.specs.declared.candidate.Candidate.{Candidate}
 use Rattle.rtc_sdp_values.specs.declared.ice_creds.IceCreds.{IceCreds}
-use Rattle.rtc_plain_ice.specs.Calls.{lite_set, local_set, local_added}
+use Rattle.rtc_plain_ice.specs.Calls.{rto_set, lite_set, local_set, local_added}
 use Rattle.rtc_plain_ice.specs.Contents.{IceContents, fresh_ice}
 use Rattle.rtc_plain_ice.specs.PlainMeaning.{plain_ice}
 use Rattle.rtc_plain_dtls.specs.Contents.{fresh_dtls}
@@ -14,26 +14,29 @@ use Rattle.rtc_assoc_state.specs.Contents.{Contents, fresh_contents, is_started}
 use Rattle.rtc_plain_media.specs.MediaContents.{fresh_media}
 use Rattle.rtc_sctp.specs.Streams.{SctpStreams}
 use Rattle.rtc_sctp_values.specs.SnapHalves.{KeptHalves, nothing_kept}
-use Rattle.rtc_peer_core.specs.Built.{Builds, allowed_halves}
-use Rattle.rtc_peer_core.specs.Config.{Config}
-use Rattle.rtc_peer_core.specs.Formats.{AreFormedFormats}
+use Rattle.rtc_config.specs.RtcConfig.{PeerConfig}
+use Rattle.rtc_peer_core.specs.Built.{Builds, payload_of_mtu, creds_or, session_drawn, allowed_halves}
+use Rattle.rtc_peer_core.specs.Formats.{formats_of, AreFormedFormats}
 use Rattle.rtc_peer_core.specs.Formed.{AreSdpCreds, IsFormed, IsHostCandidate}
 use Rattle.rtc_peer_core.specs.Stance.{stance_of}
 use Rattle.rtc_run_history.specs.declared.side.Side.{Side}
 use Rattle.rtc_run_history.specs.declared.side.Side.TheVariants.{Left, Right}
 use Rattle.rtc_run_history.specs.Fresh.{IsFresh, IsJustBuilt}
 use Rattle.rtc_run_history.specs.PairState.{peer_at, stances_of}
-use Rattle.rtc_run_plain.specs.ProgramPair.{PlainPeer, PlainPairState, plain_parts, host_at, left_address, right_address, program_config, IsProgramPeer}
+use Rattle.rtc_run_plain.specs.ProgramPair.{PlainPeer, PlainPairState, counting, plain_parts, host_at, left_address, right_address, program_config, IsProgramPeer}
 use Rattle.rtc_run_plain.specs.declared.peer_settings.PeerSettings.{PeerSettings}
 
--- no candidate and no credentials of the other side are there after the first two calls
-fresh_after : (lite : Bool) (creds : IceCreds) → (local_set creds (lite_set lite fresh_ice)).settings.candidates ≡ []
-unfolding local_set lite_set
-fresh_after lite creds = refl
+-- no candidate and no credentials of the other side are there after the first three calls
+abbrev pub agent_after : ℕ → Bool → IceCreds → IceContents
+agent_after initial lite creds = local_set creds (lite_set lite (rto_set initial fresh_ice))
 
-alone_after : (lite : Bool) (creds : IceCreds) → (local_set creds (lite_set lite fresh_ice)).settings.remote ≡ None
-unfolding local_set lite_set
-alone_after lite creds = refl
+fresh_after : (initial : ℕ) (lite : Bool) (creds : IceCreds) → (agent_after initial lite creds).settings.candidates ≡ []
+unfolding local_set lite_set rto_set
+fresh_after initial lite creds = refl
+
+alone_after : (initial : ℕ) (lite : Bool) (creds : IceCreds) → (agent_after initial lite creds).settings.remote ≡ None
+unfolding local_set lite_set rto_set
+alone_after initial lite creds = refl
 
 added_remote : (c : Candidate) (p : IceContents) → (local_added c p).settings.remote ≡ p.settings.remote
 unfolding local_added
@@ -47,24 +50,28 @@ added_candidates : (c : Candidate) (p : IceContents) → (local_added c p).setti
 unfolding local_added
 added_candidates c p = refl
 
-abbrev pub IsBuilt : Global → Config → ℕ → PlainPeer → Type 0
+abbrev pub IsBuilt : Global → PeerConfig → ℕ → PlainPeer → Type 0
 IsBuilt alloc config first p = Builds plain_parts alloc config 0 fresh_ice fresh_dtls fresh_contents fresh_media first p
 
-pub built_bare : (alloc : Global) (config : Config) (first : ℕ) (p : PlainPeer) → IsBuilt alloc config first p → p.ice.settings.candidates ≡ []
-built_bare alloc config first p h =
-    ap (λ (ice : IceContents). ice.settings.candidates) (h.by_creds ∙ ap (local_set _) h.by_lite) ∙ fresh_after config.ice_lite _
+pub built_agent : (alloc : Global) (config : PeerConfig) (first : ℕ) (p : PlainPeer) → IsBuilt alloc config first p
+    → p.ice ≡ agent_after config.ice.initial_stun_rto config.ice.lite (creds_or counting config.ice.credentials (session_drawn counting first))
+built_agent alloc config first p h = h.by_creds ∙ ap (local_set _) (h.by_lite ∙ ap (lite_set config.ice.lite) h.by_rto)
 
-built_alone : (alloc : Global) (config : Config) (first : ℕ) (p : PlainPeer) → IsBuilt alloc config first p → p.ice.settings.remote ≡ None
+pub built_bare : (alloc : Global) (config : PeerConfig) (first : ℕ) (p : PlainPeer) → IsBuilt alloc config first p → p.ice.settings.candidates ≡ []
+built_bare alloc config first p h =
+    ap (λ (ice : IceContents). ice.settings.candidates) (built_agent alloc config first p h) ∙ fresh_after config.ice.initial_stun_rto config.ice.lite _
+
+built_alone : (alloc : Global) (config : PeerConfig) (first : ℕ) (p : PlainPeer) → IsBuilt alloc config first p → p.ice.settings.remote ≡ None
 built_alone alloc config first p h =
-    ap (λ (ice : IceContents). ice.settings.remote) (h.by_creds ∙ ap (local_set _) h.by_lite) ∙ alone_after config.ice_lite _
+    ap (λ (ice : IceContents). ice.settings.remote) (built_agent alloc config first p h) ∙ alone_after config.ice.initial_stun_rto config.ice.lite _
 
 -- the association is not started, and of a start by session descriptions no half is there
-unstarted_after : (max : ℕ) → is_started (limited 1062 max fresh_contents) ≡ false
+unstarted_after : (payload max : ℕ) → is_started (limited payload max fresh_contents) ≡ false
 unfolding limited
-unstarted_after max = refl
+unstarted_after payload max = refl
 
-built_unstarted : (alloc : Global) (config : Config) (first : ℕ) (p : PlainPeer) → IsBuilt alloc config first p → (stance_of plain_parts p).inited ≡ false
-built_unstarted alloc config first p h = ap is_started h.by_limits ∙ unstarted_after config.max_message_size
+built_unstarted : (alloc : Global) (config : PeerConfig) (first : ℕ) (p : PlainPeer) → IsBuilt alloc config first p → (stance_of plain_parts p).inited ≡ false
+built_unstarted alloc config first p h = ap is_started h.by_limits ∙ unstarted_after (payload_of_mtu config.mtu.0) config.sctp.max_message_size
 
 none_started : (allowed : Bool) (limit : ℕ) → (allowed_halves allowed limit nothing_kept).started ≡ None
 none_started true limit = refl
@@ -74,34 +81,34 @@ none_drawn : (allowed : Bool) (limit : ℕ) → IfSome (allowed_halves allowed l
 none_drawn true limit = refl
 none_drawn false limit = tt
 
-built_snap : (alloc : Global) (config : Config) (first : ℕ) (p : PlainPeer) → IsBuilt alloc config first p
-    → p.sctp.snap ≡ allowed_halves config.snap config.max_message_size nothing_kept
+built_snap : (alloc : Global) (config : PeerConfig) (first : ℕ) (p : PlainPeer) → IsBuilt alloc config first p
+    → p.sctp.snap ≡ allowed_halves config.sctp.snap_enabled config.sctp.max_message_size nothing_kept
 built_snap alloc config first p h = ap (λ (s : SctpStreams Contents). s.snap) h.streams
 
-built_unused : (alloc : Global) (config : Config) (first : ℕ) (p : PlainPeer) → IsBuilt alloc config first p → p.sctp.entries ≡ []
+built_unused : (alloc : Global) (config : PeerConfig) (first : ℕ) (p : PlainPeer) → IsBuilt alloc config first p → p.sctp.entries ≡ []
 built_unused alloc config first p h = ap (λ (s : SctpStreams Contents). s.entries) h.streams
 
 -- how a peer was built and given its address
-pub record Makes (alloc : Global) (settings : PeerSettings) (cert : List ℕ) (first : ℕ) (addr : Addr) (config : Config) (built p : PlainPeer) : Type 0 where
+pub record Makes (alloc : Global) (settings : PeerSettings) (cert : List ℕ) (first : ℕ) (addr : Addr) (config : PeerConfig) (built p : PlainPeer) : Type 0 where
   pub config_is : config ≡ program_config settings cert
   pub builds : IsBuilt alloc config first built
   pub added : plain_ice.local_added built.ice (host_at addr) (Ok true) p.ice
   pub rest : p ≡ record built { ice = p.ice }
 
-pub program_peer : (alloc : Global) (settings : PeerSettings) (cert : List ℕ) (first : ℕ) (addr : Addr) (config : Config) (built p : PlainPeer)
+pub program_peer : (alloc : Global) (settings : PeerSettings) (cert : List ℕ) (first : ℕ) (addr : Addr) (config : PeerConfig) (built p : PlainPeer)
     → Makes alloc settings cert first addr config built p → IsProgramPeer alloc settings cert first addr p
 program_peer alloc settings cert first addr config built p h = record {
   built = built;
-  by_build = subst (λ (c : Config). IsBuilt alloc c first built) h.config_is h.builds;
+  by_build = subst (λ (c : PeerConfig). IsBuilt alloc c first built) h.config_is h.builds;
   by_address = h.added;
   rest = h.rest;
 }
 
-pub program_fresh : (alloc : Global) (settings : PeerSettings) (cert : List ℕ) (first : ℕ) (addr : Addr) (config : Config) (built p : PlainPeer)
+pub program_fresh : (alloc : Global) (settings : PeerSettings) (cert : List ℕ) (first : ℕ) (addr : Addr) (config : PeerConfig) (built p : PlainPeer)
     → Makes alloc settings cert first addr config built p → IsJustBuilt (stance_of plain_parts p)
 program_fresh alloc settings cert first addr config built p h =
     let streams : p.sctp ≡ built.sctp = ap (λ (q : PlainPeer). q.sctp) h.rest in
-    let snap : p.sctp.snap ≡ allowed_halves config.snap config.max_message_size nothing_kept =
+    let snap : p.sctp.snap ≡ allowed_halves config.sctp.snap_enabled config.sctp.max_message_size nothing_kept =
     ap (λ (s : SctpStreams Contents). s.snap) streams ∙ built_snap alloc config first built h.builds in
     record {
       lines = ap (λ (q : PlainPeer). q.lines) h.rest ∙ ap (λ (q : PlainPeer). q.lines) h.builds.rest;
@@ -111,21 +118,21 @@ program_fresh alloc settings cert first addr config built p h =
       remote = ap (λ (ice : IceContents). ice.settings.remote) h.added.1 ∙ added_remote (host_at addr) built.ice ∙ built_alone alloc config first built h.builds;
       fingerprint = ap (λ (q : PlainPeer). q.fingerprint) h.rest ∙ ap (λ (q : PlainPeer). q.fingerprint) h.builds.rest;
       uninited = ap (λ (s : SctpStreams Contents). is_started s.association) streams ∙ built_unstarted alloc config first built h.builds;
-      unstarted = ap (λ (kept : KeptHalves). kept.started) snap ∙ none_started config.snap config.max_message_size;
-      undrawn = subst (λ (kept : KeptHalves). IfSome kept.pending (λ halves. halves.local ≡ None)) (sym snap) (none_drawn config.snap config.max_message_size);
+      unstarted = ap (λ (kept : KeptHalves). kept.started) snap ∙ none_started config.sctp.snap_enabled config.sctp.max_message_size;
+      undrawn = subst (λ (kept : KeptHalves). IfSome kept.pending (λ halves. halves.local ≡ None)) (sym snap) (none_drawn config.sctp.snap_enabled config.sctp.max_message_size);
     }
 
 -- no stream is in use
-pub program_unused : (alloc : Global) (settings : PeerSettings) (cert : List ℕ) (first : ℕ) (addr : Addr) (config : Config) (built p : PlainPeer)
+pub program_unused : (alloc : Global) (settings : PeerSettings) (cert : List ℕ) (first : ℕ) (addr : Addr) (config : PeerConfig) (built p : PlainPeer)
     → Makes alloc settings cert first addr config built p → p.sctp.entries ≡ []
 program_unused alloc settings cert first addr config built p h =
     ap (λ (q : PlainPeer). q.sctp.entries) h.rest ∙ built_unused alloc config first built h.builds
 
-pub program_formed : (alloc : Global) (settings : PeerSettings) (cert : List ℕ) (first : ℕ) (addr : Addr) (config : Config) (built p : PlainPeer)
-    → Makes alloc settings cert first addr config built p → (config.creds ≡ None → AreFormedFormats config.formats → IsFormed (stance_of plain_parts built))
-    → AreFormedFormats config.formats → IsHostCandidate (host_at addr) → IsFormed (stance_of plain_parts p)
+pub program_formed : (alloc : Global) (settings : PeerSettings) (cert : List ℕ) (first : ℕ) (addr : Addr) (config : PeerConfig) (built p : PlainPeer)
+    → Makes alloc settings cert first addr config built p → (config.ice.credentials ≡ None → AreFormedFormats (formats_of config) → IsFormed (stance_of plain_parts built))
+    → AreFormedFormats (formats_of config) → IsHostCandidate (host_at addr) → IsFormed (stance_of plain_parts p)
 program_formed alloc settings cert first addr config built p h formed formats host =
-    let was : IsFormed (stance_of plain_parts built) = formed (ap (λ (c : Config). c.creds) h.config_is) formats in
+    let was : IsFormed (stance_of plain_parts built) = formed (ap (λ (c : PeerConfig). c.ice.credentials) h.config_is) formats in
     let candidates : p.ice.settings.candidates ≡ host_at addr ∷ [] =
     ap (λ (ice : IceContents). ice.settings.candidates) h.added.1 ∙ added_candidates (host_at addr) built.ice
     ∙ ap (λ (list : List Candidate). list ++ host_at addr ∷ []) (built_bare alloc config first built h.builds) in

@@ -1,5 +1,5 @@
 -- The pair that scripts are performed on.
-use Rattle.std.specs.Prelude.{◌≡◌, ◌+◌, ◌%◌, ◌^◌, ℕ, true, List, [], ◌∷◌, Some, None, Ok, codes}
+use Rattle.std.specs.Prelude.{◌≡◌, ◌+◌, ◌%◌, ◌^◌, ℕ, true, false, List, [], ◌∷◌, Some, Ok, codes}
 use Rattle.std.specs.declared.alloc.Global.{Global}
 use Rattle.rtc_wire.specs.declared.addr.Addr.{Addr}
 use Rattle.rtc_wire.specs.declared.protocol.Protocol.TheVariants.{Udp}
@@ -16,10 +16,9 @@ use Rattle.rtc_plain_media.specs.MediaContents.{MediaContents, fresh_media}
 use Rattle.rtc_plain_media.specs.PlainMediaMeaning.{plain_media_meaning}
 use Rattle.rtc_plain_media.specs.declared.plain_media_event.PlainMediaEvent.{PlainMediaEvent}
 use Rattle.rtc_plain_media.specs.declared.plain_mark.PlainMark.{PlainMark}
+use Rattle.rtc_config.specs.RtcConfig.{PeerConfig, default_config, default_ice, default_dtls}
 use Rattle.rtc_peer_core.specs.declared.peer.Peer.{Peer}
-use Rattle.rtc_peer_core.specs.Formats.{default_formats}
 use Rattle.rtc_peer_core.specs.Built.{Builds}
-use Rattle.rtc_peer_core.specs.Config.{Config}
 use Rattle.rtc_peer_core.specs.Meanings.{Meanings, meanings}
 use Rattle.rtc_peer_transport.specs.Connection.{no_transport}
 use Rattle.rtc_run_history.specs.PairState.{PairState}
@@ -50,17 +49,17 @@ host_at addr = record {
   kind = Host;
 }
 
--- what a peer of the program is built from
-abbrev pub program_config : PeerSettings → (cert : List ℕ) → Config
-program_config settings cert = record {
-  ice_lite = settings.lite;
-  creds = None;
-  cert = Some cert;
-  formats = default_formats;
-  snap = settings.snap;
-  max_buffered = settings.max_buffered;
-  max_message_size = settings.max_message_size;
+-- what a peer of the program is built from: the default with its certificate and its settings
+abbrev pub program_config : PeerSettings → (cert : List ℕ) → PeerConfig
+program_config settings cert = record default_config {
+  ice = record default_ice { lite = settings.lite };
+  dtls = record default_dtls { cert = Some cert };
   stats_interval = settings.stats_interval;
+  sctp = record {
+    max_buffered_amount = settings.max_buffered;
+    max_message_size = settings.max_message_size;
+    snap_enabled = settings.snap;
+  };
 }
 
 -- A peer of the program: built at moment 0 over fresh parts with a certificate, drawing numbers that count up from one, and then
@@ -83,8 +82,8 @@ right_address = record { ip = 2 ∷ 2 ∷ 2 ∷ 2 ∷ []; port = 2000 }
 pub record IsProgramPair (alloc : Global) (left_settings right_settings : PeerSettings) (pair : PlainPairState) : Type 0 where
   pub left : IsProgramPeer alloc left_settings (codes "abc") 1 left_address pair.left.core
   pub right : IsProgramPeer alloc right_settings (codes "def") 1000001 right_address pair.right.core
-  pub left_transport : pair.left.transport ≡ no_transport true left_settings.stats_interval
-  pub right_transport : pair.right.transport ≡ no_transport true right_settings.stats_interval
+  pub left_transport : pair.left.transport ≡ no_transport true false left_settings.stats_interval
+  pub right_transport : pair.right.transport ≡ no_transport true false right_settings.stats_interval
   pub left_addr : pair.left_addr ≡ left_address
   pub right_addr : pair.right_addr ≡ right_address
   pub sdps : pair.sdps ≡ []

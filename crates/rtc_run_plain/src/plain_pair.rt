@@ -1,12 +1,12 @@
 //! The pair that scripts are performed on.
-ghost use Rattle.std.specs.Prelude.{◌≡◌, ◌≤◌, [], true, IfOk, OnOk, Ok, None, length};
+ghost use Rattle.std.specs.Prelude.{◌≡◌, ◌≤◌, [], true, false, IfOk, OnOk, Ok, None, length};
 ghost use Rattle.rtc_plain_ice.specs.Contents.{fresh_ice};
 ghost use Rattle.rtc_plain_ice.specs.PlainMeaning.{plain_ice};
 ghost use Rattle.rtc_plain_dtls.specs.Contents.{fresh_dtls};
 ghost use Rattle.rtc_assoc_state.specs.Contents.{fresh_contents};
 ghost use Rattle.rtc_plain_media.specs.MediaContents.{fresh_media};
 ghost use Rattle.rtc_peer_core.specs.Built.{Builds};
-ghost use Rattle.rtc_peer_core.specs.Formats.{AreFormedFormats};
+ghost use Rattle.rtc_peer_core.specs.Formats.{formats_of, AreFormedFormats};
 ghost use Rattle.rtc_peer_core.specs.Formed.{IsFormed, IsHostCandidate};
 ghost use Rattle.rtc_peer_core.specs.Stance.{stance_of};
 ghost use Rattle.rtc_run_history.specs.Fresh.{ArePeersFormed};
@@ -28,10 +28,11 @@ pub type PlainPeer = Rtc<PlainIce, PlainDtls, PlainAssociation, PlainMedia, Coun
 /// A pair of such peers.
 pub type PlainPair = Pair<PlainIce, PlainDtls, PlainAssociation, PlainMedia, CountIds>;
 
+#[tactic(auto, using(rtc_peer_core::proofs::BuiltPeers::formats_formed))]
 fn make_config(alloc: Global, settings: PeerSettings, name: &str) -> Result<RtcConfig, AllocError>
     requires { length name.now ≤ 1900 }
     ensures value { IfOk result (λ config. config ≡ program_config settings name.now) }
-    ensures formed { IfOk result (λ config. AreFormedFormats config.formats) }
+    ensures formed { IfOk result (λ config. AreFormedFormats (formats_of config)) }
 {
     let mut cert = Vec::new(alloc);
     cert.extend_from_slice(name.as_bytes())?;
@@ -49,8 +50,9 @@ fn make_config(alloc: Global, settings: PeerSettings, name: &str) -> Result<RtcC
 
 fn build_peer(alloc: Global, config: RtcConfig, first: u64) -> Result<PlainPeer, AllocError>
     ensures built { IfOk result (λ rtc. Builds plain_parts alloc config 0 fresh_ice fresh_dtls fresh_contents fresh_media first rtc.core) }
-    ensures unconnected { IfOk result (λ rtc. rtc.transport ≡ no_transport true config.stats_interval) }
-    ensures formed { IfOk result (λ rtc. config.creds ≡ None → AreFormedFormats config.formats
+    ensures unconnected { IfOk result (λ rtc. rtc.transport
+        ≡ no_transport config.dtls.fingerprint_verification config.media.rtp_mode config.stats_interval) }
+    ensures formed { IfOk result (λ rtc. config.ice.credentials ≡ None → AreFormedFormats (formats_of config)
         → IsFormed (stance_of plain_parts rtc.core)) }
 {
     Rtc::build(
@@ -87,7 +89,7 @@ fn make_peer(
 ) -> Result<PlainPeer, AllocError>
     requires { length name.now ≤ 1900 }
     ensures peer { IfOk result (λ rtc. IsProgramPeer alloc settings name.now first addr rtc.core) }
-    ensures unconnected { IfOk result (λ rtc. rtc.transport ≡ no_transport true settings.stats_interval) }
+    ensures unconnected { IfOk result (λ rtc. rtc.transport ≡ no_transport true false settings.stats_interval) }
     ensures fresh { IfOk result (λ rtc. IsJustBuilt (stance_of plain_parts rtc.core)) }
     ensures unused { IfOk result (λ rtc. rtc.core.sctp.entries ≡ []) }
     ensures formed { IfOk result (λ rtc. IsHostCandidate (host_at addr) → IsFormed (stance_of plain_parts rtc.core)) }

@@ -10,3 +10,4 @@ pub mod ZipLemmas
 pub mod SmallScripts
 pub mod LabelLemmas
 pub mod ChannelPartLemmas
+pub mod SideFolds

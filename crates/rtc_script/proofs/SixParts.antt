@@ -1,5 +1,5 @@
 -- Ops of six parts.
-use Rattle.std.proofs.Common.{◌≡◌, ◌≤◌, ◌<◌, ℕ, List, [], ◌∷◌, length, map, get_or, Option, Result, IfOk, IfNone, refl, subst, arith}
+use Rattle.std.proofs.Common.{◌≡◌, ◌∙◌, ◌≤◌, ◌<◌, ℕ, List, [], ◌∷◌, length, map, get_or, Option, Result, IfOk, IfNone, refl, subst, arith}
 use Rattle.std.specs.declared.alloc.AllocError.{AllocError}
 use Rattle.rtc_run_history.specs.declared.op.Op.{Op}
 use Rattle.rtc_script.specs.Lines.{AreOpParts}
@@ -21,10 +21,11 @@ six text (s ∷ t ∷ u ∷ v ∷ w ∷ []) none least most = absurd (omega (ari
 six text (s ∷ t ∷ u ∷ v ∷ w ∷ x ∷ []) none least most = refl
 six text (s ∷ t ∷ u ∷ v ∷ w ∷ x ∷ y ∷ parts) none least most = absurd (omega (arith, most))
 
--- what six parts are not is what the list of them is not
-pub no_six : {A : Type 0} (text : A → List ℕ) (parts : List A) (none : A) (result : Result (Option Op) AllocError) → 6 ≤ length parts
-    → length parts < 7 → IfOk result (λ read. IfNone read ((op : Op) → AreOpParts (at_places text parts none) op → ⊥))
-    → IfOk result (λ read. IfNone read ((op : Op) → AreOpParts (map text parts) op → ⊥))
-no_six text parts none result least most other =
+-- what six parts are not is what their texts are not
+pub no_six : {A : Type 0} (text : A → List ℕ) (parts : List A) (none : A) (found : List (List ℕ)) (result : Result (Option Op) AllocError)
+    → 6 ≤ length parts → length parts < 7 → map text parts ≡ found
+    → IfOk result (λ read. IfNone read ((op : Op) → AreOpParts (at_places text parts none) op → ⊥))
+    → IfOk result (λ read. IfNone read ((op : Op) → AreOpParts found op → ⊥))
+no_six text parts none found result least most is other =
     subst (λ (found : List (List ℕ)). IfOk result (λ read. IfNone read ((op : Op) → AreOpParts found op → ⊥)))
-    (six text parts none least most) other
+    (six text parts none least most ∙ is) other

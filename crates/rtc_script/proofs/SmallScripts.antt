@@ -1,15 +1,17 @@
 -- The steps of a script that is short enough are few.
-use Rattle.std.proofs.Common.{◌≡◌, ◌+◌, ◌≤◌, ◌<◌, ◌^◌, ◌==◌, ◌∙◌, ℕ, Bool, List, [], ◌∷◌, ◌++◌, length, ap, sym, arith, length-append, Result, Ok, Err, IfOk}
+use Rattle.std.proofs.Common.{◌≡◌, ◌+◌, ◌≤◌, ◌<◌, ◌^◌, ◌==◌, ◌∙◌, ℕ, Bool, List, [], ◌∷◌, ◌++◌, length, ap, sym, arith, length-append, subst, Bor, Result, Ok, Err, IfOk}
 use Rattle.std.specs.List.{count_by, join_with_byte}
+use Rattle.std.proofs.lemmas.List.{map-append}
 use Rattle.std.proofs.lemmas.List.Splits.{length-slice_split, join_with_byte-slice_split}
 use Rattle.std.proofs.lemmas.List.Sums.{count_by-le-length}
 use Rattle.std.proofs.lemmas.Slice.Zip.{AllZip-long}
 use Rattle.rtc_wire_text.specs.Lines.{pieces}
 use Rattle.rtc_wire_text.specs.Words.{words}
 use Rattle.rtc_script.specs.Lines.{IsOp, IsAct, IsLine, AreStepWords}
-use Rattle.rtc_script.specs.Script.{IsScript, HaveSteps, HaveBoth, header}
+use Rattle.rtc_script.specs.Script.{IsScript, ArePieces, HaveSteps, HaveBoth, header}
 use Rattle.rtc_script.specs.declared.script.Script.{Script}
 use Rattle.rtc_script.specs.declared.setting.Setting.{Setting}
+use Rattle.rtc_script.proofs.ZipLemmas.{texts}
 use Rattle.rtc_run_history.specs.declared.side.Side.{Side}
 use Rattle.rtc_script.specs.declared.script_error.ScriptError.{ScriptError}
 use Rattle.rtc_run_history.specs.Sizes.{step_size, steps_size}
@@ -75,7 +77,13 @@ script_small text script h short =
     let sizes : steps_size script.steps ≤ length (text_of h.0) = lines_small h.0 script.settings script.steps h.2 in
     omega (arith, text_more header h.0)
 
+-- the lines of a text, and what stands behind the last one, are its pieces
+pub cut_pieces : (text : List ℕ) (cut all lines : List (Bor (List ℕ))) (end : Bor (List ℕ)) → texts all ≡ pieces text → cut ≡ all
+    → cut ≡ lines ++ end ∷ [] → texts lines ++ end.now ∷ [] ≡ pieces text
+cut_pieces text cut all lines end is same ends = sym (map-append (λ (line : Bor (List ℕ)). line.now) lines (end ∷ [])) ∙ ap texts (sym ends ∙ same) ∙ is
+
 -- so a script that is read of so many bytes has few steps
-pub read_small : (text : List ℕ) (read : Result Script ScriptError) → IfOk read (λ (script : Script). IsScript text script) → length text ≤ 2 ^ 20 → IfOk read (λ (script : Script). steps_size script.steps < 2 ^ 32)
-read_small text (Ok script) is short = script_small text script is short
-read_small text (Err error) is short = tt
+pub read_small : (text : List ℕ) (found : List (List ℕ)) (read : Result Script ScriptError) → found ≡ pieces text
+    → IfOk read (λ (script : Script). ArePieces found script) → length text ≤ 2 ^ 20 → IfOk read (λ (script : Script). steps_size script.steps < 2 ^ 32)
+read_small text found (Ok script) same is short = script_small text script (subst (λ (cut : List (List ℕ)). ArePieces cut script) same is) short
+read_small text found (Err error) same is short = tt

@@ -5,6 +5,7 @@ use Rattle.rtc_run_history.specs.declared.side.Side.{Side}
 use Rattle.rtc_run_history.specs.Sides.{same_side}
 use Rattle.rtc_script.specs.declared.setting.Setting.{Setting}
 use Rattle.rtc_script.specs.declared.setting.Setting.TheVariants.{Lite, Snap, Buffer, MaxMessage, Stats}
+use Rattle.rtc_script.specs.declared.side_settings.SideSettings.{SideSettings}
 
 abbrev pub is_lite_setting : Setting → Bool
 is_lite_setting Lite = true
@@ -84,3 +85,13 @@ interval_from at (setting ∷ settings) interval = interval_from at settings (in
 -- the nanoseconds between two rounds of statistics of a side by the settings; none are reported where none says so
 abbrev pub interval_set : Side → List (Side × Setting) → Option ℕ
 interval_set at settings = interval_from at settings None
+
+-- what a side is set to by the settings
+abbrev pub side_settings : Side → List (Side × Setting) → SideSettings
+side_settings at settings = record {
+  lite = sets_lite at settings;
+  snap = sets_snap at settings;
+  max_buffered = buffer_set at settings;
+  max_message_size = max_message_set at settings;
+  stats_interval = interval_set at settings;
+}

@@ -1,33 +1,15 @@
 //! The act of a line: its verb, and the words behind it.
-ghost use Rattle.std.specs.Prelude.{◌≡◌, ◌≢◌, [], List, IfOk, IfSome, IfNone, map, codes};
-ghost use Rattle.rtc_script.specs.Lines.{AreOps, IsAct, IsNoVerbOfNegotiation, IsSingle, ops_verb};
+ghost use Rattle.std.specs.Prelude.{◌≡◌, ◌≢◌, [], IfOk, IfSome, IfNone, map, codes};
+ghost use Rattle.rtc_script.specs.Lines.{IsAct, IsNoVerbOfNegotiation, IsSingle};
 ghost use Rattle.rtc_run_history.specs.Sides.{side_of};
-ghost use Rattle.rtc_run_history.specs.declared.op.Op.{Op};
 ghost use Rattle.rtc_run_history.specs.declared.step.Step.{Step};
 
 use crate::messages::read_write;
-use crate::ops::read_ops;
+use crate::ops::read_negotiation;
 use crate::{is_word, read_long, read_one, read_two, read_two_long};
 use rtc_run_history::{Side, Step};
 use rtc_wire::{ChannelId, Moment};
 use std::alloc::{AllocError, Global};
-
-// The step whose ops the words name.
-fn read_negotiation(
-    alloc: Global,
-    at: Side,
-    words: &[&[u8]],
-    apply: bool,
-) -> Result<Option<Step>, AllocError>
-    ensures some { IfOk result (λ read. IfSome read (λ step.
-        (side_of step ≡ at) × IsAct (ops_verb apply) (map (λ word. word.now) words.now) step)) }
-    ensures none { IfOk result (λ read. IfNone read ((ops : List Op) → AreOps (map (λ word. word.now) words.now) ops → ⊥)) }
-{
-    match read_ops(alloc, words)? {
-        Some(ops) => Ok(Some(Step::Negotiate { at, ops, apply })),
-        None => Ok(None),
-    }
-}
 
 // The step of a verb that takes no words: it polls or closes.
 fn read_single(at: Side, verb: &[u8]) -> Option<Step>

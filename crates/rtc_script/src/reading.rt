@@ -63,21 +63,13 @@ fn read_pieces(alloc: Global, lines: &[&[u8]], end: &[u8]) -> Result<Script, Scr
     Ok(script)
 }
 
-// Cuts a text into its lines and reads them.
-fn read_lines(alloc: Global, bytes: &[u8]) -> Result<Script, ScriptError>
-    ensures some { IfOk result (λ script. IsScript bytes.now script) }
-    ensures none { IfErr result (λ error. IsRefused bytes.now error) }
-{
-    let pieces = cut_lines(alloc, bytes)?;
-    let (end, lines) = pieces.as_slice().split_last().unwrap();
-    read_pieces(alloc, lines, end)
-}
-
 /// Reads a script, or answers the first line that is refused.
 pub fn read_script(alloc: Global, bytes: &[u8]) -> Result<Script, ScriptError>
     ensures some { IfOk result (λ script. IsScript bytes.now script) }
     ensures few { length bytes.now ≤ 2 ^ 20 → IfOk result (λ script. steps_size script.steps < 2 ^ 32) }
     ensures none { IfErr result (λ error. IsRefused bytes.now error) }
 {
-    read_lines(alloc, bytes)
+    let pieces = cut_lines(alloc, bytes)?;
+    let (end, lines) = pieces.as_slice().split_last().unwrap();
+    read_pieces(alloc, lines, end)
 }

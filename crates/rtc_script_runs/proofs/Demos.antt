@@ -1,6 +1,7 @@
 -- Demos on the pair of the program.
 use Rattle.std.proofs.Common.{◌≡◌, ◌≤◌, ℕ, Bool, true, false, not, ◌&&◌, List, [], Option, refl, ap, subst, ◌∙◌}
 use Rattle.std.specs.declared.alloc.Global.{Global}
+use Rattle.rtc_config.specs.RtcConfig.{default_ice}
 use Rattle.rtc_demo.proofs.FinishedDemos.{demo_finishes}
 use Rattle.rtc_demo.proofs.OrderlyDemos.{demo_orderly}
 use Rattle.rtc_demo.specs.DemoCounts.{count_finished}
@@ -12,10 +13,11 @@ use Rattle.rtc_io.proofs.Told.{breaks_off_as}
 use Rattle.rtc_io.specs.Saying.{BreaksOff}
 use Rattle.rtc_peer_core.specs.Stance.{stance_of}
 use Rattle.rtc_plain_ice.specs.Calls.{lite_set, local_set, local_added}
-use Rattle.rtc_plain_ice.specs.Contents.{IceContents, fresh_ice}
+use Rattle.rtc_plain_ice.specs.Contents.{IceContents}
 use Rattle.rtc_plain_ice.specs.Messages.{is_ice_message}
 use Rattle.rtc_plain_media.specs.declared.plain_media_event.PlainMediaEvent.{PlainMediaEvent}
-use Rattle.rtc_run_plain.specs.ProgramPair.{PlainPeer, PlainPairState, plain_parts, host_at, IsProgramPeer, IsProgramPair}
+use Rattle.rtc_run_plain.specs.ProgramPair.{PlainPeer, PlainPairState, plain_parts, host_at, program_config, IsProgramPeer, IsProgramPair}
+use Rattle.rtc_run_plain.proofs.PlainPeers.{agent_after, built_agent}
 use Rattle.rtc_run_plain.specs.declared.peer_settings.PeerSettings.{PeerSettings}
 use Rattle.rtc_script.specs.declared.script.Script.{Script}
 use Rattle.rtc_sdp_values.specs.declared.candidate.Candidate.{Candidate}
@@ -26,9 +28,9 @@ use Rattle.rtc_script_runs.specs.Demo.{demo_script, demo_text, TellsCounts, Perf
 
 -- ---- agents of the program that are not lite
 
-lite_after : (lite : Bool) (creds : IceCreds) → (local_set creds (lite_set lite fresh_ice)).settings.lite ≡ lite
+lite_after : (initial : ℕ) (lite : Bool) (creds : IceCreds) → (agent_after initial lite creds).settings.lite ≡ lite
 unfolding local_set lite_set
-lite_after lite creds = refl
+lite_after initial lite creds = refl
 
 added_lite : (c : Candidate) (p : IceContents) → (local_added c p).settings.lite ≡ p.settings.lite
 unfolding local_added
@@ -37,7 +39,8 @@ added_lite c p = refl
 lite_of : (alloc : Global) (settings : PeerSettings) (cert : List ℕ) (first : ℕ) (addr : Addr) (p : PlainPeer) → IsProgramPeer alloc settings cert first addr p → (stance_of plain_parts p).ice.lite ≡ settings.lite
 lite_of alloc settings cert first addr p made =
     ap (λ (ice : IceContents). ice.settings.lite) made.by_address.1 ∙ added_lite (host_at addr) made.built.ice
-    ∙ ap (λ (ice : IceContents). ice.settings.lite) (made.by_build.by_creds ∙ ap (local_set _) made.by_build.by_lite) ∙ lite_after settings.lite _
+    ∙ ap (λ (ice : IceContents). ice.settings.lite) (built_agent alloc (program_config settings cert) first made.built made.by_build)
+    ∙ lite_after default_ice.initial_stun_rto settings.lite _
 
 connects : (alloc : Global) (left_settings right_settings : PeerSettings) (pair : PlainPairState) → left_settings.lite ≡ false → IsProgramPair alloc left_settings right_settings pair → can_connect (stances_of plain_parts pair) ≡ true
 connects alloc left_settings right_settings pair full made = by (stance_of plain_parts pair.left.core).ice.lite (stance_of plain_parts pair.right.core).ice.lite (lite_of alloc left_settings _ _ _ pair.left.core made.left ∙ full)

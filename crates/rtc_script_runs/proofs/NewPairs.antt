@@ -1,5 +1,5 @@
 -- The pair of the program is new: its peers were built over fresh plain parts, and given their addresses.
-use Rattle.std.proofs.Common.{◌≡◌, ◌∷◌, ◌∙◌, ℕ, List, [], true, None, Ok, refl, sym, ap, subst}
+use Rattle.std.proofs.Common.{◌≡◌, ◌∷◌, ◌∙◌, ℕ, List, [], true, false, None, Ok, refl, sym, ap, subst}
 use Rattle.std.specs.declared.alloc.Global.{Global}
 use Rattle.rtc_wire.specs.declared.addr.Addr.{Addr}
 use Rattle.rtc_plain_media.specs.MediaContents.{MediaContents, fresh_media, update_of}
@@ -34,7 +34,7 @@ program_new alloc left right pair h = record {
 peer_no_lines : (alloc : Global) (settings : PeerSettings) (cert : List ℕ) (first : ℕ) (addr : Addr) (p : PlainPeer)
     → IsProgramPeer alloc settings cert first addr p → (mid : List ℕ) → update_of p.media mid ≡ None
 peer_no_lines alloc settings cert first addr p h mid =
-    let same : p.media ≡ fresh_media = ap (λ (q : PlainPeer). q.media) h.rest ∙ ap (λ (q : PlainPeer). q.media) h.by_build.rest in
+    let same : p.media ≡ record fresh_media { raw_packets = false } = ap (λ (q : PlainPeer). q.media) h.rest ∙ h.by_build.by_settings in
     subst (λ (media : MediaContents). update_of media mid ≡ None) (sym same) refl
 
 pub program_no_lines : (alloc : Global) (left right : PeerSettings) (pair : PlainPairState) → IsProgramPair alloc left right pair

@@ -27,12 +27,13 @@ pub fn lack_memory(replies: &[Reply<PlainMediaEvent>]) -> bool
 fn settings_of(script: &Script, at: Side) -> PeerSettings
     ensures { result ≡ peer_settings at script.now.settings }
 {
+    let side = script.side_settings(at);
     PeerSettings {
-        lite: script.sets_lite(at),
-        snap: script.sets_snap(at),
-        max_buffered: script.buffer_set(at),
-        max_message_size: script.max_message_set(at),
-        stats_interval: script.interval_set(at),
+        lite: side.lite,
+        snap: side.snap,
+        max_buffered: side.max_buffered,
+        max_message_size: side.max_message_size,
+        stats_interval: side.stats_interval,
     }
 }
 

@@ -12,6 +12,6 @@ returns g c = (
   ),
   record {
     leaves = tt;
-    found = part_finds _ _ _ _ (sym c.is_open_phase.ensures ∙ c.if-not-is_open_phase.false) (sym c.has_media.ensures ∙ c.if-not-has_media.false) c.writer.ensures.found;
+    found = part_finds _ _ _ _ _ c.if-rtp_mode.false (sym c.is_open_phase.ensures ∙ c.if-not-is_open_phase.false) (sym c.has_media.ensures ∙ c.if-not-has_media.false) c.writer.ensures.found;
   },
 )

@@ -24,13 +24,15 @@ returns-in-Err g c = takes (meanings g.I.IceAgent.ice g.D.DtlsInstance.dtls g.S.
 pub returns-in-Err-time_sctp : goal.returns-in-Err-time_sctp
 unfolding TimesStreams
 returns-in-Err-time_sctp g c = takes (meanings g.I.IceAgent.ice g.D.DtlsInstance.dtls g.S.Association.association g.M.MediaSession.media g.N.Ids.ids) _ _ _ _ _ (later c.args.now c.args.peer.now.core.greatest _ _ c.nanos.ensures c.nanos-2.ensures c.if-nanos.false)
-    (Passed _ c.in-Ok.ensures (Failed Alloc refl (c.in-Err-time_sctp.ensures, refl)))
+    (rw (c.close_out_of_memory.ensures.told, c.close_out_of_memory.ensures.closed)
+    (Passed _ c.in-Ok.ensures (Failed Alloc refl (c.in-Err-time_sctp.ensures, refl))))
 
 pub returns-in-Err-time_handler : goal.returns-in-Err-time_handler
 unfolding TimesStreams TimesChannels
 returns-in-Err-time_handler g c = takes (meanings g.I.IceAgent.ice g.D.DtlsInstance.dtls g.S.Association.association g.M.MediaSession.media g.N.Ids.ids) _ _ _ _ _ (later c.args.now c.args.peer.now.core.greatest _ _ c.nanos.ensures c.nanos-2.ensures c.if-nanos.false)
+    (rw (c.close_out_of_memory-in-Err-time_handler.ensures.told, c.close_out_of_memory-in-Err-time_handler.ensures.closed)
     (Passed _ c.in-Ok.ensures (Passed (with_sctp c.time_sctp.new.sctp c.time_ice.new.peer) (c.in-Ok-time_sctp.ensures, refl)
-    (Failed Alloc refl (c.in-Err-time_handler.ensures, refl))))
+    (Failed Alloc refl (c.in-Err-time_handler.ensures, refl)))))
 
 pub returns-in-Err-time_media : goal.returns-in-Err-time_media
 unfolding TimesStreams TimesChannels

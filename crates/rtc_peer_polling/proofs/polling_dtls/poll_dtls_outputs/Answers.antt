@@ -23,6 +23,7 @@ returns-in_default g c =
 
 pub returns-in-Err : goal.returns-in-Err
 returns-in-Err g c =
-    repeats_end _ _ _ _ _ c.outputs.invariant
+    rw (c.close_out_of_memory.ensures.told, c.close_out_of_memory.ensures.closed)
+    (repeats_end _ _ _ _ _ c.outputs.invariant
     (record { answer = Err alloc_error; dtls = c.poll_output.new.self; by_poll = c.in-Err.ensures; by_answer = (refl, refl) })
-    (λ is. cc (is))
+    (λ is. cc (is)))

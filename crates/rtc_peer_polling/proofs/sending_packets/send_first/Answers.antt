@@ -44,8 +44,9 @@ returns-else-is_closing g c =
 
 pub returns-in-Err-Alloc : goal.returns-in-Err-Alloc
 returns-in-Err-Alloc g c =
-    first_lacks (meanings g.I.IceAgent.ice g.D.DtlsInstance.dtls g.S.Association.association g.M.MediaSession.media g.N.Ids.ids) c.in-Some.packet.now c.args.packets.items c.handle_input.new.self c.args.peer.now (with_sctp c.keep_rest-in-Err-Alloc.new.sctp (with_dtls c.handle_input.new.self c.args.peer.now))
+    rw (c.close_out_of_memory.ensures.told, c.close_out_of_memory.ensures.closed)
+    (first_lacks (meanings g.I.IceAgent.ice g.D.DtlsInstance.dtls g.S.Association.association g.M.MediaSession.media g.N.Ids.ids) c.in-Some.packet.now c.args.packets.items c.handle_input.new.self c.args.peer.now (with_sctp c.keep_rest-in-Err-Alloc.new.sctp (with_dtls c.handle_input.new.self c.args.peer.now))
     (first_and_rest c.args.packets.items c.in-Some.packet.now (sym (ap (λ (l : List (List ℕ)). slice_get l 0) c.deref.ensures.value) ∙ sym c.in-Some.ensures.value))
     (subst (λ (b : List ℕ). Answers (meanings g.I.IceAgent.ice g.D.DtlsInstance.dtls g.S.Association.association g.M.MediaSession.media g.N.Ids.ids) b c.args.peer.now (Err DtlsAlloc) c.handle_input.new.self) c.as_slice.ensures
     (subst (λ (e : DtlsError). Answers (meanings g.I.IceAgent.ice g.D.DtlsInstance.dtls g.S.Association.association g.M.MediaSession.media g.N.Ids.ids) c.as_slice.result.now c.args.peer.now (Err e) c.handle_input.new.self) c.in-Err-Alloc.field-0-is c.in-Err-Alloc.ensures.sent))
-    (ap (λ (s : SctpStreams g.row.S.Denot). with_sctp s (with_dtls c.handle_input.new.self c.args.peer.now)) c.keep_rest-in-Err-Alloc.ensures)
+    (ap (λ (s : SctpStreams g.row.S.Denot). with_sctp s (with_dtls c.handle_input.new.self c.args.peer.now)) c.keep_rest-in-Err-Alloc.ensures))

@@ -3,7 +3,7 @@ use Rattle.rtc_peer_staging.proofs.building.make_streams.Goals as goal
 
 pub returns-clause-limits : goal.returns-clause-limits
 returns-clause-limits g c =
-    allowed_limits g.S.Association.association c.args.association c.args.config.now.max_message_size _ c.limit_streams-sctp.result
+    allowed_limits g.S.Association.association c.args.association _ c.args.config.now.sctp.max_message_size _ c.limit_streams-sctp.result
     c.allow_snap.new.sctp c.allow_snap.ensures c.limit_streams-sctp.ensures.limits
 
 pub returns-clause-made : goal.returns-clause-made

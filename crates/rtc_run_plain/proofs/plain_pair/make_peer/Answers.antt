@@ -1,5 +1,5 @@
-use Rattle.std.proofs.Common.{true, ◌∙◌, ap}
-use Rattle.rtc_peer_core.specs.Config.{Config}
+use Rattle.std.proofs.Common.{◌∙◌, ap}
+use Rattle.rtc_config.specs.RtcConfig.{PeerConfig}
 use Rattle.rtc_peer_transport.specs.Connection.{no_transport}
 use Rattle.rtc_run_plain.proofs.PlainPeers.{built_bare, program_fresh, program_formed, program_unused}
 use Rattle.rtc_run_plain.proofs.plain_pair.make_peer.Goals as goal
@@ -26,4 +26,4 @@ pub returns-clause-unconnected : goal.returns-clause-unconnected
 returns-clause-unconnected c =
     c.in_ok-add_address.ensures.connection
     ∙ c.in_ok-rtc.ensures.unconnected
-    ∙ ap (λ (config : Config). no_transport true config.stats_interval) c.in_ok-config.ensures.value
+    ∙ ap (λ (config : PeerConfig). no_transport config.dtls.fingerprint_verification config.media.rtp_mode config.stats_interval) c.in_ok-config.ensures.value

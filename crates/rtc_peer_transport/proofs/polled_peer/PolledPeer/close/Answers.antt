@@ -19,7 +19,8 @@ begins m Closed p r q is h = cc (is)
 
 pub returns-in-Err : goal.returns-in-Err
 unfolding ShutsMedia
-returns-in-Err g c = begins (meanings g.I.IceAgent.ice g.D.DtlsInstance.dtls g.S.Association.association g.M.MediaSession.media g.N.Ids.ids) _ _ _ _ c.in-Alive.is (Failed Alloc refl (c.in-Err.ensures, refl))
+returns-in-Err g c = begins (meanings g.I.IceAgent.ice g.D.DtlsInstance.dtls g.S.Association.association g.M.MediaSession.media g.N.Ids.ids) _ _ _ _ c.in-Alive.is
+    (rw (c.close_out_of_memory.ensures.told, c.close_out_of_memory.ensures.closed) (Failed Alloc refl (c.in-Err.ensures, refl)))
 
 pub returns-in-Err-shut_streams : goal.returns-in-Err-shut_streams
 unfolding ShutsMedia

@@ -1,0 +1,57 @@
+//! Rounds whose answer announces a fingerprint that the certificate of its side has not (RFC 8122, section 6.2).
+use crate::ask::Ask;
+use crate::connected::exchange;
+use crate::exchanging::meet;
+use crate::fault::Fault;
+use crate::polled::Polled;
+use crate::signals::Signals;
+use crate::texts::Texts;
+use crate::way::Way;
+use crate::wire::Wire;
+use std::alloc::{AllocError, Global};
+
+// The hash of the certificate `abc` (FIPS 180-2, appendix B.1), which is that of neither side.
+const OTHER_CERTIFICATE: &str =
+    "sha-256 BA:78:16:BF:8F:01:CF:EA:41:41:40:DE:5D:AE:22:23:B0:03:61:A3:96:17:7A:9C:B4:10:FF:61:F2:00:15:AD";
+
+// One by a function that peers do not know.
+const UNKNOWN_HASH: &str = "md5 90:01:50:98:3C:D2:4F:B0:D6:96:3F:7D:28:E1:7F:72";
+
+// Whether two peers do not connect, and the one that was answered tells this cause.
+fn is_refused<P: Signals + Polled>(
+    alloc: Global,
+    left: &mut P,
+    right: &mut P,
+    announced: &str,
+    fault: Fault,
+) -> Result<bool, AllocError> {
+    let mut texts = Texts::new(alloc);
+    texts.announce(announced)?;
+    let mut wire = Wire::new(alloc, Way::plain());
+    let met = meet(alloc, left, right, 1, &mut texts);
+    exchange(left, right, &mut wire);
+    let connected = left.holds(Ask::IsConnected) | right.holds(Ask::IsConnected);
+    Ok(met & !connected & (wire.left.fault == Some(fault)))
+}
+
+/// Whether two peers do not connect, and one of them tells why.
+pub fn does_refuse<P: Signals + Polled>(
+    alloc: Global,
+    left: &mut P,
+    right: &mut P,
+    call: &str,
+) -> Result<bool, AllocError> {
+    match call {
+        "of another certificate" => {
+            is_refused(
+                alloc,
+                left,
+                right,
+                OTHER_CERTIFICATE,
+                Fault::OtherCertificate,
+            )
+        }
+        "of an unknown hash" => is_refused(alloc, left, right, UNKNOWN_HASH, Fault::UnknownHash),
+        _ => Ok(false),
+    }
+}

@@ -1,0 +1,33 @@
+//! The examples by their names.
+use crate::direct::Direct;
+use crate::polled::Polled;
+use crate::signals::Signals;
+use crate::turn::Turn;
+use crate::{announced, answers, changes, connected, copies, direct_steps, files, offers, work};
+use rtc_examples_cases::is_true;
+use rtc_peer::Mid;
+use std::alloc::Global;
+
+/// Whether two fresh peers, the files of an example and two mids give what is expected.
+pub fn ask<P: Signals + Polled + Direct>(
+    alloc: Global,
+    left: &mut P,
+    right: &mut P,
+    mids: (Mid, Mid),
+    example: (&str, &str),
+    turns: &[Turn],
+) -> bool {
+    let (subject, name) = example;
+    match subject {
+        "announced" => is_true(announced::does_refuse(alloc, left, right, name)),
+        "changes" => changes::does_agree(alloc, mids, name),
+        "connected" => connected::does_succeed(alloc, left, right, name),
+        "copies" => copies::does_agree(alloc, name, mids.0),
+        "copy" => copies::are_copied(alloc, turns),
+        "direct" => direct_steps::does_agree(alloc, left, right, mids, name),
+        "file" => is_true(files::does_come_over(alloc, left, right, name)),
+        "offers" => offers::does_agree(alloc, left, right, name),
+        "work" => is_true(work::does_come(alloc, left, right, name)),
+        _ => answers::answers(alloc, left, turns),
+    }
+}

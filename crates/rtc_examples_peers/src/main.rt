@@ -1,0 +1,66 @@
+//! Runs stored examples of peers over parts in memory: calls without session descriptions, offers and changes of lines, offers of other
+//! stacks with what a fresh peer answers, two peers that are connected, or are not since one announces another fingerprint, and files
+//! that go over a data channel while datagrams are lost and repeated.
+//!
+//! Each line of the input names a subject and an example of it, and is printed again behind `agrees` or `differs`: `answer PATH` gives a
+//! fresh peer the offer `PATH.offer`, whose answer has the lines of `PATH.answer`; `copy PATH` copies what is read of that offer;
+//! `file SIZE SEED LOST TWICE` sends a file, and `work one C M B` and `work turn C M B` so many messages over channels, so that a tool
+//! that counts instructions sees what they cost.
+#![tactic(auto)]
+
+mod announced;
+mod answers;
+mod ask;
+mod ask_direct;
+mod ask_streams;
+mod building;
+mod changes;
+mod codecs;
+mod configs;
+mod connected;
+mod copies;
+mod counting;
+mod direct;
+mod direct_of_parts;
+mod direct_steps;
+mod examples;
+mod exchanging;
+mod fault;
+mod files;
+mod gifts;
+mod given;
+mod hosts;
+mod layers;
+mod numbers;
+mod offers;
+mod outputs;
+mod polled;
+mod polled_of_parts;
+mod reading;
+mod reply;
+mod running;
+mod signals;
+mod signals_of_parts;
+mod texts;
+mod transfer;
+mod turn;
+mod way;
+mod wire;
+mod work;
+
+use rtc_examples_cases::{Examples, is_true, run};
+use std::io;
+use std::process::ExitCode;
+use std::rt::Files;
+
+struct Peers;
+
+impl Examples for Peers {
+    fn does_agree<R: Files + AllocGlobal>(rt: &R, subject: &str, name: &str) -> bool {
+        is_true(running::does_agree::<R>(rt, subject, name))
+    }
+}
+
+fn main(rt: HostRuntime) -> io::Result<ExitCode> {
+    run::<Peers, HostRuntime>(&rt)
+}
