@@ -1,2 +1,3 @@
-mod NumberingFacts
+mod CountedLoans
 mod LoanLemmas
+mod NumberingFacts
