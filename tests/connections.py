@@ -1,6 +1,6 @@
 """A model of how two peers connect over the parts in memory, for tests/random_scripts.py.
 
-It is written from the rules of docs/FORMATS.md and of the READMEs of rtc_plain_ice, rtc_plain_dtls, rtc_plain_media, rtc_peer_transport, rtc_peer_polling
+It is written from the rules of docs/FORMATS.md and of the READMEs of rtc_plain_ice, rtc_plain_dtls, rtc_plain_media, rtc_peer_transport
 and rtc_peer_polling, and not from the program. A side has one candidate, is not lite, restarts no ICE and knows the right fingerprint. tests/associations.py has
 what data channels do.
 """

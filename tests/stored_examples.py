@@ -17,6 +17,8 @@ import re
 import subprocess
 import sys
 
+from programs import builds
+
 TOP = os.path.dirname(os.path.dirname(os.path.abspath(__file__)))
 DATA = os.path.join(TOP, "tests", "data")
 
@@ -35,12 +37,6 @@ def stems(folder, given, expected):
     if found[0] != found[1] or not found[0]:
         sys.exit(f"without its {given} or {expected}: {sorted(found[0] ^ found[1]) or folder}")
     return sorted(found[0])
-
-
-# A program as LLVM builds it, and as Rattle's own compiler does where the gate left that.
-def builds(name):
-    path = os.path.join(TOP, "crates", name, "out", name)
-    return [path] + [path + ending for ending in (".by-rattle",) if os.path.isfile(path + ending)]
 
 
 # What a program writes, and the status that it ends with.
