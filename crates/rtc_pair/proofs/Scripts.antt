@@ -10,7 +10,7 @@ use Rattle.rtc_script.specs.declared.script.Script.{Script}
 use Rattle.rtc_script.specs.declared.script_error.ScriptError.{ScriptError}
 use Rattle.rtc_script.specs.declared.script_error.ScriptError.TheVariants.{Line}
 use Rattle.rtc_pair.specs.Answers.{RunsScript}
-use Rattle.rtc_script_runs.specs.Performed.{PerformsScript}
+use Rattle.rtc_pair.specs.Performed.{PerformsScript}
 
 pub reads_script : (a b : Option (List ℕ)) (bytes slice : List ℕ) (script : Script)
     → Consumes a b bytes → IsAtEnd b → length bytes ≤ 2 ^ 20 → slice ≡ bytes → IsScript slice script

@@ -8,7 +8,7 @@ use Rattle.rtc_run_plain.specs.ProgramPair.{PlainPairState}
 use Rattle.rtc_script.specs.Script.{IsScript, IsRefused}
 use Rattle.rtc_script.specs.declared.script_error.ScriptError.TheVariants.{Line}
 use Rattle.rtc_script.specs.declared.script.Script.{Script}
-use Rattle.rtc_script_runs.specs.Performed.{IsReport, PerformsScript}
+use Rattle.rtc_pair.specs.Performed.{IsReport, PerformsScript}
 
 -- the words of a run
 abbrev pub run_words : List (List ℕ)

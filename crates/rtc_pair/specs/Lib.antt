@@ -1,3 +1,5 @@
 pub mod Answers
 pub mod Demo
 pub mod Words
+pub mod Performed
+pub mod PerformedDemo

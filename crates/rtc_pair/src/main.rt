@@ -3,7 +3,10 @@
 #![tactic(auto)]
 
 mod asking;
+mod demo;
+mod performing;
 mod program;
+mod running;
 mod top;
 
 pub use program::pair_main;

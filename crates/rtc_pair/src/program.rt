@@ -9,11 +9,11 @@ ghost use Rattle.rtc_pair.specs.Words.{AskForNothing};
 ghost use Rattle.rtc_pair.specs.Demo.{RunsDemo, IsTextDue};
 
 use crate::asking::ask_for_run;
+use crate::demo::perform_demo;
 use crate::top::run_main;
 use rtc_demo::read_demo;
 use rtc_io::{Sink, Source, USAGE, say};
 use rtc_run_plain::PlainPair;
-use rtc_script_runs::perform_demo;
 use std::alloc::Global;
 
 /// Does what the words ask for, and answers the status to end with: `run` reads a script from `input`, performs it, and writes its report

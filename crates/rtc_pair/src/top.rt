@@ -4,10 +4,10 @@ ghost use Rattle.rtc_io.specs.Saying.{BreaksOff};
 ghost use Rattle.rtc_io.specs.Programs.{RefusesInput};
 ghost use Rattle.rtc_pair.specs.Answers.{script_program, RunsScript, CompletesRun, IsDueOfRun, TellsFault, TellsLength};
 
+use crate::performing::perform_script;
 use rtc_io::{OUT_OF_MEMORY, Sink, Source, read_input, refuse_input};
 use rtc_run_plain::PlainPair;
 use rtc_script::{ScriptError, read_script};
-use rtc_script_runs::perform_script;
 use std::alloc::Global;
 
 /// Reads a script from `input`, performs it, and writes its report to `output`; answers the status to end with.

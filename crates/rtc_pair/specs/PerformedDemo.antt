@@ -10,7 +10,7 @@ use Rattle.rtc_run_history.specs.declared.step.Step.{Step}
 use Rattle.rtc_plain_media.specs.declared.plain_media_event.PlainMediaEvent.{PlainMediaEvent}
 use Rattle.rtc_run_plain.specs.ProgramPair.{PlainPairState}
 use Rattle.rtc_script.specs.declared.script.Script.{Script}
-use Rattle.rtc_script_runs.specs.Performed.{RanScript, lack_memory}
+use Rattle.rtc_pair.specs.Performed.{RanScript, lack_memory}
 
 -- the steps of a demo as a script, which sets nothing
 abbrev pub demo_script : ℕ → ℕ → Script

@@ -1,5 +1,5 @@
-use Rattle.rtc_script_runs.proofs.Performances.{known_of, ran_joined}
-use Rattle.rtc_script_runs.proofs.running.run_script.Goals as goal
+use Rattle.rtc_pair.proofs.Performances.{known_of, ran_joined}
+use Rattle.rtc_pair.proofs.running.run_script.Goals as goal
 
 pub returns : goal.returns
 returns c =

@@ -1,7 +1,7 @@
 //! Scripts that are run on the pair of the program.
 ghost use Rattle.std.specs.Prelude.{◌≡◌, ◌<◌, ◌^◌, IfOk, Ok};
 ghost use Rattle.rtc_run_history.specs.Sizes.{steps_size};
-ghost use Rattle.rtc_script_runs.specs.Performed.{peer_settings, RanScript, lack_memory};
+ghost use Rattle.rtc_pair.specs.Performed.{peer_settings, RanScript, lack_memory};
 
 use rtc_plain::PlainMediaEvent;
 use rtc_run::run_pair;

@@ -23,8 +23,8 @@ use Rattle.rtc_script.specs.declared.script.Script.{Script}
 use Rattle.rtc_sdp_values.specs.declared.candidate.Candidate.{Candidate}
 use Rattle.rtc_sdp_values.specs.declared.ice_creds.IceCreds.{IceCreds}
 use Rattle.rtc_wire.specs.declared.addr.Addr.{Addr}
-use Rattle.rtc_script_runs.specs.Performed.{RanScript, lack_memory, peer_settings}
-use Rattle.rtc_script_runs.specs.Demo.{demo_script, demo_text, TellsCounts, PerformsDemo, IsDemoText}
+use Rattle.rtc_pair.specs.Performed.{RanScript, lack_memory, peer_settings}
+use Rattle.rtc_pair.specs.PerformedDemo.{demo_script, demo_text, TellsCounts, PerformsDemo, IsDemoText}
 
 -- ---- agents of the program that are not lite
 

@@ -1,5 +1,5 @@
-use Rattle.rtc_script_runs.proofs.Performances.{performs, performs_or, report_off}
-use Rattle.rtc_script_runs.proofs.performing.perform_script.Goals as goal
+use Rattle.rtc_pair.proofs.Performances.{performs, performs_or, report_off}
+use Rattle.rtc_pair.proofs.performing.perform_script.Goals as goal
 
 pub returns-clause-done : goal.returns-clause-done
 returns-clause-done g c =

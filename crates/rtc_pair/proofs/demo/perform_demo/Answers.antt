@@ -1,5 +1,5 @@
-use Rattle.rtc_script_runs.proofs.Demos.{performs_demo, demo_off}
-use Rattle.rtc_script_runs.proofs.demo.perform_demo.Goals as goal
+use Rattle.rtc_pair.proofs.Demos.{performs_demo, demo_off}
+use Rattle.rtc_pair.proofs.demo.perform_demo.Goals as goal
 
 pub returns-clause-done : goal.returns-clause-done
 returns-clause-done g c =

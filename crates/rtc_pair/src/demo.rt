@@ -2,7 +2,7 @@
 ghost use Rattle.std.specs.Prelude.{◌≡◌, ◌≤◌, ◌<◌, ◌^◌, ◌⊎◌, IfOk};
 ghost use Rattle.rtc_io.specs.Saying.{BreaksOff};
 ghost use Rattle.rtc_run_history.specs.Sizes.{steps_size};
-ghost use Rattle.rtc_script_runs.specs.Demo.{demo_script, demo_text, IsDemoText, PerformsDemo, TellsCounts};
+ghost use Rattle.rtc_pair.specs.PerformedDemo.{demo_script, demo_text, IsDemoText, PerformsDemo, TellsCounts};
 
 use crate::running::{lack_memory, run_script};
 use rtc_demo::{count_demo, demo_steps, write_counts};

@@ -17,8 +17,8 @@ use Rattle.rtc_run_history.specs.DrawnInRuns.{AllPlain, DrawsUnused, HaveNoLines
 use Rattle.rtc_run_history.specs.Fresh.{ArePeersFormed}
 use Rattle.rtc_run_history.specs.Runs.{Runs}
 use Rattle.rtc_run_history.specs.Signalled.{AllReadBack}
-use Rattle.rtc_script_runs.proofs.NewPairs.{program_new, program_no_lines}
-use Rattle.rtc_script_runs.specs.Performed.{IsPairOf, IsReport, RanScript, KeepsReport, PerformsScript}
+use Rattle.rtc_pair.proofs.NewPairs.{program_new, program_no_lines}
+use Rattle.rtc_pair.specs.Performed.{IsPairOf, IsReport, RanScript, KeepsReport, PerformsScript}
 
 -- what is known of descriptions that are plain, by replies
 abbrev pub KnowPlain : List Step → (start pair : PlainPairState) → List (Reply PlainMediaEvent) → Type 0

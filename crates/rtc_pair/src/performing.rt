@@ -3,7 +3,7 @@ ghost use Rattle.std.specs.Prelude.{◌≡◌, ◌<◌, ◌^◌, ◌⊎◌, true
 ghost use Rattle.rtc_io.specs.Saying.{BreaksOff};
 ghost use Rattle.rtc_run_history.specs.Sizes.{steps_size};
 ghost use Rattle.rtc_script_reports.specs.Report.{report};
-ghost use Rattle.rtc_script_runs.specs.Performed.{IsReport, KeepsReport, PerformsScript};
+ghost use Rattle.rtc_pair.specs.Performed.{IsReport, KeepsReport, PerformsScript};
 
 use crate::running::{lack_memory, run_script};
 use rtc_io::{OUT_OF_MEMORY, SINK_FAILED, Sink, write_all};

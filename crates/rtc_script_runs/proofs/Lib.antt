@@ -1,3 +1,0 @@
-mod NewPairs
-pub mod Performances
-pub mod Demos
