@@ -1,0 +1,2 @@
+mod NumberingFacts
+mod LoanLemmas
