@@ -1,5 +1,5 @@
 //! Staged changes: channels that are taken out of them, and the lines that they add.
-use crate::copies::media;
+use crate::copies::{are_changes_copied, media};
 use rtc_change::{Change, Changes, Lines, count_added};
 use rtc_examples_cases::{is_ok, is_true};
 use rtc_lines::{Direction, LineRow, MediaKind, Mid};
@@ -82,6 +82,7 @@ fn are_places_given(alloc: Global, mid: Mid, other: Mid) -> bool {
 pub fn does_agree(alloc: Global, mids: (Mid, Mid), example: &str) -> bool {
     let (mid, other) = mids;
     match example {
+        "are copied" => are_changes_copied(alloc, mid),
         "give places to the lines that they add" => are_places_given(alloc, mid, other),
         "take their channels the last first" => are_channels_taken(alloc, mid),
         "to a table declare a line" => is_line_declared(alloc, mid),

@@ -2,7 +2,7 @@
 use crate::turn::Turn;
 use rtc_change::{AddMedia, Change, Changes};
 use rtc_examples_cases::{is_ok, is_true};
-use rtc_lines::{Direction, MediaKind, Mid, Msid, Sdp, SdpAnswer, SdpError, SdpOffer, Ssrc};
+use rtc_lines::{Direction, MediaKind, Mid, Msid, SdpAnswer, SdpError, SdpOffer, Ssrc};
 use rtc_wire::{Seq, Text, TryCopy};
 use rtc_wire_drops::release;
 use std::alloc::{AllocError, Global};
@@ -40,63 +40,34 @@ fn add_each(alloc: Global, changes: &mut Seq<Change>, mid: Mid) -> Result<(), Al
     changes.push(Change::Direction(mid, Direction::Inactive))
 }
 
-// Whether changes of each kind are copied.
-fn are_changes_copied(alloc: Global, mid: Mid) -> bool {
+/// Whether changes of each kind are copied.
+pub fn are_changes_copied(alloc: Global, mid: Mid) -> bool {
     let mut changes = Changes(Seq::empty(alloc));
     let added = is_ok(add_each(alloc, &mut changes.0, mid));
     added & is_ok(changes.copy())
 }
 
-fn without_lines(alloc: Global) -> Sdp {
-    Sdp {
-        id: 7,
-        groups: Seq::empty(alloc),
-        ice_lite: true,
-        creds: None,
-        fingerprint: None,
-        setup: None,
-        lines: Seq::empty(alloc),
-    }
-}
-
-fn lists_no_candidates(offer: &SdpOffer) -> Result<bool, AllocError> {
-    let listed = offer.0.candidates()?;
-    Ok(listed.is_empty())
-}
-
-// Whether an offer without lines is copied, and has no candidates.
-fn is_offer_copied(alloc: Global) -> bool {
-    let offer = SdpOffer(without_lines(alloc));
-    let listed = is_true(lists_no_candidates(&offer));
-    listed & is_ok(offer.copy())
-}
-
-fn is_answer_copied(alloc: Global) -> bool {
-    let answer = SdpAnswer(without_lines(alloc));
-    is_ok(answer.copy())
-}
-
-fn is_read_copied(alloc: Global, offer: &str) -> Result<bool, SdpError> {
-    let offer = SdpOffer::from_sdp_string(alloc, offer)?;
-    let copied = is_ok(offer.copy());
+fn is_offer_copied(alloc: Global, text: &str) -> Result<bool, SdpError> {
+    let offer = SdpOffer::from_sdp_string(alloc, text)?;
+    let copied = is_ok(offer.copy()) & is_ok(offer.0.candidates());
     release(offer, Ok(copied))
 }
 
-/// Whether offers that come as text are copied.
+// The same lines are read as an answer too.
+fn is_answer_copied(alloc: Global, text: &str) -> Result<bool, SdpError> {
+    let answer = SdpAnswer::from_sdp_string(alloc, text)?;
+    let copied = is_ok(answer.copy());
+    release(answer, Ok(copied))
+}
+
+/// Whether descriptions that come as text are copied, and their candidates listed.
 pub fn are_copied(alloc: Global, turns: &[Turn]) -> bool {
     for turn in turns {
-        if !is_true(is_read_copied(alloc, turn.offer.as_str())) {
+        let text = turn.offer.as_str();
+        let offer = is_true(is_offer_copied(alloc, text));
+        if !(offer & is_true(is_answer_copied(alloc, text))) {
             return false;
         }
     }
     !turns.is_empty()
-}
-
-/// Whether an example of copies gives what is expected.
-pub fn does_agree(alloc: Global, example: &str, mid: Mid) -> bool {
-    match example {
-        "of changes" => are_changes_copied(alloc, mid),
-        "of offers and answers" => is_offer_copied(alloc) & is_answer_copied(alloc),
-        _ => false,
-    }
 }

@@ -22,7 +22,6 @@ pub fn ask<P: Signals + Polled + Direct>(
         "announced" => is_true(announced::does_refuse(alloc, left, right, name)),
         "changes" => changes::does_agree(alloc, mids, name),
         "connected" => connected::does_succeed(alloc, left, right, name),
-        "copies" => copies::does_agree(alloc, name, mids.0),
         "copy" => copies::are_copied(alloc, turns),
         "direct" => direct_steps::does_agree(alloc, left, right, mids, name),
         "file" => is_true(files::does_come_over(alloc, left, right, name)),
