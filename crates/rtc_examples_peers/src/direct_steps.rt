@@ -135,9 +135,9 @@ fn agrees<P: Direct>(alloc: Global, peer: &mut P, mids: (Mid, Mid), step: &Step)
     }
 }
 
-fn plays<P: Direct>(alloc: Global, peer: &mut P, mids: (Mid, Mid), steps: &[Step]) -> bool {
+fn plays<P: Direct>(alloc: Global, peer: &mut P, mids: &(Mid, Mid), steps: &[Step]) -> bool {
     for step in steps {
-        if !agrees(alloc, peer, mids, step) {
+        if !agrees(alloc, peer, (mids.0, mids.1), step) {
             return false;
         }
     }
@@ -163,17 +163,17 @@ pub fn does_agree<P: Signals + Direct>(
     example: &str,
 ) -> bool {
     match example {
-        "association starts by both halves" => plays(alloc, left, mids, &HALVES),
-        "channels are made" => plays(alloc, left, mids, &CHANNELS),
-        "feedback is sent" => plays(alloc, left, mids, &FEEDBACK),
-        "first role stays" => plays(alloc, left, mids, &ROLE),
+        "association starts by both halves" => plays(alloc, left, &mids, &HALVES),
+        "channels are made" => plays(alloc, left, &mids, &CHANNELS),
+        "feedback is sent" => plays(alloc, left, &mids, &FEEDBACK),
+        "first role stays" => plays(alloc, left, &mids, &ROLE),
         "halves are told by descriptions" => tell_halves(alloc, left, right),
-        "lines are declared and removed" => plays(alloc, left, mids, &LINES),
-        "parts are set" => plays(alloc, left, mids, &PARTS),
-        "peer ends once" => plays(alloc, left, mids, &END),
-        "sources in use are passed over" => plays(alloc, left, mids, &SOURCES),
-        "streams go with their line" => plays(alloc, left, mids, &STREAMS),
-        "streams keep their marks" => plays(alloc, left, mids, &MARKS),
+        "lines are declared and removed" => plays(alloc, left, &mids, &LINES),
+        "parts are set" => plays(alloc, left, &mids, &PARTS),
+        "peer ends once" => plays(alloc, left, &mids, &END),
+        "sources in use are passed over" => plays(alloc, left, &mids, &SOURCES),
+        "streams go with their line" => plays(alloc, left, &mids, &STREAMS),
+        "streams keep their marks" => plays(alloc, left, &mids, &MARKS),
         _ => false,
     }
 }
