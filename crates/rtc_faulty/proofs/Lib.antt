@@ -1,0 +1,3 @@
+mod CountedLoans
+mod LoanLemmas
+mod NumberingFacts

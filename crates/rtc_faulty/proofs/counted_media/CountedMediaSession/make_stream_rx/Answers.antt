@@ -1,0 +1,13 @@
+use Rattle.std.proofs.Common.{refl, subst}
+use Rattle.rtc_part_media.specs.NoStream.{StreamAnswers}
+use Rattle.rtc_faulty.proofs.CountedLoans.{made_lent, nothing_made}
+use Rattle.rtc_faulty.proofs.counted_media.CountedMediaSession.make_stream_rx.Goals as goal
+
+pub returns : goal.returns
+returns g c =
+    let a = c.args in
+    let media = g.M.MediaSession.media in
+    let left = c.make_stream_rx.follows in
+    let was = c.self.view_is in
+    let answer = subst (λ i. StreamAnswers (media.declines_rx i a.ssrc a.rtx a.mid a.rid) c.make_stream_rx.result) was c.make_stream_rx.ensures.answer in
+    ((refl, (λ w. made_lent c.make_stream_rx.result (λ i lent j. media.rx_expected i a.ssrc a.rtx a.mid a.rid lent.now w j) _ _ _ was (left.holds w)), nothing_made c.make_stream_rx.result _ _ _ was left.holds-at-none), record { leaves = tt; answer = answer })

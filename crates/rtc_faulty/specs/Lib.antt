@@ -1,0 +1,12 @@
+pub mod Numbering
+pub mod FaultyCalls
+pub mod FaultyLemmas
+pub mod FaultyDtls
+pub mod FaultyDtlsLaws
+pub mod FaultyAssociation
+pub mod FaultyAssociationActs
+pub mod FaultyAssociationLaws
+pub mod RowLemmas
+pub mod FaultyMedia
+pub mod FaultyMediaActs
+pub mod FaultyMediaLaws
