@@ -1,6 +1,7 @@
 #!/usr/bin/env python3
 """Compares docs/THEOREMS.md with the sources: each quotation is in the file that it names; each word of a quotation has a row, and
 each word that a row rests on is in the definition of its word; each clause is one of its call. A theorem quotes at most ten lines.
+Of docs/GUARANTEES.md each call, clause and definition that it links is in the file that the link leads to.
 
 usage: tests/theorems.py --check     the status tells whether all of it is so
 """
@@ -10,6 +11,7 @@ import sys
 
 TOP = os.path.dirname(os.path.dirname(os.path.abspath(__file__)))
 PAGE = os.path.join(TOP, "docs", "THEOREMS.md")
+CLAIMS = os.path.join(TOP, "docs", "GUARANTEES.md")
 LINES = 10
 LINK = r"\[`(\w+)`\]\(([^)#]+)\)"
 
@@ -61,9 +63,10 @@ def rows(text):
         yield re.findall(LINK, cells[0])[0], re.findall(LINK, cells[2])
 
 
+# Whether a file has a call, and the call a clause of this name, if one is given.
 def has_clause(target, call, clause):
     found = re.search(rf"\bfn {call}\b.*?^ *\{{", read(target), re.S | re.M)
-    return bool(found and re.search(rf"\bensures {clause} \{{", found[0]))
+    return bool(found and (not clause or re.search(rf"\bensures {clause} \{{", found[0])))
 
 
 # What of a section is not as the sources have it.
@@ -97,11 +100,27 @@ def faults(text):
             yield f"{call} has no clause {clause} in {target}"
 
 
+# What of the claims is not as the sources have it.
+def false_claims(text):
+    calls = re.findall(r"(?:`(\w+)` of )?\[`(?:\w+::)?(\w+)`\]\(([^)#]+\.rt)\)", text)
+    definitions = re.findall(r"\[`(\w+)`\]\(([^)#]+\.antt)\)", text)
+    if not calls or not definitions:
+        yield "no call or no definition is linked"
+    for clause, call, target in calls:
+        if not has_clause(target, call, clause):
+            yield f"{call} in {target} has not the clause {clause or 'of a call'}"
+    for word, target in definitions:
+        if not definition(target, word):
+            yield f"{word} is not defined in {target}"
+
+
 def main():
     if sys.argv[1:] != ["--check"]:
         sys.exit(__doc__)
     with open(PAGE, encoding="utf-8") as file:
         found = [(heading, fault) for heading, text in theorems(file.read()) for fault in faults(text)]
+    with open(CLAIMS, encoding="utf-8") as file:
+        found += [("docs/GUARANTEES.md", fault) for fault in false_claims(file.read())]
     for heading, fault in found:
         print(f"WRONG {heading}: {fault}")
     return 1 if found else 0
