@@ -8,7 +8,7 @@ use rtc_sdp_values::{Direction, MediaKind, Mid, Rid, Ssrc};
 use rtc_wire::Moment;
 use std::alloc::{AllocError, Global};
 
-fn mid_of(mids: (Mid, Mid), line: bool) -> Mid {
+fn mid_of(mids: &(Mid, Mid), line: bool) -> Mid {
     if line { mids.0 } else { mids.1 }
 }
 
@@ -41,7 +41,7 @@ fn make_packets<M: Part>(part: &mut M, call: &Call) -> bool {
     }
 }
 
-fn make<M: Part>(alloc: Global, part: &mut M, mids: (Mid, Mid), call: &Call) -> bool {
+fn make<M: Part>(alloc: Global, part: &mut M, mids: &(Mid, Mid), call: &Call) -> bool {
     match *call {
         Call::ShowRaw(raw) => {
             part.configure(settings(raw));
@@ -91,7 +91,7 @@ fn shows(event: &PlainMediaEvent, want: &Told) -> bool {
     }
 }
 
-fn is_told(event: &PlainMediaEvent, mids: (Mid, Mid), want: &Told) -> bool {
+fn is_told(event: &PlainMediaEvent, mids: &(Mid, Mid), want: &Told) -> bool {
     match *want {
         Told::Added(line, dir) => {
             *event == PlainMediaEvent::Added(mid_of(mids, line), MediaKind::Audio, dir)
@@ -103,7 +103,7 @@ fn is_told(event: &PlainMediaEvent, mids: (Mid, Mid), want: &Told) -> bool {
     }
 }
 
-fn tells<M: Part>(part: &mut M, mids: (Mid, Mid), want: &Told) -> bool {
+fn tells<M: Part>(part: &mut M, mids: &(Mid, Mid), want: &Told) -> bool {
     match part.poll_event() {
         Some(event) => is_told(&event, mids, want),
         None => false,
@@ -128,24 +128,28 @@ fn is_marked(mark: Option<&mut PlainMark>, want: Mark) -> bool {
     }
 }
 
-fn made_is_marked(made: Result<Option<&mut PlainMark>, AllocError>, want: Mark) -> bool {
-    match made {
-        Ok(mark) => is_marked(mark, want),
-        Err(_) => false,
-    }
+fn declares<M: Part>(
+    part: &mut M,
+    (ssrc, rtx): (u32, Option<u32>),
+    mid: Mid,
+    name: Option<&str>,
+    want: Mark,
+) -> Result<bool, AllocError> {
+    let made = part.declare_stream_tx(Ssrc(ssrc), source(rtx), mid, layer(name))?;
+    Ok(is_marked(made, want))
 }
 
-fn lends<M: Part>(part: &mut M, mids: (Mid, Mid), lent: &Lent, want: Mark) -> bool {
+fn expects<M: Part>(part: &mut M, ssrc: u32, mid: Mid, want: Mark) -> Result<bool, AllocError> {
+    let made = part.expect_stream_rx(Ssrc(ssrc), None, mid, None)?;
+    Ok(is_marked(made, want))
+}
+
+fn lends<M: Part>(part: &mut M, mids: &(Mid, Mid), lent: &Lent, want: Mark) -> bool {
     match *lent {
         Lent::Declared(ssrc, rtx, line, name) => {
-            let mid = mid_of(mids, line);
-            let made = part.declare_stream_tx(Ssrc(ssrc), source(rtx), mid, layer(name));
-            made_is_marked(made, want)
+            is_true(declares(part, (ssrc, rtx), mid_of(mids, line), name, want))
         }
-        Lent::Expected(ssrc, line) => {
-            let made = part.expect_stream_rx(Ssrc(ssrc), None, mid_of(mids, line), None);
-            made_is_marked(made, want)
-        }
+        Lent::Expected(ssrc, line) => is_true(expects(part, ssrc, mid_of(mids, line), want)),
         Lent::Renumbered(line, ssrc, rtx) => {
             let mid = mid_of(mids, line);
             is_marked(
@@ -193,7 +197,7 @@ fn agrees<M: Part>(
     alloc: Global,
     part: &mut M,
     other: &mut M,
-    mids: (Mid, Mid),
+    mids: &(Mid, Mid),
     step: &Step,
 ) -> bool {
     match *step {
@@ -217,7 +221,7 @@ fn plays<M: Part>(
     alloc: Global,
     left: &mut M,
     right: &mut M,
-    mids: (Mid, Mid),
+    mids: &(Mid, Mid),
     steps: &[(bool, Step)],
 ) -> bool {
     for (at_left, step) in steps {
@@ -240,5 +244,6 @@ pub fn is_played(alloc: Global, steps: &[(bool, Step)]) -> bool {
     };
     let mut left = PlainMedia::new(alloc);
     let mut right = PlainMedia::new(alloc);
-    plays(alloc, &mut left, &mut right, (first, second), steps)
+    let mids = (first, second);
+    plays(alloc, &mut left, &mut right, &mids, steps)
 }
