@@ -48,7 +48,7 @@ def passed_on(crate):
         found, root = re.findall(r"\w+", names), path.split("::")[0]
         if root == "crate" or os.path.exists(os.path.join(folder, root + ".rt")) or os.path.isdir(os.path.join(folder, root)):
             own.update(found)
-        elif root.startswith("rtc_"):
+        elif root.startswith("rtc"):
             others.setdefault(root, []).extend(found)
     return own, others
 

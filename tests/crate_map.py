@@ -27,7 +27,7 @@ def families():
                 found.append((line[1:].strip(), {}))
             else:
                 name, listed = line.split(":", 1)
-                found[-1][1][name.split()[0]] = [other for other in listed.split() if other.startswith("rtc_")]
+                found[-1][1][name.split()[0]] = [other for other in listed.split() if other.startswith("rtc")]
     return found
 
 
@@ -83,7 +83,7 @@ def expected(found):
 # The headings and the rows of the tables, in order: what each names, and what a row says.
 def entries(text):
     section = text.partition(TABLES)[2].partition("\n## ")[0]
-    for heading_text, name, told in re.findall(r"^(?:### (.+)|\| `(rtc_\w+)` \| (.*) \|)$", section, re.M):
+    for heading_text, name, told in re.findall(r"^(?:### (.+)|\| `(rtc\w*)` \| (.*) \|)$", section, re.M):
         yield heading_text or name, told
 
 

@@ -41,11 +41,11 @@ def exported(crate):
 # The names that a file imports from definitions, each with the crate and the file of its definition.
 def imported(text):
     names = {}
-    for crate, module, inside in re.findall(r"ghost use Rattle\.(rtc_\w+)\.specs\.(\w+)\.\{([^}]*)\}", text):
+    for crate, module, inside in re.findall(r"ghost use Rattle\.(rtc\w*)\.specs\.(\w+)\.\{([^}]*)\}", text):
         for name in filter(None, (part.strip() for part in inside.split(","))):
             old, _, new = name.partition(" as ")
             names[(new or old).strip()] = (crate, module, old.strip())
-    for crate, module, alias in re.findall(r"ghost use Rattle\.(rtc_\w+)\.specs\.(\w+) as (\w+)", text):
+    for crate, module, alias in re.findall(r"ghost use Rattle\.(rtc\w*)\.specs\.(\w+) as (\w+)", text):
         names[alias] = (crate, module, None)
     return names
 

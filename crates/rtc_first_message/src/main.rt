@@ -1,107 +1,68 @@
-//! Two peers in one process agree on an audio line, and the lines of both are printed. Then they open a data channel, the left one
-//! sends a message over it, and what both are told is printed.
+//! Two peers agree on an audio line and a data channel, send each other a message, and print what they report.
 #![tactic(auto)]
 
-mod round;
-mod session;
+mod network;
+mod outbox;
 
-use round::{agree_on_line, describe};
-use rtc_assoc::PlainAssociation;
-use rtc_peer::{Association, Candidate, DtlsInstance, IceAgent, Ids, MediaSession, Rtc, RtcError};
-use rtc_plain::{CountIds, PlainDtls, PlainIce, PlainMedia, PlainMediaEvent};
-use rtc_wire::{Addr, Moment, Protocol};
-use session::{Session, meet};
-use std::alloc::{AllocError, Global};
+use network::exchange;
+use outbox::Outbox;
+use rtc::{
+    Addr, Direction, MediaKind, Moment, Plain, RtcError, accept_answer_text, accept_offer_text,
+    drive, plain_peer,
+};
+use std::alloc::Global;
 use std::io;
 
-type Peer = Rtc<PlainIce, PlainDtls, PlainAssociation, PlainMedia, CountIds>;
-
-fn address(alloc: Global, host: u8, port: u16) -> Result<Candidate, AllocError> {
-    let addr = Addr {
-        ip: [host, host, host, host],
-        port,
-    };
-    Candidate::host(alloc, addr, Protocol::Udp)
-}
-
-fn perform<
-    I: IceAgent,
-    D: DtlsInstance,
-    S: Association,
-    M: MediaSession<E = PlainMediaEvent>,
-    N: Ids,
->(
-    alloc: Global,
-    left: &mut Rtc<I, D, S, M, N>,
-    right: &mut Rtc<I, D, S, M, N>,
-    session: &mut Session,
-) -> Result<(), RtcError> {
-    left.add_local_candidate(address(alloc, 1, 1000)?)?;
-    right.add_local_candidate(address(alloc, 2, 2000)?)?;
-    agree_on_line(alloc, left, right)?;
-    describe(&mut session.lines, "left", left.lines())?;
-    describe(&mut session.lines, "right", right.lines())?;
-    let label = String::from_str(alloc, "chat")?;
-    meet(alloc, left, right, label, session)
-}
-
-fn run<
-    I: IceAgent + Drop,
-    D: DtlsInstance + Drop,
-    S: Association + Drop,
-    M: MediaSession<E = PlainMediaEvent> + Drop,
-    N: Ids + Drop,
->(
-    alloc: Global,
-    left: Result<Rtc<I, D, S, M, N>, AllocError>,
-    right: Result<Rtc<I, D, S, M, N>, AllocError>,
-    session: &mut Session,
-) -> Result<(), RtcError> {
-    let mut left = left?;
-    let mut right = right?;
-    perform(alloc, &mut left, &mut right, session)
-}
-
-// The two peers are over parts in memory, which no other function names.
-fn begin(alloc: Global, session: &mut Session) -> Result<(), RtcError> {
-    let config = Peer::builder(alloc)?;
-    let other = Peer::builder(alloc)?;
-    let left = Rtc::build(
+fn call(alloc: Global, l: &mut Outbox, r: &mut Outbox) -> Result<(), RtcError> {
+    let mut left = plain_peer(
         alloc,
-        config,
-        Moment::FAR_PAST,
-        PlainIce::new(alloc),
-        PlainDtls::new(alloc),
-        PlainAssociation::new(alloc),
-        PlainMedia::new(alloc),
-        CountIds::starting(1),
-    );
-    let right = Rtc::build(
+        1,
+        Addr {
+            ip: [1, 1, 1, 1],
+            port: 1000,
+        },
+    )?;
+    let mut right = plain_peer(
         alloc,
-        other,
-        Moment::FAR_PAST,
-        PlainIce::new(alloc),
-        PlainDtls::new(alloc),
-        PlainAssociation::new(alloc),
-        PlainMedia::new(alloc),
-        CountIds::starting(1_000_001),
-    );
-    run(alloc, left, right, session)
-}
-
-// The lines of both peers, and what each told by itself.
-fn show<R: Print>(rt: &R, session: &Session) -> io::Result<()> {
-    let lines = session.lines.as_str();
-    let left = session.left.as_str();
-    let right = session.right.as_str();
-    print!(rt; "{lines}left:\n{left}right:\n{right}")
+        1_000_001,
+        Addr {
+            ip: [2, 2, 2, 2],
+            port: 2000,
+        },
+    )?;
+    let mut api = left.sdp_api();
+    api.add_media(MediaKind::Audio, Direction::SendOnly, None, None, None)?;
+    let chat = api.add_channel(String::from_str(alloc, "chat")?)?;
+    if let Some((offer, token)) = api.apply()? {
+        let offer = offer.to_sdp_string()?;
+        drive::<Plain, Outbox>(&mut left, Moment::FAR_PAST, l)?;
+        let answer = accept_offer_text::<Plain>(alloc, &mut right, offer.as_str())?;
+        drive::<Plain, Outbox>(&mut right, Moment::FAR_PAST, r)?;
+        accept_answer_text::<Plain>(alloc, &mut left, token, answer.as_str())?;
+    }
+    l.describe(left.lines())?;
+    r.describe(right.lines())?;
+    let now = exchange(&mut left, &mut right, Moment::FAR_PAST, l, r)?;
+    l.write(&mut left, "hello")?;
+    r.write(&mut right, "hello to you")?;
+    let now = exchange(&mut left, &mut right, now, l, r)?;
+    left.close_data_channel(chat)?;
+    let now = exchange(&mut left, &mut right, now, l, r)?;
+    left.close()?;
+    exchange(&mut left, &mut right, now, l, r)?;
+    Ok(())
 }
 
 fn main(rt: HostRuntime) -> io::Result<()> {
     let alloc = rt.alloc();
-    let mut session = Session::new(alloc);
-    match begin(alloc, &mut session) {
-        Ok(()) => show(&rt, &session),
-        Err(error) => println!(rt; "{error}"),
+    let mut left = Outbox::new(alloc);
+    let mut right = Outbox::new(alloc);
+    if let Err(error) = call(alloc, &mut left, &mut right) {
+        return println!(rt; "{error}");
     }
+    print!(rt;
+        "left:\n{}right:\n{}",
+        left.log.as_str(),
+        right.log.as_str()
+    )
 }

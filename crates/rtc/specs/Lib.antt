@@ -1,0 +1,5 @@
+pub mod Drives
+pub mod PlainPeers
+pub mod Receives
+pub mod SinkMeaning
+pub mod Texts

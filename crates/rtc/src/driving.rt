@@ -1,0 +1,55 @@
+//! The loop that drives a peer.
+ghost use Rattle.rtc_peer_core.specs.Meanings.{meanings};
+ghost use Rattle.rtc.specs.Drives.{DrainsInto, Drives, HandsNext};
+
+use crate::handed::{Handed, hand};
+use crate::{Parts, Peer, Sink};
+use rtc_peer::{Input, RtcError};
+use rtc_wire::Moment;
+
+// Polls a peer once, and hands its output to the sink.
+fn hand_next<P: Parts, K: Sink<P::MediaEvent>>(peer: &mut Peer<P>, sink: &mut K) -> Handed
+    ensures { HandsNext (meanings P.Ice.ice P.Dtls.dtls P.Sctp.association P.Media.media P.Ids.ids) K.sink
+        peer.old sink.old result peer.new sink.new }
+{
+    match peer.poll_output() {
+        Ok(output) => hand::<P::MediaEvent, K>(sink, output),
+        Err(error) => Handed::Failed(error),
+    }
+}
+
+// Polls a peer until it waits, or the poll or the sink fails.
+fn drain<P: Parts, K: Sink<P::MediaEvent>>(
+    peer: &mut Peer<P>,
+    now: Moment,
+    sink: &mut K,
+) -> Result<Moment, RtcError>
+    ensures { DrainsInto (meanings P.Ice.ice P.Dtls.dtls P.Sctp.association P.Media.media P.Ids.ids) K.sink
+        now peer.old sink.old result peer.new sink.new }
+{
+    for turn in 0..u64::MAX {
+        match hand_next::<P, K>(peer, sink) {
+            Handed::More => {}
+            Handed::Until(moment) => return Ok(moment),
+            Handed::Failed(error) => return Err(error),
+        }
+    }
+    Ok(now)
+}
+
+/// Gives a peer the moment, hands all its outputs to the sink, and returns the moment at which it wants the next call.
+///
+/// Call it at that moment, and after every other call on the peer. After 2^64 - 1 outputs it returns `now`.
+pub fn drive<P: Parts, K: Sink<P::MediaEvent>>(
+    peer: &mut Peer<P>,
+    now: Moment,
+    sink: &mut K,
+) -> Result<Moment, RtcError>
+    ensures { Drives (meanings P.Ice.ice P.Dtls.dtls P.Sctp.association P.Media.media P.Ids.ids) K.sink
+        now peer.old sink.old result peer.new sink.new }
+{
+    match peer.handle_input(&Input::Timeout(now)) {
+        Ok(()) => drain::<P, K>(peer, now, sink),
+        Err(error) => Err(error),
+    }
+}

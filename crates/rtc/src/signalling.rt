@@ -1,0 +1,92 @@
+//! Offers and answers as the texts that signalling carries.
+ghost use Rattle.std.specs.Prelude.{◌≡◌, []};
+ghost use Rattle.rtc_sdp_reader.specs.Reading.{reading};
+ghost use Rattle.rtc_peer.specs.Described.{sdp_of_answer};
+ghost use Rattle.rtc_peer_core.specs.Acceptances.{AcceptsAnswer, AcceptsOffer};
+ghost use Rattle.rtc_peer_core.specs.Meanings.{meanings};
+ghost use Rattle.rtc.specs.Texts.{AcceptsAnswerText, AcceptsOfferText, AnswersOffer, WritesAnswer};
+
+use crate::{Parts, Peer};
+use rtc_peer::{RtcError, SdpAnswer, SdpOffer, SdpPendingOffer};
+use rtc_wire::Text;
+use rtc_wire_drops::release;
+use std::alloc::Global;
+
+fn accept_offer<P: Parts>(peer: &mut Peer<P>, offer: SdpOffer) -> Result<SdpAnswer, RtcError>
+    ensures accepts { AcceptsOffer (meanings P.Ice.ice P.Dtls.dtls P.Sctp.association P.Media.media P.Ids.ids)
+        (record peer.old.core { staged = [] }) offer.0 (sdp_of_answer result) peer.new.core }
+    ensures connection { peer.new.transport ≡ peer.old.transport }
+{
+    peer.sdp_api().accept_offer(offer)
+}
+
+fn accept_answer<P: Parts>(
+    peer: &mut Peer<P>,
+    pending: SdpPendingOffer,
+    answer: SdpAnswer,
+) -> Result<(), RtcError>
+    ensures accepts { AcceptsAnswer (meanings P.Ice.ice P.Dtls.dtls P.Sctp.association P.Media.media P.Ids.ids)
+        (record peer.old.core { staged = [] }) pending answer.0 result peer.new.core }
+    ensures connection { peer.new.transport ≡ peer.old.transport }
+{
+    peer.sdp_api().accept_answer(pending, answer)
+}
+
+// The text of an answer.
+fn write_answer(answer: SdpAnswer) -> Result<Text, RtcError>
+    ensures { WritesAnswer answer.0 result }
+{
+    match answer.to_sdp_string() {
+        Ok(text) => release(answer, Ok(text)),
+        Err(_) => release(answer, Err(RtcError::Alloc)),
+    }
+}
+
+// Accepts an offer, and returns the text of the answer.
+fn answer_offer<P: Parts>(peer: &mut Peer<P>, offer: SdpOffer) -> Result<Text, RtcError>
+    ensures answers { AnswersOffer (meanings P.Ice.ice P.Dtls.dtls P.Sctp.association P.Media.media P.Ids.ids)
+        offer.0 peer.old.core result peer.new.core }
+    ensures connection { peer.new.transport ≡ peer.old.transport }
+{
+    match accept_offer::<P>(peer, offer) {
+        Ok(answer) => write_answer(answer),
+        Err(error) => Err(error),
+    }
+}
+
+/// Accepts the offer of a text, and returns the text of the answer (RFC 8829, section 5.3).
+///
+/// A text that is no offer leaves the peer unchanged. `Alloc` may be returned after the offer was accepted.
+pub fn accept_offer_text<P: Parts>(
+    alloc: Global,
+    peer: &mut Peer<P>,
+    text: &str,
+) -> Result<Text, RtcError>
+    ensures accepts { AcceptsOfferText (meanings P.Ice.ice P.Dtls.dtls P.Sctp.association P.Media.media P.Ids.ids)
+        (reading text.now) peer.old.core result peer.new.core }
+    ensures connection { peer.new.transport ≡ peer.old.transport }
+{
+    match SdpOffer::from_sdp_string(alloc, text) {
+        Ok(offer) => answer_offer::<P>(peer, offer),
+        Err(error) => Err(RtcError::from(error)),
+    }
+}
+
+/// Accepts the answer of a text to an offer of this side, whose token is spent (RFC 8829, section 5.11).
+///
+/// A text that is no answer leaves the peer unchanged, and spends the token too.
+pub fn accept_answer_text<P: Parts>(
+    alloc: Global,
+    peer: &mut Peer<P>,
+    pending: SdpPendingOffer,
+    text: &str,
+) -> Result<(), RtcError>
+    ensures accepts { AcceptsAnswerText (meanings P.Ice.ice P.Dtls.dtls P.Sctp.association P.Media.media P.Ids.ids)
+        pending (reading text.now) peer.old.core result peer.new.core }
+    ensures connection { peer.new.transport ≡ peer.old.transport }
+{
+    match SdpAnswer::from_sdp_string(alloc, text) {
+        Ok(answer) => accept_answer::<P>(peer, pending, answer),
+        Err(error) => release(pending, Err(RtcError::from(error))),
+    }
+}

@@ -1,0 +1,36 @@
+//! What stands in for a network and a clock.
+use crate::outbox::Outbox;
+use rtc::{Moment, Plain, PlainRtc, RtcError, Span, drive, receive};
+
+// Drives a peer, and again after each datagram that the other one sent.
+fn run_peer(
+    peer: &mut PlainRtc,
+    now: Moment,
+    out: &mut Outbox,
+    other: &mut Outbox,
+) -> Result<(), RtcError> {
+    drive::<Plain, Outbox>(peer, now, out)?;
+    for datagram in other.sent.as_slice() {
+        receive::<Plain>(peer, now, datagram)?;
+        drive::<Plain, Outbox>(peer, now, out)?;
+    }
+    other.sent.clear();
+    Ok(())
+}
+
+/// Eight times 20 milliseconds pass. It returns the moment that it is then.
+pub fn exchange(
+    left: &mut PlainRtc,
+    right: &mut PlainRtc,
+    start: Moment,
+    l: &mut Outbox,
+    r: &mut Outbox,
+) -> Result<Moment, RtcError> {
+    let mut now = start;
+    for _ in 0..8 {
+        now = now.plus(Span::from_millis(20));
+        run_peer(left, now, l, r)?;
+        run_peer(right, now, r, l)?;
+    }
+    Ok(now)
+}
