@@ -4,32 +4,18 @@
 mod network;
 mod outbox;
 
-use network::exchange;
+use network::{address, exchange};
 use outbox::Outbox;
 use rtc::{
-    Addr, Direction, MediaKind, Moment, Plain, RtcError, accept_answer_text, accept_offer_text,
-    drive, plain_peer,
+    Direction, MediaKind, Moment, Plain, RtcError, accept_answer_text, accept_offer_text, drive,
+    plain_peer,
 };
 use std::alloc::Global;
 use std::io;
 
 fn call(alloc: Global, l: &mut Outbox, r: &mut Outbox) -> Result<(), RtcError> {
-    let mut left = plain_peer(
-        alloc,
-        1,
-        Addr {
-            ip: [1, 1, 1, 1],
-            port: 1000,
-        },
-    )?;
-    let mut right = plain_peer(
-        alloc,
-        1_000_001,
-        Addr {
-            ip: [2, 2, 2, 2],
-            port: 2000,
-        },
-    )?;
+    let mut left = plain_peer(alloc, 1, address(1, 1000))?;
+    let mut right = plain_peer(alloc, 1_000_001, address(2, 2000))?;
     let mut api = left.sdp_api();
     api.add_media(MediaKind::Audio, Direction::SendOnly, None, None, None)?;
     let chat = api.add_channel(String::from_str(alloc, "chat")?)?;

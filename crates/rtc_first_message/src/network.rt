@@ -1,6 +1,14 @@
 //! What stands in for a network and a clock.
 use crate::outbox::Outbox;
-use rtc::{Moment, Plain, PlainRtc, RtcError, Span, drive, receive};
+use rtc::{Addr, Moment, Plain, PlainRtc, RtcError, Span, drive, receive};
+
+/// An address on the network.
+pub fn address(host: u8, port: u16) -> Addr {
+    Addr {
+        ip: [host, host, host, host],
+        port,
+    }
+}
 
 // Drives a peer, and again after each datagram that the other one sent.
 fn run_peer(

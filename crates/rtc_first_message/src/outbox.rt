@@ -1,8 +1,16 @@
 //! What a peer sends and reports.
+ghost use Rattle.std.specs.Prelude.{◌≡◌};
+
 use rtc::{
     ChannelData, ChannelId, Event, Lines, PlainMediaEvent, PlainRtc, RtcError, Sink, Transmit,
 };
 use std::alloc::{AllocError, Global};
+
+// Prints a message as text.
+fn print_message(log: &mut String, message: &ChannelData) -> Result<(), AllocError> {
+    let text = std::str::from_utf8(message.bytes.as_slice()).unwrap_or("bytes");
+    writeln!(log, "  received {text}")
+}
 
 /// The datagrams of a peer that are not delivered yet, the channel that is open, and what is to be printed.
 #[derive(Drop)]
@@ -41,11 +49,6 @@ impl Outbox {
         }
         Ok(())
     }
-
-    fn print_message(&mut self, message: &ChannelData) -> Result<(), AllocError> {
-        let text = std::str::from_utf8(message.bytes.as_slice()).unwrap_or("bytes");
-        writeln!(self.log, "  received {text}")
-    }
 }
 
 impl Sink<PlainMediaEvent> for Outbox {
@@ -54,12 +57,14 @@ impl Sink<PlainMediaEvent> for Outbox {
         Ok(())
     }
 
-    fn report(&mut self, event: Event<PlainMediaEvent>) -> Result<(), RtcError> {
+    fn report(&mut self, event: Event<PlainMediaEvent>) -> Result<(), RtcError>
+        ensures { self.new.sent ≡ self.old.sent }
+    {
         if let Event::ChannelOpen(id, _) = &event {
             self.channel = Some(*id);
         }
         match &event {
-            Event::ChannelData(message) => self.print_message(message)?,
+            Event::ChannelData(message) => print_message(&mut self.log, message)?,
             _ => writeln!(self.log, "  {event:?}")?,
         }
         Ok(())
