@@ -16,7 +16,7 @@ use std::alloc::{AllocError, Global};
 use std::marker::Model;
 
 /// What a peer is built from.
-#[derive(Debug)]
+#[derive(Debug, PartialEq, Eq)]
 pub struct RtcConfig {
     pub(crate) alloc: Global,
     pub(crate) ice: IceSettings,
@@ -108,18 +108,32 @@ fn default_sctp() -> SctpSettings
     }
 }
 
+#[tactic(auto, unfolding(crate::specs::RtcConfig::unset_codecs))]
+fn default_codecs(alloc: Global) -> Result<CodecConfig, AllocError>
+    ensures { IfOk result (λ codecs. codecs ≡ spec.unset_codecs) }
+{
+    make_default_codecs(alloc)
+}
+
+#[tactic(auto, unfolding(crate::specs::RtcConfig::unset_extensions))]
+fn default_extensions(alloc: Global) -> Result<ExtensionMap, AllocError>
+    ensures { IfOk result (λ extensions. extensions ≡ spec.unset_extensions) }
+{
+    ExtensionMap::standard(alloc)
+}
+
 impl RtcConfig {
     /// The default: an agent that makes checks, a peer that draws its credentials and its certificate, DTLS 1.2 and certificates that are
     /// verified, the codecs and header extensions that are enabled by default, no statistics, and no start of the association by session
     /// descriptions.
-    #[tactic(auto, using(crate::proofs::FormedDefault::rows_where_default, crate::proofs::FormedDefault::extensions_where_default), unfolding(crate::specs::RtcConfig::unset_codecs, crate::specs::RtcConfig::unset_extensions))]
+    #[tactic(auto, using(crate::proofs::FormedDefault::rows_where_default, crate::proofs::FormedDefault::extensions_where_default))]
     pub fn new(alloc: Global) -> Result<RtcConfig, AllocError>
         ensures value { IfOk result (λ config. config ≡ spec.default_config) }
         ensures codecs { IfOk result (λ config. AreFormedRows config.codecs.rows) }
         ensures extensions { IfOk result (λ config. AreFormedExtensions config.extensions.rows) }
     {
-        let codecs = make_default_codecs(alloc)?;
-        let extensions = ExtensionMap::standard(alloc)?;
+        let codecs = default_codecs(alloc)?;
+        let extensions = default_extensions(alloc)?;
         Ok(RtcConfig {
             alloc,
             ice: default_ice(),

@@ -1,5 +1,5 @@
 -- An association that fails at listed calls.
-use Rattle.std.specs.Prelude.{ℕ, ◌+◌, Bool, true, false, Option, None, Result, Ok, Err}
+use Rattle.std.specs.Prelude.{◌+◌, Bool, true, false, Option, None, Result, Ok, Err}
 use Rattle.rtc_part_association.specs.declared.assoc_error.AssocError.{AssocError}
 use Rattle.rtc_part_association.specs.declared.assoc_error.AssocError.TheVariants.{StreamExists, ResetPending, Fault}
 use Rattle.rtc_part_association.specs.AssociationMeaning.{AssociationMeaning}

@@ -3,7 +3,6 @@ use Rattle.std.proofs.Common.{
   ℕ,
   ◌≡◌,
   ◌+◌,
-  ◌*◌,
   ◌≤◌,
   ◌⊎◌,
   ◌++◌,
@@ -31,7 +30,6 @@ use Rattle.std.proofs.Common.{
   append-nil,
 }
 use Rattle.std.specs.Prelude.{if◌then◌else◌}
-use Rattle.rtc_wire.specs.declared.reliability_type.ReliabilityType.{ReliabilityType}
 use Rattle.rtc_part_association.specs.declared.assoc_error.AssocError.{AssocError}
 use Rattle.rtc_part_association.specs.declared.assoc_error.AssocError.TheVariants.{
   StreamExists,

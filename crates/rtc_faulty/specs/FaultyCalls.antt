@@ -1,5 +1,5 @@
 -- What a call of a part does that fails at listed calls, by what the call of the part inside does.
-use Rattle.std.specs.Prelude.{ℕ, ◌≡◌, if◌then◌else◌, Bool, true, false, Result, Err}
+use Rattle.std.specs.Prelude.{◌≡◌, if◌then◌else◌, Bool, true, false, Result, Err}
 use Rattle.rtc_faulty.specs.declared.faulty.Faulty.{Faulty}
 use Rattle.rtc_faulty.specs.Numbering.{call_failed, number_used}
 

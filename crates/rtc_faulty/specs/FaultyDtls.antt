@@ -1,5 +1,5 @@
 -- A DTLS part that fails at listed calls.
-use Rattle.std.specs.Prelude.{ℕ, ◌+◌, Bool, true, false, Result, Err}
+use Rattle.std.specs.Prelude.{◌+◌, Bool, true, false, Result, Err}
 use Rattle.rtc_part_dtls.specs.declared.dtls_error.DtlsError.{DtlsError}
 use Rattle.rtc_part_dtls.specs.declared.dtls_error.DtlsError.TheVariants.{WouldBlock, Fault}
 use Rattle.rtc_part_dtls.specs.DtlsMeaning.{DtlsMeaning}

@@ -20,7 +20,6 @@ use Rattle.std.proofs.Common.{
   sym,
   ap,
   subst,
-  ◌∙◌,
   arith,
 }
 use Rattle.rtc_part_dtls.specs.declared.dtls_error.DtlsError.{DtlsError}

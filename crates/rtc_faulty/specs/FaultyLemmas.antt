@@ -25,10 +25,10 @@ use Rattle.std.proofs.Common.{
   arith,
 }
 use Rattle.std.specs.Prelude.{if◌then◌else◌}
-use Rattle.rtc_io.specs.Faults.{counted, Rose}
+use Rattle.rtc_io.specs.Faults.{Rose}
 use Rattle.rtc_faulty.specs.declared.faulty.Faulty.{Faulty}
 use Rattle.rtc_faulty.specs.Numbering.{Numbering, one_fault_more, number_used}
-use Rattle.rtc_faulty.specs.FaultyCalls.{Reaches, CanFail}
+use Rattle.rtc_faulty.specs.FaultyCalls.{CanFail}
 
 -- counts of faults: i and j are of the part inside, f and g of the calls that failed before it, each before and after
 pub rose_inside : (i j f g : ℕ) → g ≡ f → Rose i j → Rose (i + f) (j + g)

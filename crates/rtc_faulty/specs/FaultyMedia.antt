@@ -1,5 +1,5 @@
 -- A media part that fails at listed calls.
-use Rattle.std.specs.Prelude.{ℕ, ◌+◌, true, false}
+use Rattle.std.specs.Prelude.{◌+◌, true, false}
 use Rattle.rtc_part_media.specs.declared.media_error.MediaError.TheVariants.{Rtp}
 use Rattle.rtc_part_media.specs.MediaMeaning.{MediaMeaning}
 use Rattle.rtc_faulty.specs.declared.faulty.Faulty.{Faulty}

@@ -3,7 +3,7 @@ use rtc_part_values::SrtpProfile;
 use rtc_wire::Moment;
 
 /// What `poll_output` answers, with its bytes in the caller's buffer.
-#[derive(Clone, Copy, Debug)]
+#[derive(Clone, Copy, Debug, PartialEq, Eq)]
 pub enum DtlsOutput<'a> {
     Connected,
     KeyingMaterial(&'a [u8], SrtpProfile),

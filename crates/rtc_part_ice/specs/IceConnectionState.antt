@@ -1,7 +1,8 @@
 -- States of the connection that ICE makes.
 use Rattle.std.specs.Prelude.{Bool, true, false}
 use Rattle.rtc_part_ice.specs.declared.ice_connection_state.IceConnectionState.{IceConnectionState}
-use Rattle.rtc_part_ice.specs.declared.ice_connection_state.IceConnectionState.TheVariants.{New, Checking, Connected, Completed, Disconnected}
+use Rattle.rtc_part_ice.specs.declared.ice_connection_state.IceConnectionState.TheVariants.{New, Checking, Connected, Completed}
+use Rattle.rtc_part_ice.specs.declared.ice_connection_state.IceConnectionState.TheVariants.{Disconnected}
 
 -- whether a pair of candidates works
 abbrev pub state_is_connected : IceConnectionState → Bool

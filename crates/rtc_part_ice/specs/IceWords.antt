@@ -3,7 +3,8 @@ use Rattle.std.specs.Prelude.{ℕ, ◌≡◌, if◌then◌else◌, true, List, [
 use Rattle.rtc_wire.specs.declared.transmit.Transmit.{Transmit}
 use Rattle.rtc_part_values.specs.Among.{Among}
 use Rattle.rtc_part_ice.specs.IceMeaning.{IceSettings}
-use Rattle.rtc_part_ice.specs.IceActs.{IceAct, IceCall, LiteSet, LocalSet, RemoteSet, Restarted, LocalAdded, Invalidated, Given, Taken, Stirred}
+use Rattle.rtc_part_ice.specs.IceActs.{IceAct, IceCall, LiteSet, LocalSet, RemoteSet, Restarted}
+use Rattle.rtc_part_ice.specs.IceActs.{LocalAdded, Invalidated, Given, Taken, Stirred}
 
 -- the messages given, in order
 abbrev pub ice_given : List IceAct → List (List ℕ)

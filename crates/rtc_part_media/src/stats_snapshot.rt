@@ -9,7 +9,7 @@ use std::alloc::Global;
 use std::collections::BTreeMap;
 
 /// What the parts of a peer report at a moment. Counts are of bytes.
-#[derive(Debug, Drop)]
+#[derive(Debug, PartialEq, Eq, Drop)]
 pub struct StatsSnapshot {
     /// All bytes of datagrams sent.
     pub peer_tx: u64,

@@ -2,7 +2,6 @@
 #![tactic(auto)]
 
 pub use rtc_part_association::{AssocError, AssocEvent, Association, Ppi};
-pub use rtc_part_draws::Ids;
 pub use rtc_part_dtls::{Dtls, DtlsError, DtlsInstance, DtlsOutput, DtlsPolled, DtlsVersion};
 pub use rtc_part_ice::{IceAgent, IceConnectionState, IceEvent};
 pub use rtc_part_media::{
@@ -10,4 +9,4 @@ pub use rtc_part_media::{
     MediaIngressStats, MediaSession, MediaSettings, MediaUpdate, NoStream, PeerStats, RawPacket,
     RemoteEgressStats, RemoteIngressStats, StatsEvent, StatsSnapshot, Vp9PacketizerMode,
 };
-pub use rtc_part_values::{Reason, SrtpProfile};
+pub use rtc_part_values::{Ids, Reason, SrtpProfile};

@@ -2,7 +2,7 @@
 ghost use Rattle.std.specs.Prelude.{◌≡◌, IfOk, None, true, false};
 ghost use Rattle.rtc_peer_core.specs.Built.{AreFresh, Builds};
 ghost use Rattle.rtc_config.specs.RtcConfig.{default_config};
-ghost use Rattle.rtc_peer_core.specs.Formats.{formats_of, AreFormedFormats};
+ghost use Rattle.rtc_peer_core.specs.Formats.{config_formats, AreFormedFormats};
 ghost use Rattle.rtc_peer_core.specs.Formed.{IsFormed};
 ghost use Rattle.rtc_peer_core.specs.Meanings.{meanings};
 ghost use Rattle.rtc_peer_core.specs.Stance.{stance_of};
@@ -12,10 +12,10 @@ use crate::Rtc;
 use rtc_config::RtcConfig;
 use rtc_lines::CodecConfig;
 use rtc_part_association::Association;
-use rtc_part_draws::Ids;
 use rtc_part_dtls::DtlsInstance;
 use rtc_part_ice::IceAgent;
 use rtc_part_media::MediaSession;
+use rtc_part_values::Ids;
 use rtc_wire::Moment;
 use std::alloc::{AllocError, Global};
 
@@ -23,7 +23,7 @@ use std::alloc::{AllocError, Global};
 #[tactic(auto, using(rtc_peer_core::proofs::BuiltPeers::formats_formed))]
 fn make_default(alloc: Global) -> Result<RtcConfig, AllocError>
     ensures value { IfOk result (λ config. config ≡ default_config) }
-    ensures formed { IfOk result (λ config. AreFormedFormats (formats_of config)) }
+    ensures formed { IfOk result (λ config. AreFormedFormats (config_formats config)) }
 {
     let config = RtcConfig::new(alloc)?;
     Ok(config)
@@ -61,7 +61,7 @@ impl<I: IceAgent, D: DtlsInstance, S: Association, M: MediaSession, N: Ids> Rtc<
     /// The default config, whose setters say what a peer is built from.
     pub fn builder(alloc: Global) -> Result<RtcConfig, AllocError>
         ensures value { IfOk result (λ config. config ≡ default_config) }
-        ensures formed { IfOk result (λ config. AreFormedFormats (formats_of config)) }
+        ensures formed { IfOk result (λ config. AreFormedFormats (config_formats config)) }
     {
         make_default(alloc)
     }

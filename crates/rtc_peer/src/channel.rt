@@ -6,10 +6,10 @@ ghost use Rattle.rtc_peer_transport.specs.ChannelCalls.{SetsChannelThreshold, Wr
 
 use crate::Rtc;
 use rtc_part_association::Association;
-use rtc_part_draws::Ids;
 use rtc_part_dtls::DtlsInstance;
 use rtc_part_ice::IceAgent;
 use rtc_part_media::MediaSession;
+use rtc_part_values::Ids;
 use rtc_peer_core::RtcError;
 use rtc_wire::ChannelConfig;
 

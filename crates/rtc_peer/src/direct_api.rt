@@ -10,10 +10,10 @@ ghost use Rattle.rtc_peer_direct.specs.ChannelMaking.{StartsStreams, CreatesChan
 use crate::Rtc;
 use rtc_lines::{Candidate, Fingerprint, IceCreds};
 use rtc_part_association::Association;
-use rtc_part_draws::Ids;
 use rtc_part_dtls::{DtlsInstance, DtlsVersion};
 use rtc_part_ice::IceAgent;
 use rtc_part_media::MediaSession;
+use rtc_part_values::Ids;
 use rtc_peer_core::RtcError;
 use rtc_peer_direct::{
     copy_local_credentials, create_data_channel, invalidate_candidate, set_ice_controlling,

@@ -7,10 +7,10 @@ ghost use Rattle.rtc_peer_direct.specs.Streams.{gives_writer, LendsWriter};
 use crate::Rtc;
 use rtc_lines::Mid;
 use rtc_part_association::Association;
-use rtc_part_draws::Ids;
 use rtc_part_dtls::DtlsInstance;
 use rtc_part_ice::IceAgent;
 use rtc_part_media::MediaSession;
+use rtc_part_values::Ids;
 use rtc_peer_direct::lend_writer;
 
 impl<I: IceAgent, D: DtlsInstance, S: Association, M: MediaSession, N: Ids> Rtc<I, D, S, M, N> {

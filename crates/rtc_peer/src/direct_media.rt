@@ -7,10 +7,10 @@ ghost use Rattle.rtc_peer_direct.specs.Streams.{RemovesRx, RemovesTx};
 use crate::DirectApi;
 use rtc_lines::{MediaKind, Mid, Ssrc};
 use rtc_part_association::Association;
-use rtc_part_draws::Ids;
 use rtc_part_dtls::DtlsInstance;
 use rtc_part_ice::IceAgent;
 use rtc_part_media::MediaSession;
+use rtc_part_values::Ids;
 use rtc_peer_direct::{
     declare_media, draw_ssrc, enable_twcc_feedback, remove_media, remove_stream_rx,
     remove_stream_tx, send_app_specific_feedback, send_pli_feedback, set_red_send,

@@ -10,10 +10,10 @@ ghost use Rattle.rtc_peer_direct.specs.Streams.{ExpectsRx, DeclaresTx, LendsRx, 
 use crate::DirectApi;
 use rtc_lines::{Mid, Rid, Ssrc};
 use rtc_part_association::Association;
-use rtc_part_draws::Ids;
 use rtc_part_dtls::DtlsInstance;
 use rtc_part_ice::IceAgent;
 use rtc_part_media::{MediaSession, NoStream, answer_of};
+use rtc_part_values::Ids;
 use rtc_peer_direct::{
     lend_stream_rx, lend_stream_rx_by_mid, lend_stream_tx, lend_stream_tx_by_mid, make_stream_rx,
     make_stream_tx, reset_stream_tx,

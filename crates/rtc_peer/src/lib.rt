@@ -27,11 +27,10 @@ pub use rtc_lines::{
     Rid, Sdp, SdpAnswer, SdpError, SdpOffer, Setup, Simulcast, SimulcastLayer, Ssrc,
 };
 pub use rtc_part_association::Association;
-pub use rtc_part_draws::Ids;
 pub use rtc_part_dtls::{DtlsError, DtlsInstance, DtlsVersion};
 pub use rtc_part_ice::{IceAgent, IceConnectionState};
 pub use rtc_part_media::{MediaError, MediaSession, MediaSettings, NoStream, Vp9PacketizerMode};
-pub use rtc_part_values::Reason;
+pub use rtc_part_values::{Ids, Reason};
 pub use rtc_peer_core::RtcError;
 pub use rtc_peer_transport::{ChannelData, Event, Input, Output};
 pub use rtc_sctp::{ProtoError, SctpError, SctpInitData};

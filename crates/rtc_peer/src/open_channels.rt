@@ -8,10 +8,10 @@ ghost use Rattle.rtc_peer_transport.specs.ChannelCalls.{config_under, stream_und
 
 use crate::{Channel, Rtc};
 use rtc_part_association::Association;
-use rtc_part_draws::Ids;
 use rtc_part_dtls::DtlsInstance;
 use rtc_part_ice::IceAgent;
 use rtc_part_media::MediaSession;
+use rtc_part_values::Ids;
 use rtc_wire::{ChannelConfig, ChannelId};
 use std::alloc::AllocError;
 

@@ -8,11 +8,10 @@ ghost use Rattle.rtc_peer_polling.specs.Walk.{PollsPeer};
 
 use crate::Rtc;
 use rtc_part_association::Association;
-use rtc_part_draws::Ids;
 use rtc_part_dtls::DtlsInstance;
 use rtc_part_ice::IceAgent;
 use rtc_part_media::MediaSession;
-use rtc_part_values::Reason;
+use rtc_part_values::{Ids, Reason};
 use rtc_peer_core::RtcError;
 use rtc_peer_transport::{Input, Output};
 

@@ -4,7 +4,7 @@ ghost use Rattle.std.specs.Option.{option_copied};
 ghost use Rattle.rtc_peer_core.specs.declared.phase.Phase.TheVariants.{Closed};
 ghost use Rattle.rtc_peer_core.specs.ChannelRows.{channel_rows};
 ghost use Rattle.rtc_peer_core.specs.Built.{AreFresh, Builds};
-ghost use Rattle.rtc_peer_core.specs.Formats.{formats_of, AreFormedFormats};
+ghost use Rattle.rtc_peer_core.specs.Formats.{config_formats, AreFormedFormats};
 ghost use Rattle.rtc_peer_core.specs.Formed.{AreSdpCreds, IsFormed};
 ghost use Rattle.rtc_peer_core.specs.Meanings.{meanings};
 ghost use Rattle.rtc_peer_core.specs.Stance.{stance_of};
@@ -17,10 +17,10 @@ use rtc_channels::ChannelRow;
 use rtc_config::RtcConfig;
 use rtc_lines::{Candidate, LineRow, Mid};
 use rtc_part_association::Association;
-use rtc_part_draws::Ids;
 use rtc_part_dtls::DtlsInstance;
 use rtc_part_ice::IceAgent;
 use rtc_part_media::MediaSession;
+use rtc_part_values::Ids;
 use rtc_peer_core::Phase;
 use rtc_peer_staging::{build_peer, list_channels, show_channel};
 use rtc_peer_transport::{PolledPeer, Transport};
@@ -88,7 +88,7 @@ impl<
             alloc config start ice dtls association media ids rtc.core) }
         ensures unconnected { IfOk result (λ rtc. rtc.transport
             ≡ no_transport config.dtls.fingerprint_verification config.media.rtp_mode config.stats_interval) }
-        ensures formed { IfOk result (λ rtc. IfSome config.ice.credentials AreSdpCreds → AreFormedFormats (formats_of config)
+        ensures formed { IfOk result (λ rtc. IfSome config.ice.credentials AreSdpCreds → AreFormedFormats (config_formats config)
             → IsFormed (stance_of (meanings I.ice D.dtls S.association M.media N.ids) rtc.core)) }
     {
         let verifies = config.fingerprint_verification();

@@ -21,9 +21,9 @@ use Rattle.rtc_peer_core.specs.Meanings.{Meanings, PartsLaws}
 use Rattle.rtc_peer_core.specs.Stance.{stance_of}
 use Rattle.rtc_sdp_codecs.specs.FormedCodecs.{AreFormedRows, AreFormedExtensions}
 use Rattle.rtc_config.specs.RtcConfig.{PeerConfig}
-use Rattle.rtc_part_draws.specs.Draws.{Draws}
+use Rattle.rtc_part_values.specs.Draws.{Draws}
 use Rattle.rtc_part_media.specs.MediaActs.{ByOther, Configured}
-use Rattle.rtc_peer_core.specs.Formats.{formats_of, AreFormedFormats}
+use Rattle.rtc_peer_core.specs.Formats.{config_formats, AreFormedFormats}
 use Rattle.rtc_peer_core.specs.Formed.{IsSdpWord, AreSdpCreds, IsSha256, IsFormed}
 use Rattle.rtc_peer_core.proofs.Alls.{all-append, all_token}
 
@@ -93,7 +93,7 @@ fingerprint_by_sha256 cert made is =
 
 -- the codecs and header extensions of a config are formed where both are
 pub formats_formed : (config : PeerConfig) → AreFormedRows config.codecs.rows → AreFormedExtensions config.extensions.rows
-    → AreFormedFormats (formats_of config)
+    → AreFormedFormats (config_formats config)
 formats_formed config codecs extensions = record { codecs = codecs; extensions = extensions }
 
 -- credentials that are set are words, and so are drawn ones
@@ -105,7 +105,7 @@ creds_are_words draws (Some creds) ids h = h
 -- that are drawn have 64 bits, and the longest message that its streams take is told in 32.
 pub built_formed : {I D S M E X T W N : Type 0} (m : Meanings I D S M E X T W N) → PartsLaws m → (alloc : Global) (config : PeerConfig)
     (start : ℕ) (ice : I) (dtls : D) (association : S) (media : M) (ids : N) (p : Peer I D S M N) → AreFresh m ice dtls association media
-    → IfSome config.ice.credentials AreSdpCreds → AreFormedFormats (formats_of config) → m.ids.drawn ids < 2 ^ 64 → p.sctp.local_max < 2 ^ 32
+    → IfSome config.ice.credentials AreSdpCreds → AreFormedFormats (config_formats config) → m.ids.drawn ids < 2 ^ 64 → p.sctp.local_max < 2 ^ 32
     → Builds m alloc config start ice dtls association media ids p → IsFormed (stance_of m p)
 built_formed m laws alloc config start ice dtls association media ids p fresh tokens formats small size built =
     let none : (m.ice.settings ice).candidates ≡ [] = laws.ice.fresh_candidates ice fresh.fresh_ice in

@@ -9,7 +9,7 @@ use Rattle.rtc_wire_text.specs.Tokens.{is_token_byte, is_token}
 use Rattle.rtc_wire_text.proofs.TokenLemmas.{both}
 use Rattle.rtc_sdp_values.specs.declared.media_kind.MediaKind.{MediaKind}
 use Rattle.rtc_sdp_values.specs.declared.media_kind.MediaKind.TheVariants.{Audio, Video}
-use Rattle.rtc_part_draws.specs.Draws.{Draws}
+use Rattle.rtc_part_values.specs.Draws.{Draws}
 use Rattle.rtc_peer_core.specs.declared.peer.Peer.{Peer}
 use Rattle.rtc_peer_core.specs.Calls.{Wanted, staged_media, uses_source, mid_drawn, stream_drawn, track_drawn}
 use Rattle.rtc_peer_core.specs.Formed.{IsFormedSimulcast, IsFormedSource, IsFormedAdded}

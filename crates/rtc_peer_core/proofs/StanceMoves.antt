@@ -7,7 +7,7 @@ use Rattle.rtc_sdp_values.specs.Sdp.{creds_of}
 use Rattle.rtc_sdp_values.specs.declared.fingerprint.Fingerprint.{Fingerprint}
 use Rattle.rtc_sdp_values.specs.declared.ice_creds.IceCreds.{IceCreds}
 use Rattle.rtc_sdp_values.specs.declared.sdp.Sdp.{Sdp}
-use Rattle.rtc_part_draws.specs.Draws.{Draws}
+use Rattle.rtc_part_values.specs.Draws.{Draws}
 use Rattle.rtc_part_ice.specs.IceMeaning.{IceSettings}
 use Rattle.rtc_part_media.specs.MediaLaws.{SameLines}
 use Rattle.rtc_part_media.specs.MediaUpdates.{line_after}

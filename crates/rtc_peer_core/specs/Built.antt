@@ -12,9 +12,9 @@ use Rattle.rtc_peer_core.specs.declared.peer.Peer.{Peer}
 use Rattle.rtc_peer_core.specs.declared.formats.Formats.{Formats}
 use Rattle.rtc_peer_core.specs.declared.phase.Phase.TheVariants.{Alive}
 use Rattle.rtc_peer_core.specs.Creds.{drawn_creds}
-use Rattle.rtc_peer_core.specs.Formats.{formats_of}
+use Rattle.rtc_peer_core.specs.Formats.{config_formats}
 use Rattle.rtc_peer_core.specs.Meanings.{Meanings}
-use Rattle.rtc_part_draws.specs.Draws.{Draws}
+use Rattle.rtc_part_values.specs.Draws.{Draws}
 
 module _ {N : Type 0} (draws : Draws N) where
   -- the credentials that are set, or else those that are drawn
@@ -111,4 +111,5 @@ module _ {I D S M E X T W N : Type 0} (m : Meanings I D S M E X T W N) where
     pub by_limits : m.association.limits_set association (payload_of_mtu config.mtu.0) config.sctp.max_message_size p.sctp.association
     pub by_settings : m.media.configured media config.media p.media
     pub streams : p.sctp ≡ streams_of_config config start p.sctp.association
-    pub rest : p ≡ empty_peer alloc (formats_of config) (m.ids.drawn ids) start p.ice p.dtls p.sctp p.media (cert_drawn m.ids config ids)
+    pub rest : p
+      ≡ empty_peer alloc (config_formats config) (m.ids.drawn ids) start p.ice p.dtls p.sctp p.media (cert_drawn m.ids config ids)

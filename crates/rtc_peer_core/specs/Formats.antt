@@ -4,8 +4,8 @@ use Rattle.rtc_config.specs.RtcConfig.{PeerConfig}
 use Rattle.rtc_peer_core.specs.declared.formats.Formats.{Formats}
 
 -- those of a configuration
-abbrev pub formats_of : PeerConfig → Formats
-formats_of config = record { codecs = config.codecs; extensions = config.extensions }
+abbrev pub config_formats : PeerConfig → Formats
+config_formats config = record { codecs = config.codecs; extensions = config.extensions }
 
 -- those that lines carry whole
 pub record AreFormedFormats (formats : Formats) : Type 0 where

@@ -21,7 +21,7 @@ use Rattle.rtc_peer_core.specs.declared.formats.Formats.{Formats}
 use Rattle.rtc_peer_core.specs.declared.sending.Sending.{Sending}
 use Rattle.rtc_peer_core.specs.MadeSdp.{is_stopped}
 use Rattle.rtc_peer_core.specs.Sources.{Pair, pair_numbers, pair_count, next_pairs, after_pairs}
-use Rattle.rtc_part_draws.specs.Draws.{Draws}
+use Rattle.rtc_part_values.specs.Draws.{Draws}
 
 abbrev pub media_of_change : Change → Option AddedMedia
 media_of_change (AddMedia media) = Some media

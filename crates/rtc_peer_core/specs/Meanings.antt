@@ -7,7 +7,7 @@ use Rattle.rtc_part_association.specs.AssociationMeaning.{AssociationMeaning}
 use Rattle.rtc_part_association.specs.AssociationLaws.{AssociationLaws}
 use Rattle.rtc_part_media.specs.MediaMeaning.{MediaMeaning}
 use Rattle.rtc_part_media.specs.MediaLaws.{MediaLaws}
-use Rattle.rtc_part_draws.specs.Draws.{Draws}
+use Rattle.rtc_part_values.specs.Draws.{Draws}
 
 -- I is the ICE agent, D the DTLS part, S the association and M the media part, whose events, streams and writers are E, X, T
 -- and W; N is the source of numbers

@@ -7,7 +7,7 @@ use Rattle.rtc_sdp_values.specs.declared.line_row.LineRow.{LineRow}
 use Rattle.rtc_change.specs.declared.change.Change.{Change}
 use Rattle.rtc_peer_rows.specs.Table.{has_mid}
 use Rattle.rtc_change.specs.PendingOffer.{added_mids, adds_mid}
-use Rattle.rtc_part_draws.specs.Draws.{Draws}
+use Rattle.rtc_part_values.specs.Draws.{Draws}
 
 -- the mid of a number: m and its decimal
 abbrev pub drawn_mid : ℕ → List ℕ

@@ -25,7 +25,7 @@ use Rattle.rtc_sdp_values.specs.declared.media_kind.MediaKind.TheVariants.{Audio
 use Rattle.rtc_sdp_values.specs.declared.ssrc.Ssrc.{Ssrc}
 use Rattle.rtc_sdp_values.specs.declared.simulcast.Simulcast.{Simulcast}
 use Rattle.rtc_part_media.specs.MediaMeaning.{MediaMeaning}
-use Rattle.rtc_part_draws.specs.Draws.{Draws}
+use Rattle.rtc_part_values.specs.Draws.{Draws}
 
 -- a source, with that of its retransmissions
 abbrev pub Pair : Type 0

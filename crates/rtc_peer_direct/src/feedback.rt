@@ -1,8 +1,8 @@
 //! Sources that are drawn, and what is sent to the media of the other side.
 ghost use Rattle.rtc_peer_direct.specs.SourcesAndFeedback.{DrawsSource, SetsRed, EnablesTwcc, SendsAppFeedback, SendsPli};
 
-use rtc_part_draws::Ids;
 use rtc_part_media::MediaSession;
+use rtc_part_values::Ids;
 use rtc_peer_draws::{EarlierNumbers, draw_source};
 use rtc_peer_transport::PolledPeer;
 use rtc_sdp_values::{Mid, Ssrc};

@@ -3,8 +3,8 @@ use Rattle.std.proofs.Common.{◌≡◌, zero, suc, ℕ, List, [], ◌∷◌, �
 use Rattle.std.specs.List.{flat_map}
 use Rattle.rtc_sdp_values.specs.declared.media_kind.MediaKind.{MediaKind}
 use Rattle.rtc_sdp_values.specs.declared.media_kind.MediaKind.TheVariants.{Audio, Video}
-use Rattle.rtc_part_draws.specs.Draws.{Draws, Later}
-use Rattle.rtc_part_draws.proofs.LaterLemmas.{later_none, later_once, later_twice, later_join}
+use Rattle.rtc_part_values.specs.Draws.{Draws, Later}
+use Rattle.rtc_part_values.proofs.LaterLemmas.{later_none, later_once, later_twice, later_join}
 use Rattle.rtc_peer_core.specs.Sources.{Pair, pair_numbers, next_pair, next_pairs, after_pair, after_pairs}
 
 pub one_pair : {N : Type 0} (draws : Draws N) (used : ℕ → Bool) (kind : MediaKind) (done : List Pair) (pair : Pair) (earlier later : List ℕ) (left more : ℕ) (ids after : N) (all : List Pair) → left ≡ suc more → pair ≡ next_pair draws used kind earlier ids → later ≡ earlier ++ pair_numbers pair → after ≡ after_pair draws used kind ids → done ++ next_pairs draws used kind earlier left ids ≡ all → (done ++ pair ∷ []) ++ next_pairs draws used kind later more after ≡ all

@@ -1,9 +1,9 @@
 //! Draws of names.
 ghost use Rattle.std.specs.Prelude.{◌≡◌, IfOk, OnOk, option_map, string_bytes};
-ghost use Rattle.rtc_part_draws.specs.Draws.{Later};
+ghost use Rattle.rtc_part_values.specs.Draws.{Later};
 ghost use Rattle.rtc_peer_core.specs.Names.{kept_bytes, kept_name, name_of, after_name};
 
-use rtc_part_draws::Ids;
+use rtc_part_values::Ids;
 use rtc_wire::Text;
 use rtc_wire_text::is_token_byte;
 use std::alloc::{AllocError, Global};
@@ -45,7 +45,7 @@ pub fn keep_name(alloc: Global, name: Option<String>) -> Result<Option<Text>, Al
 }
 
 /// The name that is given, or else one that is drawn.
-#[tactic(auto, using(rtc_part_draws::proofs::LaterLemmas::later_none, rtc_part_draws::proofs::LaterLemmas::later_once))]
+#[tactic(auto, using(rtc_part_values::proofs::LaterLemmas::later_none, rtc_part_values::proofs::LaterLemmas::later_once))]
 pub fn draw_name<N: Ids>(
     alloc: Global,
     ids: &mut N,

@@ -1,7 +1,7 @@
 //! Draws of synchronization sources.
 ghost use Rattle.std.specs.Prelude.{◌≡◌, ◌||◌, ◌++◌, [], IfOk, OnOk};
 ghost use Rattle.std.specs.List.{flat_map};
-ghost use Rattle.rtc_part_draws.specs.Draws.{Later};
+ghost use Rattle.rtc_part_values.specs.Draws.{Later};
 ghost use Rattle.rtc_peer_core.specs.Sources.{
   has_source,
   is_number,
@@ -15,8 +15,8 @@ ghost use Rattle.rtc_peer_core.specs.Sources.{
 };
 
 use crate::earlier_numbers::EarlierNumbers;
-use rtc_part_draws::Ids;
 use rtc_part_media::MediaSession;
+use rtc_part_values::Ids;
 use rtc_sdp_values::{MediaKind, Ssrc};
 use rtc_wire::Seq;
 use std::alloc::{AllocError, Global};
@@ -88,7 +88,7 @@ fn draw_pair<M: MediaSession, N: Ids>(
 }
 
 /// So many pairs for a line of a kind.
-#[tactic(auto, using(rtc_part_draws::proofs::LaterLemmas::later_none, rtc_part_draws::proofs::LaterLemmas::later_join))]
+#[tactic(auto, using(rtc_part_values::proofs::LaterLemmas::later_none, rtc_part_values::proofs::LaterLemmas::later_join))]
 pub fn draw_pairs<M: MediaSession, N: Ids>(
     alloc: Global,
     ids: &mut N,

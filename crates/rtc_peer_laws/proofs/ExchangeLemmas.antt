@@ -13,7 +13,7 @@ use Rattle.rtc_assoc.proofs.RunLemmas.{both_run}
 use Rattle.rtc_part_association.specs.AssociationWords.{written, read}
 use Rattle.rtc_plain_media.specs.MediaContents.{MediaContents}
 use Rattle.rtc_plain_media.specs.PlainMediaMeaning.{plain_media_meaning}
-use Rattle.rtc_part_draws.specs.Draws.{Draws}
+use Rattle.rtc_part_values.specs.Draws.{Draws}
 use Rattle.rtc_sctp_laws.specs.StreamMessages.{StreamMessage}
 use Rattle.rtc_peer_core.specs.Meanings.{meanings}
 use Rattle.rtc_peer_transport.specs.declared.polled_peer.PolledPeer.{PolledPeer}

@@ -38,7 +38,7 @@ use Rattle.rtc_sdp_values.specs.declared.line_row.LineRow.TheVariants.{Media, Ap
 use Rattle.rtc_sdp_values.specs.declared.media_line.MediaLine.{MediaLine}
 use Rattle.rtc_sdp_values.specs.declared.sdp.Sdp.{Sdp}
 use Rattle.rtc_part_values.specs.Among.{Member}
-use Rattle.rtc_part_draws.specs.Draws.{Draws}
+use Rattle.rtc_part_values.specs.Draws.{Draws}
 use Rattle.rtc_part_media.specs.declared.media_update.MediaUpdate.{MediaUpdate}
 use Rattle.rtc_part_media.specs.MediaLaws.{MediaLaws}
 use Rattle.rtc_part_media.specs.MediaUpdates.{same_mid, update_mid, latest, line_after}

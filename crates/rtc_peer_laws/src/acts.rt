@@ -15,10 +15,10 @@ ghost use Rattle.rtc_peer_polling.specs.Walk.{PollsPeer};
 ghost use Rattle.rtc_peer_laws.specs.Acts.{CallActs, InputActs, NegotiationActs, PollActs, message_of_write, with_agent, with_core};
 
 use rtc_part_association::Association;
-use rtc_part_draws::Ids;
 use rtc_part_dtls::DtlsInstance;
 use rtc_part_ice::IceAgent;
 use rtc_part_media::MediaSession;
+use rtc_part_values::Ids;
 
 /// Each call is a list of acts of each part. A poll gives the parts nothing that came from outside, shows only what they gave,
 /// and tells the last message that it read for a channel, if any: the last of the stream of this channel, in the generation that

@@ -8,10 +8,10 @@ ghost use Rattle.rtc_peer_polling.specs.Walk.{PollsPeer};
 ghost use Rattle.rtc_peer_laws.specs.Drained.{AllHeard, AnswersAgain};
 
 use rtc_part_association::Association;
-use rtc_part_draws::Ids;
 use rtc_part_dtls::DtlsInstance;
 use rtc_part_ice::IceAgent;
 use rtc_part_media::MediaSession;
+use rtc_part_values::Ids;
 
 /// A peer that answered a timeout, and is polled again without a call between, answers the same timeout for the same reason, and
 /// nothing changes; only want of memory may come in its place, and not once it is closed.

@@ -18,7 +18,7 @@ ghost use Rattle.rtc_peer_laws.specs.PeerActs.{Came, PeerActs, acts_with};
 ghost use Rattle.rtc_peer_laws.specs.Exchanging.{PeersExchange};
 ghost use Rattle.rtc_peer_laws.specs.JoinedPeers.{CarriesData};
 
-use rtc_part_draws::Ids;
+use rtc_part_values::Ids;
 
 /// Two peers over plain parts that exchange datagrams stay so by every call of one of them to whose DTLS part application data comes
 /// only in datagrams that the other one has shown, whatever is lost, repeated or reordered. What one association reads of a

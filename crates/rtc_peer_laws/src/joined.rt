@@ -16,10 +16,10 @@ ghost use Rattle.rtc_peer_laws.specs.PeerActs.{Came, nothing_came};
 ghost use Rattle.rtc_peer_laws.specs.JoinedPeers.{AreUnused, CarriesData, PartsPast, PeersJoined, PacketParts, past_with, packet_parts};
 
 use rtc_part_association::Association;
-use rtc_part_draws::Ids;
 use rtc_part_dtls::DtlsInstance;
 use rtc_part_ice::IceAgent;
 use rtc_part_media::MediaSession;
+use rtc_part_values::Ids;
 
 /// Two peers whose parts were not used yet are joined, and stay so by every call of one of them to whose DTLS part application data
 /// comes only in packets that the DTLS part of the other one had given before, whatever is lost, repeated or reordered, and whatever

@@ -10,10 +10,10 @@ ghost use Rattle.rtc_peer_polling.specs.Walk.{PollsPeer};
 ghost use Rattle.rtc_peer_laws.specs.Relay.{Relays};
 
 use rtc_part_association::Association;
-use rtc_part_draws::Ids;
 use rtc_part_dtls::DtlsInstance;
 use rtc_part_ice::IceAgent;
 use rtc_part_media::MediaSession;
+use rtc_part_values::Ids;
 
 /// In each call, each packet that is given to the association came over the DTLS connection in that call, and each packet that
 /// is sent over it in the call, or stands to be sent behind it, was taken from the association in the call or stood to be sent

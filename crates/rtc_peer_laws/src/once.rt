@@ -13,10 +13,10 @@ ghost use Rattle.rtc_peer_laws.specs.ChannelStreams.{AreNumberedChannels, IsGone
 ghost use Rattle.rtc_peer_laws.specs.KeptChannels.{IsSettledStream};
 
 use rtc_part_association::Association;
-use rtc_part_draws::Ids;
 use rtc_part_dtls::DtlsInstance;
 use rtc_part_ice::IceAgent;
 use rtc_part_media::MediaSession;
+use rtc_part_values::Ids;
 
 /// Where a channel is told to be open, its stream was opened by other means than messages, or a message that opens a channel was read
 /// in its generation, and none before this poll; and then the channel is live behind the poll. A channel that is live is not told

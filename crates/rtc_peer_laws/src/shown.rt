@@ -14,8 +14,8 @@ ghost use Rattle.rtc_peer_laws.specs.JoinedPeers.{CarriesData};
 ghost use Rattle.rtc_peer_laws.specs.ShownData.{HasShown, ShownSince};
 
 use rtc_part_association::Association;
-use rtc_part_draws::Ids;
 use rtc_part_dtls::DtlsInstance;
+use rtc_part_values::Ids;
 
 /// What a peer over a plain agent and a plain media part has shown grows by what its calls show. Of all of that, each datagram that
 /// is a packet of application data of the plain DTLS part was given by the DTLS part.

@@ -4,10 +4,10 @@ ghost use Rattle.rtc_peer_polling.specs.Certificates.{Hashes, cert_refusal, hash
 ghost use Rattle.rtc_peer_polling.specs.DtlsStages.{ChecksCert};
 
 use rtc_part_association::Association;
-use rtc_part_draws::Ids;
 use rtc_part_dtls::DtlsInstance;
 use rtc_part_ice::IceAgent;
 use rtc_part_media::MediaSession;
+use rtc_part_values::Ids;
 use rtc_peer_core::{Phase, RtcError};
 use rtc_peer_rows::Why;
 use rtc_peer_transport::{Met, PolledPeer, close_out_of_memory};

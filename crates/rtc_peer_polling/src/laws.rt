@@ -14,10 +14,10 @@ ghost use Rattle.rtc_peer_polling.specs.Numbers.{ChannelNumbers, number_told};
 ghost use Rattle.rtc_peer_polling.specs.Walk.{PollsPeer};
 
 use rtc_part_association::Association;
-use rtc_part_draws::Ids;
 use rtc_part_dtls::DtlsInstance;
 use rtc_part_ice::IceAgent;
 use rtc_part_media::MediaSession;
+use rtc_part_values::Ids;
 
 /// Polls, inputs and closing change nothing of what negotiation keeps beside the channels and their streams: rows, what is
 /// staged, the counter of offers, the announced fingerprint and the source of numbers.

@@ -6,8 +6,8 @@ use Rattle.rtc_sdp_values.specs.LineRow.{row_mid}
 use Rattle.rtc_sdp_values.specs.declared.line_row.LineRow.{LineRow}
 use Rattle.rtc_sdp_values.specs.declared.media_line.MediaLine.{MediaLine}
 use Rattle.rtc_part_media.specs.declared.media_update.MediaUpdate.{MediaUpdate}
-use Rattle.rtc_part_draws.specs.Draws.{Draws, Later}
-use Rattle.rtc_part_draws.proofs.LaterLemmas.{later_none, later_join}
+use Rattle.rtc_part_values.specs.Draws.{Draws, Later}
+use Rattle.rtc_part_values.proofs.LaterLemmas.{later_none, later_join}
 use Rattle.rtc_peer_core.specs.declared.formats.Formats.{Formats}
 use Rattle.rtc_peer_core.specs.declared.sending.Sending.{Sending}
 use Rattle.rtc_peer_core.specs.Sources.{pair_numbers, pair_count, after_pairs}

@@ -12,7 +12,7 @@ use Rattle.rtc_sctp_values.specs.SnapHalves.{KeptHalves, nothing_kept}
 use Rattle.rtc_peer_core.specs.declared.peer.Peer.{Peer}
 use Rattle.rtc_peer_core.specs.Built.{Builds, empty_peer, creds_or, cert_or, session_drawn, creds_drawn, cert_drawn}
 use Rattle.rtc_peer_core.specs.Built.{payload_of_mtu, limited_streams, allowed_halves, streams_of_config}
-use Rattle.rtc_peer_core.specs.Formats.{formats_of}
+use Rattle.rtc_peer_core.specs.Formats.{config_formats}
 use Rattle.rtc_peer_core.specs.Meanings.{Meanings}
 
 -- streams that were made, with the limits of a config, are those of the config
@@ -79,7 +79,7 @@ pub record BuildSteps {I D S M E X T W N : Type 0} (m : Meanings I D S M E X T W
 
 pub peer_built : {I D S M E X T W N : Type 0} (m : Meanings I D S M E X T W N) (alloc : Global) (config : PeerConfig) (start : ℕ) (ice : I) (dtls : D) (association : S) (media : M)
     (ids : N) (timed lite_set ready : I) (versioned : D) (begun : DtlsState D) (sctp : SctpStreams S) (set : M) (p : Peer I D S M N)
-    → p ≡ empty_peer alloc (formats_of config) (m.ids.drawn ids) start ready begun sctp set (cert_drawn m.ids config ids)
+    → p ≡ empty_peer alloc (config_formats config) (m.ids.drawn ids) start ready begun sctp set (cert_drawn m.ids config ids)
     → BuildSteps m config start ice dtls association media ids timed lite_set ready versioned begun sctp set
     → Builds m alloc config start ice dtls association media ids p
 peer_built {I} {D} {S} {M} {E} {X} {T} {W} {N} m alloc config start ice dtls association media ids timed lite_set ready versioned begun sctp set p is h =

@@ -4,17 +4,17 @@ ghost use Rattle.std.specs.Option.{option_copied};
 ghost use Rattle.rtc_part_dtls.specs.DtlsState.{BeginsDtls};
 ghost use Rattle.rtc_peer_core.specs.Built.{Builds, creds_or, after_creds, cert_or, after_cert};
 ghost use Rattle.rtc_peer_core.specs.Built.{empty_peer as EmptyPeer, payload_of_mtu, limited_streams, allowed_halves, streams_of_config};
-ghost use Rattle.rtc_peer_core.specs.Formats.{formats_of};
+ghost use Rattle.rtc_peer_core.specs.Formats.{config_formats};
 ghost use Rattle.rtc_peer_core.specs.Meanings.{meanings};
 
 use rtc_change::Lines;
 use rtc_channels::ChannelHandler;
 use rtc_config::RtcConfig;
 use rtc_part_association::Association;
-use rtc_part_draws::Ids;
 use rtc_part_dtls::{Dtls, DtlsInstance};
 use rtc_part_ice::IceAgent;
 use rtc_part_media::MediaSession;
+use rtc_part_values::Ids;
 use rtc_peer_core::{Formats, Peer, Phase, Staged};
 use rtc_peer_draws::make_creds;
 use rtc_sctp::RtcSctp;
@@ -144,7 +144,7 @@ fn set_times<I: IceAgent>(ice: &mut I, config: &RtcConfig)
 
 // The codecs and header extensions of a config.
 fn take_formats(config: RtcConfig) -> Formats
-    ensures { result ≡ formats_of config }
+    ensures { result ≡ config_formats config }
 {
     let (codecs, extensions) = config.into_formats();
     Formats { codecs, extensions }

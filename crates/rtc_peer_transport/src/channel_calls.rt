@@ -6,10 +6,10 @@ ghost use Rattle.rtc_peer_transport.specs.ChannelCalls.{SetsChannelThreshold, Cl
 
 use crate::PolledPeer;
 use rtc_part_association::Association;
-use rtc_part_draws::Ids;
 use rtc_part_dtls::DtlsInstance;
 use rtc_part_ice::IceAgent;
 use rtc_part_media::MediaSession;
+use rtc_part_values::Ids;
 use rtc_peer_core::{Phase, RtcError};
 use rtc_sctp::{RtcSctp, SctpError};
 use rtc_wire::{ChannelConfig, ChannelId};

@@ -8,10 +8,10 @@ ghost use Rattle.rtc_peer_transport.specs.Closing.{ClosesPeer, is_phase_closing,
 
 use crate::PolledPeer;
 use rtc_part_association::Association;
-use rtc_part_draws::Ids;
 use rtc_part_dtls::{DtlsError, DtlsInstance};
 use rtc_part_ice::IceAgent;
 use rtc_part_media::MediaSession;
+use rtc_part_values::Ids;
 use rtc_peer_core::{Phase, RtcError};
 use rtc_sctp::{ProtoError, SctpError};
 

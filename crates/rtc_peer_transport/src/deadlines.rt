@@ -7,11 +7,10 @@ ghost use Rattle.rtc_peer_transport.specs.Statistics.{stats_wake};
 use crate::PolledPeer;
 use rtc_config::Stats;
 use rtc_part_association::Association;
-use rtc_part_draws::Ids;
 use rtc_part_dtls::DtlsInstance;
 use rtc_part_ice::IceAgent;
 use rtc_part_media::MediaSession;
-use rtc_part_values::Reason;
+use rtc_part_values::{Ids, Reason};
 use rtc_wire::Moment;
 
 fn sooner(first: (Moment, Reason), other: Option<(Moment, Reason)>) -> (Moment, Reason)

@@ -5,11 +5,10 @@ ghost use Rattle.rtc_peer_transport.specs.Readings.{is_accepted, is_handshake_fi
 
 use crate::{Handshake, Input, SendAddr, Transport};
 use rtc_part_association::Association;
-use rtc_part_draws::Ids;
 use rtc_part_dtls::DtlsInstance;
 use rtc_part_ice::IceAgent;
 use rtc_part_media::MediaSession;
-use rtc_part_values::Reason;
+use rtc_part_values::{Ids, Reason};
 use rtc_peer_core::Peer;
 use rtc_wire::{Addr, DatagramRecv};
 

@@ -11,7 +11,7 @@ use Rattle.rtc_channels.specs.Channels.{no_channels}
 use Rattle.rtc_config.specs.RtcConfig.{default_config}
 use Rattle.rtc_peer_core.specs.declared.sdp_head.SdpHead.{SdpHead}
 use Rattle.rtc_peer_core.specs.declared.told_row.ToldRow.{ToldRow}
-use Rattle.rtc_peer_core.specs.Formats.{formats_of}
+use Rattle.rtc_peer_core.specs.Formats.{config_formats}
 use Rattle.rtc_peer_core.specs.MadeSdp.{no_media, sdp_of_rows}
 use Rattle.rtc_run_history.specs.declared.side.Side.{Side}
 use Rattle.rtc_run_history.specs.declared.step.Step.{Step}
@@ -60,7 +60,7 @@ says at offer rows = says_with worked_creds false at offer rows
 abbrev pub plain : Stances
 plain at = record {
   session = 1;
-  formats = formats_of default_config;
+  formats = config_formats default_config;
   lines = [];
   staged = [];
   channels = no_channels;

@@ -10,7 +10,7 @@ use Rattle.rtc_assoc_state.specs.Contents.{fresh_contents, generation_of}
 use Rattle.rtc_assoc_state.specs.Inbox.{is_message_of}
 use Rattle.rtc_assoc_state.specs.Outbox.{has_unacknowledged}
 use Rattle.rtc_assoc_state.specs.PlainMeaning.{plain_meaning}
-use Rattle.rtc_part_draws.specs.Draws.{Draws}
+use Rattle.rtc_part_values.specs.Draws.{Draws}
 use Rattle.rtc_sctp_entries.specs.declared.stream_entry_state.StreamEntryState.{StreamEntryState}
 use Rattle.rtc_sctp_entries.specs.declared.stream_entry_state.StreamEntryState.TheVariants.{AwaitOpen, AwaitConfig, AwaitDcepAck, Open, Closed as EntryClosed}
 use Rattle.rtc_sctp_entries.specs.declared.stream_entry.StreamEntry.{StreamEntry}

@@ -11,7 +11,7 @@ use Rattle.rtc_assoc_state.specs.Calls.{next_message}
 use Rattle.rtc_assoc_state.specs.PlainMeaning.{plain_meaning}
 use Rattle.rtc_assoc_state.proofs.DoesLemmas.{reads_some}
 use Rattle.rtc_assoc_state.proofs.ReadableLemmas.{some-unread}
-use Rattle.rtc_part_draws.specs.Draws.{Draws}
+use Rattle.rtc_part_values.specs.Draws.{Draws}
 use Rattle.rtc_sctp_laws.specs.StreamMessages.{StreamMessage, read_act, reads_of}
 use Rattle.rtc_peer_laws.specs.PeerActs.{PeerActs}
 use Rattle.rtc_run_laws.specs.PlainPairs.{PlainPolled}

@@ -4,7 +4,7 @@ use Rattle.rtc_part_association.specs.AssociationWords.{given}
 use Rattle.rtc_part_values.specs.Among.{Member}
 use Rattle.rtc_part_dtls.specs.DtlsWords.{dtls_got}
 use Rattle.rtc_assoc_state.specs.Contents.{Contents, generation_of, has_unread}
-use Rattle.rtc_part_draws.specs.Draws.{Draws}
+use Rattle.rtc_part_values.specs.Draws.{Draws}
 use Rattle.rtc_sctp_laws.specs.StreamMessages.{StreamMessage}
 use Rattle.rtc_peer_core.specs.declared.phase.Phase.TheVariants.{Closed}
 use Rattle.rtc_peer_laws.specs.Acts.{PeerDid}

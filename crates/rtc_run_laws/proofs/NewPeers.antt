@@ -18,7 +18,7 @@ use Rattle.rtc_plain_ice.specs.PlainMeaning.{plain_ice}
 use Rattle.rtc_plain_dtls.specs.Contents.{DtlsContents}
 use Rattle.rtc_assoc_state.specs.Contents.{Contents}
 use Rattle.rtc_plain_media.specs.MediaContents.{MediaContents}
-use Rattle.rtc_part_draws.specs.Draws.{Draws}
+use Rattle.rtc_part_values.specs.Draws.{Draws}
 use Rattle.rtc_sctp_laws.specs.StreamMessages.{pushed_packets, reads_of, writes_of}
 use Rattle.rtc_peer_core.specs.declared.peer.Peer.{Peer}
 use Rattle.rtc_peer_core.specs.Built.{payload_of_mtu, creds_or, cert_or, session_drawn, creds_drawn}

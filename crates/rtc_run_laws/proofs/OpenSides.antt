@@ -8,7 +8,7 @@ use Rattle.rtc_plain_dtls.specs.PlainMeaning.{plain_dtls}
 use Rattle.rtc_assoc_state.proofs.PlainLaws.{plain_laws}
 use Rattle.rtc_assoc_state.specs.Contents.{Contents, closed_here, generation_of, is_ending, is_started}
 use Rattle.rtc_assoc_state.specs.PlainMeaning.{plain_meaning}
-use Rattle.rtc_part_draws.specs.Draws.{Draws}
+use Rattle.rtc_part_values.specs.Draws.{Draws}
 use Rattle.rtc_sctp_entries.specs.declared.stream_entry.StreamEntry.{StreamEntry}
 use Rattle.rtc_sctp_entries.specs.Entries.{fits_generation, has_open, is_open_state}
 use Rattle.rtc_sctp.specs.Calls.{is_open_stream}

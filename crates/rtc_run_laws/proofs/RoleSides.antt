@@ -8,7 +8,7 @@ use Rattle.rtc_part_dtls.specs.DtlsWords.{dtls_given}
 use Rattle.rtc_plain_dtls.specs.Contents.{fresh_dtls, phase_is_finished}
 use Rattle.rtc_plain_dtls.specs.PlainMeaning.{plain_dtls}
 use Rattle.rtc_assoc_state.specs.PlainMeaning.{plain_meaning}
-use Rattle.rtc_part_draws.specs.Draws.{Draws}
+use Rattle.rtc_part_values.specs.Draws.{Draws}
 use Rattle.rtc_plain_media.specs.declared.plain_media_event.PlainMediaEvent.{PlainMediaEvent}
 use Rattle.rtc_peer_core.specs.declared.phase.Phase.TheVariants.{Closed}
 use Rattle.rtc_peer_core.specs.Meanings.{Meanings, PartsLaws}

@@ -6,7 +6,7 @@ use Rattle.rtc_assoc.proofs.DirectedLemmas.{directed_all}
 use Rattle.rtc_assoc.proofs.RunLemmas.{both_run}
 use Rattle.rtc_assoc_state.specs.Outbox.{has_unacknowledged}
 use Rattle.rtc_plain_media.specs.declared.plain_media_event.PlainMediaEvent.{PlainMediaEvent}
-use Rattle.rtc_part_draws.specs.Draws.{Draws}
+use Rattle.rtc_part_values.specs.Draws.{Draws}
 use Rattle.rtc_peer_laws.specs.Exchanging.{parts_past}
 use Rattle.rtc_peer_laws.specs.JoinedPeers.{ends_of, packet_parts}
 use Rattle.rtc_peer_laws.proofs.ExchangeLemmas.{left_reads, right_reads}

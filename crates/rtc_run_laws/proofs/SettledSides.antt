@@ -8,7 +8,7 @@ use Rattle.rtc_assoc_state.proofs.PlainLaws.{plain_laws}
 use Rattle.rtc_assoc_state.specs.Contents.{closed_here, fresh_contents, generation_of, has_unread, is_ending}
 use Rattle.rtc_assoc_state.specs.Outbox.{has_unacknowledged}
 use Rattle.rtc_assoc_state.specs.PlainMeaning.{plain_meaning}
-use Rattle.rtc_part_draws.specs.Draws.{Draws}
+use Rattle.rtc_part_values.specs.Draws.{Draws}
 use Rattle.rtc_sctp_entries.specs.declared.stream_entry.StreamEntry.{StreamEntry}
 use Rattle.rtc_sctp_entries.specs.Entries.{fits_generation}
 use Rattle.rtc_sctp_laws.specs.StreamUses.{AreUsedIn, HasOpenInBand, any_dcep, begins_with_dcep, entries_of, is_spent_stream, messages_of}

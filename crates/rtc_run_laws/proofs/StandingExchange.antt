@@ -4,7 +4,7 @@ use Rattle.rtc_part_values.specs.Among.{Member}
 use Rattle.rtc_part_association.proofs.AmongLemmas.{member-append, member-left}
 use Rattle.rtc_part_dtls.specs.DtlsWords.{dtls_given, dtls_taken}
 use Rattle.rtc_part_dtls.proofs.DtlsLemmas.{dtls_given-append, dtls_taken-append}
-use Rattle.rtc_part_draws.specs.Draws.{Draws}
+use Rattle.rtc_part_values.specs.Draws.{Draws}
 use Rattle.rtc_sctp_laws.specs.StreamMessages.{StreamMessage}
 use Rattle.rtc_peer_laws.specs.Acts.{PeerDid, NegotiationActs}
 use Rattle.rtc_peer_laws.specs.PeerActs.{Came, PeerActs, acts_with, dtls_roles, roles_after}

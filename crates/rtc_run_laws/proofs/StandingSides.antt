@@ -13,7 +13,7 @@ use Rattle.rtc_plain_dtls.specs.PlainMeaning.{plain_dtls}
 use Rattle.rtc_assoc_state.proofs.PlainLaws.{plain_laws}
 use Rattle.rtc_assoc_state.specs.Contents.{fresh_contents}
 use Rattle.rtc_assoc_state.specs.PlainMeaning.{plain_meaning}
-use Rattle.rtc_part_draws.specs.Draws.{Draws}
+use Rattle.rtc_part_values.specs.Draws.{Draws}
 use Rattle.rtc_sctp_laws.specs.StreamMessages.{StreamMessage, read_act, reads_of, write_act, writes_of}
 use Rattle.rtc_sctp_laws.specs.StreamUses.{messages_of}
 use Rattle.rtc_sctp_laws.proofs.GenerationMessages.{messages-append}

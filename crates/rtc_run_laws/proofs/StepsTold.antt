@@ -8,7 +8,7 @@ use Rattle.rtc_part_values.specs.Among.{Member}
 use Rattle.rtc_assoc_state.proofs.PlainLaws.{plain_laws}
 use Rattle.rtc_assoc_state.specs.PlainMeaning.{plain_meaning}
 use Rattle.rtc_plain_media.specs.declared.plain_media_event.PlainMediaEvent.{PlainMediaEvent}
-use Rattle.rtc_part_draws.specs.Draws.{Draws}
+use Rattle.rtc_part_values.specs.Draws.{Draws}
 use Rattle.rtc_sctp.specs.Calls.{is_nil, written_ppi}
 use Rattle.rtc_sctp_laws.specs.StreamMessages.{stream_message}
 use Rattle.rtc_sctp_laws.specs.StreamUses.{messages_of}

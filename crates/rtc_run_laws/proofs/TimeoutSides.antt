@@ -10,7 +10,7 @@ use Rattle.rtc_plain_dtls.specs.PlainLaws.{plain_dtls_laws}
 use Rattle.rtc_plain_dtls.specs.PlainMeaning.{plain_dtls}
 use Rattle.rtc_assoc_state.specs.Contents.{Contents, generation_of, has_unread, is_started}
 use Rattle.rtc_assoc_state.specs.PlainMeaning.{plain_meaning}
-use Rattle.rtc_part_draws.specs.Draws.{Draws}
+use Rattle.rtc_part_values.specs.Draws.{Draws}
 use Rattle.rtc_sctp_entries.specs.declared.stream_entry.StreamEntry.{StreamEntry}
 use Rattle.rtc_sctp_entries.specs.Entries.{has_open, is_open_state}
 use Rattle.rtc_sctp.specs.Streams.{SctpStreams, is_established}

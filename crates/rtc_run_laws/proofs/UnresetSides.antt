@@ -3,7 +3,7 @@ use Rattle.std.proofs.Common.{◌≡◌, ◌⊎◌, inl, inr, ℕ, Bool, List, [
 use Rattle.rtc_part_association.specs.AssociationWords.{written}
 use Rattle.rtc_assoc_state.specs.Contents.{generation_of}
 use Rattle.rtc_assoc_state.specs.PlainMeaning.{plain_meaning}
-use Rattle.rtc_part_draws.specs.Draws.{Draws}
+use Rattle.rtc_part_values.specs.Draws.{Draws}
 use Rattle.rtc_plain_media.specs.declared.plain_media_event.PlainMediaEvent.{PlainMediaEvent}
 use Rattle.rtc_sctp_laws.proofs.HeldActs.{plain_keeping}
 use Rattle.rtc_sctp_laws.proofs.HeldRows.{IsKept}

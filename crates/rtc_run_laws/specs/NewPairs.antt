@@ -9,7 +9,7 @@ use Rattle.rtc_plain_ice.specs.PlainMeaning.{plain_ice}
 use Rattle.rtc_plain_dtls.specs.Contents.{DtlsContents, fresh_dtls}
 use Rattle.rtc_assoc_state.specs.Contents.{Contents, fresh_contents}
 use Rattle.rtc_plain_media.specs.MediaContents.{MediaContents, fresh_media}
-use Rattle.rtc_part_draws.specs.Draws.{Draws}
+use Rattle.rtc_part_values.specs.Draws.{Draws}
 use Rattle.rtc_config.specs.RtcConfig.{PeerConfig}
 use Rattle.rtc_peer_core.specs.declared.peer.Peer.{Peer}
 use Rattle.rtc_peer_core.specs.Built.{Builds}

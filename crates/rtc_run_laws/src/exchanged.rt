@@ -14,7 +14,7 @@ ghost use Rattle.rtc_run_history.specs.Sides.{other_side};
 ghost use Rattle.rtc_run_laws.specs.NewPairs.{IsNewPair};
 ghost use Rattle.rtc_run_laws.specs.PlainPairs.{HasExchanged, PairActs, PairExchanges, PlainPair, acts_at, plain_over};
 
-use rtc_part_draws::Ids;
+use rtc_part_values::Ids;
 
 /// The peers of a pair that were just built over fresh plain parts stay joined by every list of steps, whatever datagrams these
 /// lose, repeat or reorder: what the association of one side reads of a generation of a stream is a prefix of what the association

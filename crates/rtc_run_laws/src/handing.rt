@@ -18,7 +18,7 @@ ghost use Rattle.rtc_run_laws.specs.SentMessages.{sent_over};
 ghost use Rattle.rtc_run_laws.specs.ToldMessages.{told_over};
 ghost use Rattle.rtc_run_laws.specs.UsesOfRuns.{uses_of};
 
-use rtc_part_draws::Ids;
+use rtc_part_values::Ids;
 
 /// Whatever datagrams a run of two peers loses, repeats or reorders: of the channels that were opened in-band, each side announces
 /// each at most once, and at most one over each generation of a stream, to which it sent nothing before. Where each side announced

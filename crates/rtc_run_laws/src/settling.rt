@@ -21,7 +21,7 @@ ghost use Rattle.rtc_run_laws.specs.SettledPairs.{HasNothingDue, HasNothingSoon,
 ghost use Rattle.rtc_run_laws.specs.StillPairs.{IsStillPair};
 ghost use Rattle.rtc_run_laws.specs.UsesOfRuns.{uses_of};
 
-use rtc_part_draws::Ids;
+use rtc_part_values::Ids;
 
 /// Where both peers are alive, with their DTLS connections and their associations standing, where each was polled up to a timeout
 /// since its last input and its last call, and where no association has an unacknowledged item: both associations have each stream in

@@ -16,7 +16,7 @@ use Rattle.rtc_sctp.specs.Streams.{SctpStreams}
 use Rattle.rtc_sctp_values.specs.SnapHalves.{KeptHalves, nothing_kept}
 use Rattle.rtc_config.specs.RtcConfig.{PeerConfig}
 use Rattle.rtc_peer_core.specs.Built.{Builds, payload_of_mtu, creds_or, session_drawn, allowed_halves}
-use Rattle.rtc_peer_core.specs.Formats.{formats_of, AreFormedFormats}
+use Rattle.rtc_peer_core.specs.Formats.{config_formats, AreFormedFormats}
 use Rattle.rtc_peer_core.specs.Formed.{AreSdpCreds, IsFormed, IsHostCandidate}
 use Rattle.rtc_peer_core.specs.Stance.{stance_of}
 use Rattle.rtc_run_history.specs.declared.side.Side.{Side}
@@ -129,8 +129,8 @@ program_unused alloc settings cert first addr config built p h =
     ap (λ (q : PlainPeer). q.sctp.entries) h.rest ∙ built_unused alloc config first built h.builds
 
 pub program_formed : (alloc : Global) (settings : PeerSettings) (cert : List ℕ) (first : ℕ) (addr : Addr) (config : PeerConfig) (built p : PlainPeer)
-    → Makes alloc settings cert first addr config built p → (config.ice.credentials ≡ None → AreFormedFormats (formats_of config) → IsFormed (stance_of plain_parts built))
-    → AreFormedFormats (formats_of config) → IsHostCandidate (host_at addr) → IsFormed (stance_of plain_parts p)
+    → Makes alloc settings cert first addr config built p → (config.ice.credentials ≡ None → AreFormedFormats (config_formats config) → IsFormed (stance_of plain_parts built))
+    → AreFormedFormats (config_formats config) → IsHostCandidate (host_at addr) → IsFormed (stance_of plain_parts p)
 program_formed alloc settings cert first addr config built p h formed formats host =
     let was : IsFormed (stance_of plain_parts built) = formed (ap (λ (c : PeerConfig). c.ice.credentials) h.config_is) formats in
     let candidates : p.ice.settings.candidates ≡ host_at addr ∷ [] =

@@ -6,7 +6,7 @@ ghost use Rattle.rtc_plain_dtls.specs.Contents.{fresh_dtls};
 ghost use Rattle.rtc_assoc_state.specs.Contents.{fresh_contents};
 ghost use Rattle.rtc_plain_media.specs.MediaContents.{fresh_media};
 ghost use Rattle.rtc_peer_core.specs.Built.{Builds};
-ghost use Rattle.rtc_peer_core.specs.Formats.{formats_of, AreFormedFormats};
+ghost use Rattle.rtc_peer_core.specs.Formats.{config_formats, AreFormedFormats};
 ghost use Rattle.rtc_peer_core.specs.Formed.{IsFormed, IsHostCandidate};
 ghost use Rattle.rtc_peer_core.specs.Stance.{stance_of};
 ghost use Rattle.rtc_run_history.specs.Fresh.{ArePeersFormed};
@@ -32,7 +32,7 @@ pub type PlainPair = Pair<PlainIce, PlainDtls, PlainAssociation, PlainMedia, Cou
 fn make_config(alloc: Global, settings: PeerSettings, name: &str) -> Result<RtcConfig, AllocError>
     requires { length name.now ≤ 1900 }
     ensures value { IfOk result (λ config. config ≡ program_config settings name.now) }
-    ensures formed { IfOk result (λ config. AreFormedFormats (formats_of config)) }
+    ensures formed { IfOk result (λ config. AreFormedFormats (config_formats config)) }
 {
     let mut cert = Vec::new(alloc);
     cert.extend_from_slice(name.as_bytes())?;
@@ -52,7 +52,7 @@ fn build_peer(alloc: Global, config: RtcConfig, first: u64) -> Result<PlainPeer,
     ensures built { IfOk result (λ rtc. Builds plain_parts alloc config 0 fresh_ice fresh_dtls fresh_contents fresh_media first rtc.core) }
     ensures unconnected { IfOk result (λ rtc. rtc.transport
         ≡ no_transport config.dtls.fingerprint_verification config.media.rtp_mode config.stats_interval) }
-    ensures formed { IfOk result (λ rtc. config.ice.credentials ≡ None → AreFormedFormats (formats_of config)
+    ensures formed { IfOk result (λ rtc. config.ice.credentials ≡ None → AreFormedFormats (config_formats config)
         → IsFormed (stance_of plain_parts rtc.core)) }
 {
     Rtc::build(

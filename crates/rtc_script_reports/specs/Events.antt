@@ -2,7 +2,8 @@
 use Rattle.std.specs.Prelude.{ℕ, List, ◌++◌, length, codes}
 use Rattle.std.specs.Fmt.{decimal}
 use Rattle.rtc_part_ice.specs.declared.ice_connection_state.IceConnectionState.{IceConnectionState}
-use Rattle.rtc_part_ice.specs.declared.ice_connection_state.IceConnectionState.TheVariants.{New, Checking, Connected, Completed, Disconnected}
+use Rattle.rtc_part_ice.specs.declared.ice_connection_state.IceConnectionState.TheVariants.{New, Checking, Connected, Completed}
+use Rattle.rtc_part_ice.specs.declared.ice_connection_state.IceConnectionState.TheVariants.{Disconnected}
 use Rattle.rtc_part_media.specs.declared.raw_packet.RawPacket.{RawPacket}
 use Rattle.rtc_part_media.specs.declared.raw_packet.RawPacket.TheVariants.{RtcpTx, RtcpRx, RtpTx, RtpRx}
 use Rattle.rtc_plain_media.specs.declared.plain_media_event.PlainMediaEvent.{PlainMediaEvent}

@@ -19,13 +19,13 @@ use crate::SctpError;
 use crate::init_chunk::draw_chunk;
 use base64::DecodeAllocError;
 use base64::engine::general_purpose::STANDARD;
-use rtc_part_draws::Ids;
+use rtc_part_values::Ids;
 use rtc_wire::{Bytes, LOCAL_MAX_MESSAGE_SIZE, TryCopy};
 use std::alloc::{AllocError, Global};
 use std::marker::Model;
 
 /// The two halves of a start by session descriptions: the INIT chunk of each end (draft-hancke-tsvwg-snap).
-#[derive(Debug, Drop)]
+#[derive(Debug, PartialEq, Eq, Drop)]
 pub struct SctpInitData {
     alloc: Global,
     local: Option<Bytes>,

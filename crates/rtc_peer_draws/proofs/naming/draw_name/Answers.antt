@@ -1,4 +1,4 @@
-use Rattle.rtc_part_draws.proofs.LaterLemmas.{later_none, later_once}
+use Rattle.rtc_part_values.proofs.LaterLemmas.{later_none, later_once}
 use Rattle.rtc_peer_draws.proofs.naming.draw_name.Goals as goal
 
 pub returns-in-Some-clause-later : goal.returns-in-Some-clause-later

@@ -1,4 +1,4 @@
-use Rattle.rtc_part_draws.proofs.LaterLemmas.{later_once, later_twice}
+use Rattle.rtc_part_values.proofs.LaterLemmas.{later_once, later_twice}
 use Rattle.rtc_peer_draws.proofs.sourcing.draw_pair.Goals as goal
 
 pub returns-in_err-push-in-Audio-clause-later : goal.returns-in_err-push-in-Audio-clause-later

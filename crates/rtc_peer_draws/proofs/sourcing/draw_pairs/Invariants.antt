@@ -1,6 +1,6 @@
 use Rattle.std.proofs.Common.{◌≡◌, ◌++◌, ◌-◌, []}
 use Rattle.std.specs.List.{flat_map}
-use Rattle.rtc_part_draws.specs.Draws.{Later}
+use Rattle.rtc_part_values.specs.Draws.{Later}
 use Rattle.rtc_peer_core.specs.Sources.{has_source, pair_numbers, next_pairs, after_pairs}
 use Rattle.rtc_peer_draws.proofs.sourcing.draw_pairs.Given as goal
 

@@ -1,6 +1,6 @@
 -- Draws that follow each other.
 use Rattle.std.proofs.Common.{◌≡◌, ◌+◌, ◌∙◌, ℕ, zero, suc, refl, ap, arith}
-use Rattle.rtc_part_draws.specs.Draws.{Draws, Later, after_draws}
+use Rattle.rtc_part_values.specs.Draws.{Draws, Later, after_draws}
 
 pub later_none : {N : Type 0} (draws : Draws N) (ids : N) → Later draws ids ids
 unfolding Later

@@ -1,6 +1,6 @@
 //! Sources of numbers.
 ghost use Rattle.std.specs.Prelude.{◌≡◌};
-ghost use Rattle.rtc_part_draws.specs.Draws.{Draws};
+ghost use Rattle.rtc_part_values.specs.Draws.{Draws};
 
 /// A source of the numbers that names, credentials and sources are made of.
 pub trait Ids {
