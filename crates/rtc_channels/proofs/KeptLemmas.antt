@@ -54,7 +54,7 @@ below_more bound more (channel ∷ channels) below least = (omega (arith, below.
 
 -- one more channel, with a number above all
 pub one_more : (rows : List (ℕ × Option ℕ)) (kept : List Kept) (row : ℕ × Option ℕ) (own : Kept) → length rows ≡ length kept
-    → channels_of (rows ++ row ∷ []) (kept ++ own ∷ []) ≡ channels_of rows kept ++ record { id = row.0; stream = row.1; negotiated = own.negotiated; config = own.config } ∷ []
+    → channels_of (rows ++ row ∷ []) (kept ++ own ∷ []) ≡ channels_of rows kept ++ record { id = row.0; stream = row.1; negotiated = own.negotiated; config = own.config; confirmed = own.confirmed } ∷ []
 one_more [] [] row own same = refl
 one_more [] (first ∷ kept) row own same = absurd (omega (arith, same))
 one_more (first ∷ rows) [] row own same = absurd (omega (arith, same))
@@ -89,8 +89,8 @@ paired_more given rows kept row own paired is = record {
 -- the channels with one more are those that a config makes
 pub made : (held : Channels) (given : ℕ) (rows : List (ℕ × Option ℕ)) (kept : List Kept) (id : ℕ) (config : ChannelConfig)
     → (holds : List ℕ) → record { given = given; rows = channels_of rows kept; holds = holds } ≡ held → length rows ≡ length kept → id ≡ given
-    → record { given = given + 1; rows = channels_of (rows ++ (id, None) ∷ []) (kept ++ record { negotiated = config.negotiated; config = None } ∷ []); holds = holds } ≡ with_channel held config
-made held given rows kept id config holds is same next = rw (← is, next, one_more rows kept (given, None) (record { negotiated = config.negotiated; config = None }) same) refl
+    → record { given = given + 1; rows = channels_of (rows ++ (id, None) ∷ []) (kept ++ record { negotiated = config.negotiated; config = None; confirmed = false } ∷ []); holds = holds } ≡ with_channel held config
+made held given rows kept id config holds is same next = rw (← is, next, one_more rows kept (given, None) (record { negotiated = config.negotiated; config = None; confirmed = false }) same) refl
 
 -- a channel that is found has its place behind the first
 pub place_behind : (place id : ℕ) (rows : List (ℕ × Option ℕ)) (i : ℕ) → place_of_channel place id rows ≡ Some i → place ≤ i
@@ -106,7 +106,7 @@ pub some_same : (one other : ℕ) → Some one ≡ Some other → one ≡ other
 some_same one other same = cc
 
 abbrev channel_of : ℕ × Option ℕ → Kept → Channel
-channel_of row own = record { id = row.0; stream = row.1; negotiated = own.negotiated; config = own.config }
+channel_of row own = record { id = row.0; stream = row.1; negotiated = own.negotiated; config = own.config; confirmed = own.confirmed }
 
 -- what is kept beside the row at a place, where that is the channel's
 abbrev AtPlace : ℕ → ChannelConfig → List (ℕ × Option ℕ) → List Kept → Kept → ℕ → Type 0

@@ -27,8 +27,8 @@ module _ {I D S M E X T W N : Type 0} (m : Meanings I D S M E X T W N) (laws : P
   peer_unused : (old new : Peer I D S M N) → PeerKind m laws old new → IsUnused m laws old → IsUnused m laws new
   peer_unused old new (KeptCore same) unused = same_unused m laws old new same unused
   peer_unused old new (StagedOps same) unused = parts_unused m laws old new same unused
-  peer_unused old new (TookOffer offer r h) unused = offer_unused m laws (record old { staged = [] }) offer r new h unused
-  peer_unused old new (TookAnswer token answer r h) unused = answer_unused m laws (record old { staged = [] }) token answer r new h unused
+  peer_unused old new (TookOffer offer r h) unused = offer_unused m laws (record old { staged = []; undo = [] }) offer r new h unused
+  peer_unused old new (TookAnswer token answer r h) unused = answer_unused m laws (record old { staged = []; undo = [] }) token answer r new h unused
 
   -- a step that negotiates nothing leaves whether the association is started
   moved_unused : (numbers : List ℕ) (p q : PolledPeer I D S M N) → Moves m laws numbers p q → IsUnused m laws p.core → IsUnused m laws q.core

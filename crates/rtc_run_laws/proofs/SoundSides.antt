@@ -18,7 +18,7 @@ use Rattle.rtc_change.specs.TableAfter.{table_after}
 use Rattle.rtc_peer_rows.specs.ParsedLines.{parsed_lines}
 use Rattle.rtc_peer_core.specs.declared.peer.Peer.{Peer}
 use Rattle.rtc_peer_core.specs.declared.rtc_error.RtcError.{RtcError}
-use Rattle.rtc_peer_core.specs.declared.rtc_error.RtcError.TheVariants.{Net, Media as MediaFailed}
+use Rattle.rtc_peer_core.specs.declared.rtc_error.RtcError.TheVariants.{Net, Media as MediaFailed, Glare}
 use Rattle.rtc_peer_core.specs.declared.rtc_error.RtcError.TheVariants.{RemoteSdp, Sdp as SdpRefused, Dtls, Sctp, ChangesOutOfOrder, BadChannel, Alloc as PeerAlloc}
 use Rattle.rtc_peer_core.specs.Acceptances.{StartsBySdp, AcceptsOffer, AcceptsAnswer}
 use Rattle.rtc_peer_core.specs.MadeSdp.{role_after}
@@ -130,8 +130,8 @@ module _ {I D S M E X T W N : Type 0} (m : Meanings I D S M E X T W N) (laws : P
       (sdp_later p true offer (offer_halves m p offer) (Ok tt) q.sctp h.sctp_starts) (updated_later m laws.media p.media q.media _ h.media_updated))
 
   offer_refused : (p q : Peer I D S M N) (offer : Sdp) (error : RtcError) → AcceptsOffer m p offer (Err error) q → IsSoundOfSide p true (Refused error) q
-  offer_refused p q offer (RemoteSdp why) h = refused p q (RemoteSdp why) (λ part. refl) (ap counting_parts h.1)
-  offer_refused p q offer (SdpRefused error) h = refused p q (SdpRefused error) (λ part. refl) (ap counting_parts h.1)
+  offer_refused p q offer (RemoteSdp why) h = refused p q (RemoteSdp why) (λ part. refl) (ap counting_parts h.1.1)
+  offer_refused p q offer (SdpRefused error) h = refused p q (SdpRefused error) (λ part. refl) (ap counting_parts h.1.1)
   offer_refused p q offer (Dtls Fault) h = record {
     later = by_part (λ part. faults_of m part p ≤ faults_of m part q) (start_later m.dtls laws.dtls p.dtls q.dtls _ _ _ _ h.dtls_fails)
         (same_sctp p q (ap (λ (r : Peer I D S M N). r.sctp.association) h.rest)) (prepared_later m laws.media p.media q.media _ (Ok tt) h.media_prepared);
@@ -152,6 +152,7 @@ module _ {I D S M E X T W N : Type 0} (m : Meanings I D S M E X T W N) (laws : P
   offer_refused p q offer (Net cause) h = absurd h
   offer_refused p q offer (MediaFailed cause) h = absurd h
   offer_refused p q offer BadChannel h = absurd h
+  offer_refused p q offer Glare h = refused p q Glare (λ part. refl) (ap counting_parts h.1)
   offer_refused p q offer PeerAlloc h = record {
     later = by_part (λ part. faults_of m part p ≤ faults_of m part q)
         (stop_later m.dtls laws.dtls p.dtls q.dtls _ _ (stopped_dtls m (record p { counter = raised p.counter }) _ _ _ _ _ _ q h.stops))
@@ -189,6 +190,7 @@ module _ {I D S M E X T W N : Type 0} (m : Meanings I D S M E X T W N) (laws : P
   answer_refused p q token answer (Net cause) h = absurd h
   answer_refused p q token answer (MediaFailed cause) h = absurd h
   answer_refused p q token answer BadChannel h = absurd h
+  answer_refused p q token answer Glare h = absurd h
   answer_refused p q token answer PeerAlloc h = record {
     later = by_part (λ part. faults_of m part p ≤ faults_of m part q)
         (stop_later m.dtls laws.dtls p.dtls q.dtls _ _ (stopped_dtls m p _ _ _ _ _ _ q h.stops))

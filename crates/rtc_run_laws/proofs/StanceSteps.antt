@@ -58,7 +58,7 @@ abbrev pub made_by : PairStance → PairStance → List MadeSdp
 made_by old new = sdps_behind old.sdps new.sdps
 
 abbrev pub lent : Stance → Stance
-lent s = record s { staged = [] }
+lent s = record s { staged = []; undo = [] }
 
 -- whether channels that are staged need a line
 abbrev pub needs_app : Stance → Bool

@@ -38,8 +38,8 @@ module _ {I D S M E X T W N : Type 0} (m : Meanings I D S M E X T W N) (laws : P
   pub data PeerKind (old new : Peer I D S M N) : Type 0 where
     KeptCore : new ≡ old → PeerKind old new
     StagedOps : counting_parts new ≡ counting_parts old → PeerKind old new
-    TookOffer : (offer : Sdp) (r : Result Sdp RtcError) → AcceptsOffer m (record old { staged = [] }) offer r new → PeerKind old new
-    TookAnswer : (token : PendingOffer) (answer : Sdp) (r : Result (Unit {0}) RtcError) → AcceptsAnswer m (record old { staged = [] }) token answer r new
+    TookOffer : (offer : Sdp) (r : Result Sdp RtcError) → AcceptsOffer m (record old { staged = []; undo = [] }) offer r new → PeerKind old new
+    TookAnswer : (token : PendingOffer) (answer : Sdp) (r : Result (Unit {0}) RtcError) → AcceptsAnswer m (record old { staged = []; undo = [] }) token answer r new
         → PeerKind old new
 
   -- the side is as it was, moves, or negotiates
@@ -53,7 +53,7 @@ module _ {I D S M E X T W N : Type 0} (m : Meanings I D S M E X T W N) (laws : P
   negotiate_kind at ops apply old sdps Alloc None new sdps' h = KeptCore h.peer
   negotiate_kind at ops apply old sdps (Negotiated answers made) (Some table) new sdps' h =
       StagedOps
-      (makes_counting m (apply && not (answers_lack answers)) at h.0 sdps made new sdps' h.2 ∙ ops_counting m (record old { staged = [] }) ops answers h.0 h.1)
+      (makes_counting m (apply && not (answers_lack answers)) at h.0 sdps made new sdps' h.2 ∙ ops_counting m (record old { staged = []; undo = [] }) ops answers h.0 h.1)
   negotiate_kind at ops apply old sdps outcome table new sdps' h = absurd h
 
   step_offer_kind : (at : Side) (offer : Signalled) (old : Peer I D S M N) (sdps : List Kept) (outcome : Outcome E) (table : Option Table) (new : Peer I D S M N) (sdps' : List Kept)
