@@ -16,7 +16,7 @@ use std::alloc::{AllocError, Global};
 use std::marker::Model;
 
 /// What a peer is built from.
-#[derive(Debug, PartialEq, Eq)]
+#[derive(Debug)]
 pub struct RtcConfig {
     pub(crate) alloc: Global,
     pub(crate) ice: IceSettings,
