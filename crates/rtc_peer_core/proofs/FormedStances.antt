@@ -124,7 +124,7 @@ adds_channel_formed s config (Err ChangesOutOfOrder) t adds formed = absurd adds
 adds_channel_formed s config (Err Glare) t adds formed = absurd adds
 
 -- rows that are alike have the same mids
-tokens_alike : (rows others : List LineRow) → AreAlike rows others → HaveTokens rows → HaveTokens others
+pub tokens_alike : (rows others : List LineRow) → AreAlike rows others → HaveTokens rows → HaveTokens others
 tokens_alike [] [] alike tokens = tt
 tokens_alike (row ∷ rows) (other ∷ others) alike tokens =
     (subst (λ (mid : List ℕ). is_short_token mid ≡ true) (sym alike.0.mid) tokens.0, tokens_alike rows others alike.1 tokens.1)

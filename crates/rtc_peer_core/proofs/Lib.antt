@@ -22,5 +22,6 @@ pub mod StanceAcceptances
 pub mod FormedHeads
 pub mod FormedStances
 pub mod FormedAcceptances
+pub mod StanceRollbacks
 mod LimitFacts
 mod MediaFacts
