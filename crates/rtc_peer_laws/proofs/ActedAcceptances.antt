@@ -29,6 +29,7 @@ use Rattle.rtc_peer_core.specs.Meanings.{Meanings}
 use Rattle.rtc_peer_core.specs.Calls.{raised, control_for}
 use Rattle.rtc_peer_core.specs.MadeSdp.{role_for, role_after}
 use Rattle.rtc_peer_core.specs.SdpMoves.{followed_restart, answer_ids, halves_for}
+use Rattle.rtc_peer_core.specs.RollingBack.{RollsBack}
 use Rattle.rtc_peer_core.specs.PartMoves.{needs_start, StartsSctp, remote_limit, StopsMoving, AtAgent, AtRole, AtStart}
 use Rattle.rtc_peer_core.specs.StoppedAcceptances.{StopsPreparing, BeforeSources, AmongDraws, AtUpdates, StopsAccepting, AtVerdict, AtPreparing, AtParts}
 use Rattle.rtc_peer_core.specs.Acceptances.{AcceptsOffer, AcceptsAnswer}
@@ -197,3 +198,18 @@ module _ {I D S M E X T W N : Type 0} (m : Meanings I D S M E X T W N) where
       (media_prepared m.media _ (Ok tt) p.core.media c.media h.1.media_prepared)
   answer_did p token answer (Err Alloc) c h =
       stops_did p p.core.counter (Some (asked_by p.core.lines token)) token.changes answer (staged_restart token.changes) None p.core.ids c h.stops
+
+  -- an offer that is rolled back leaves the parts
+  pub rollback_did : (p : PolledPeer I D S M N) (token : PendingOffer) (r : Result (Unit {0}) RtcError) (c : Peer I D S M N)
+      → RollsBack p.core token r c → NegotiationActs m p (with_core c p)
+  rollback_did p token (Ok done) c h = core_did p _ c h.1 refl refl refl refl
+  rollback_did p token (Err ChangesOutOfOrder) c h = core_did p p.core c h.1 refl refl refl refl
+  rollback_did p token (Err (RemoteSdp why)) c h = absurd h
+  rollback_did p token (Err (SdpRefused error)) c h = absurd h
+  rollback_did p token (Err (Dtls error)) c h = absurd h
+  rollback_did p token (Err (Sctp error)) c h = absurd h
+  rollback_did p token (Err (Net cause)) c h = absurd h
+  rollback_did p token (Err (MediaFailed cause)) c h = absurd h
+  rollback_did p token (Err BadChannel) c h = absurd h
+  rollback_did p token (Err Alloc) c h = absurd h
+  rollback_did p token (Err Glare) c h = absurd h
