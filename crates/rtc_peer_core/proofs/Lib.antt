@@ -4,6 +4,7 @@ pub mod DrawnMids
 pub mod BuiltPeers
 pub mod TokenTables
 pub mod StagedLemmas
+pub mod UndoLemmas
 pub mod ToldRows
 pub mod FormedNames
 pub mod FormedUpdates
