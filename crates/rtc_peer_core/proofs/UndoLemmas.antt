@@ -1,5 +1,5 @@
 -- The index of the rows that staged changes set or stopped stays right as rows are noted and let go.
-use Rattle.std.proofs.Common.{◌≡◌, ◌∙◌, ◌||◌, ℕ, Bool, true, false, cond, List, [], ◌∷◌, ◌++◌, map, refl, sym, ap, subst}
+use Rattle.std.proofs.Common.{◌≡◌, ◌∙◌, ◌||◌, ℕ, Bool, true, false, cond, List, [], ◌∷◌, ◌++◌, map, not, Option, Some, None, refl, sym, ap, subst}
 use Rattle.std.specs.List.{list_any}
 use Rattle.std.specs.BTreeSet as set
 use Rattle.std.specs.BTreeSet.{BTreeSet}
@@ -11,8 +11,10 @@ use Rattle.std.proofs.lemmas.List.Folds.{list_any-append}
 use Rattle.std.proofs.lemmas.Map.Text.{is_eq-slice_cmp}
 use Rattle.std.proofs.lemmas.Slice.Eq.{bytes_eq-Decides}
 use Rattle.rtc_sdp_values.specs.Mids.{is_among, AreDistinct}
-use Rattle.rtc_sdp_values.specs.declared.direction.Direction.{Direction}
-use Rattle.rtc_peer_core.specs.Undo.{RowBefore, undo_mids, without_last}
+use Rattle.rtc_sdp_values.specs.declared.line_row.LineRow.{LineRow}
+use Rattle.rtc_sdp_values.specs.declared.line_row.LineRow.TheVariants.{Media, App}
+use Rattle.rtc_peer_core.specs.Calls.{noted_of}
+use Rattle.rtc_peer_core.specs.Undo.{RowBefore, undo_mids, has_undo, has_undo_of, noted, without_last}
 use Rattle.rtc_peer_core.specs.UndoIndex.{IsNoted}
 
 -- nothing is noted
@@ -117,3 +119,28 @@ last_forgotten undo mids mids' was index removal = record {
         ∙ among_more undo was mid
         ∙ ap (λ (b : Bool). is_among (undo_mids undo) mid || (b || false)) is
         ∙ nothing_behind (is_among (undo_mids undo) mid)
+
+-- what was noted of a row is let go again
+forgotten_row : (row : LineRow) (undo : List RowBefore) → not (has_undo row undo) ≡ true → without_last (noted row undo) ≡ undo
+forgotten_row (Media place mid kind dir stopped remote_created) undo new = by (is_among (undo_mids undo) mid) refl
+  where
+    by : (among : Bool) → is_among (undo_mids undo) mid ≡ among → without_last (noted (Media place mid kind dir stopped remote_created) undo) ≡ undo
+    by true is = absurd (let e : false ≡ true = sym (ap not is) ∙ new in cc)
+    by false is = rw is (without_last-append undo (mid, dir, stopped))
+forgotten_row (App place mid) undo new = absurd (let e : false ≡ true = new in cc)
+
+kept_row : (row : LineRow) (undo : List RowBefore) → not (has_undo row undo) ≡ false → noted row undo ≡ undo
+kept_row (Media place mid kind dir stopped remote_created) undo old = by (is_among (undo_mids undo) mid) refl
+  where
+    by : (among : Bool) → is_among (undo_mids undo) mid ≡ among → noted (Media place mid kind dir stopped remote_created) undo ≡ undo
+    by true is = rw is refl
+    by false is = absurd (let e : true ≡ false = sym (ap not is) ∙ old in cc)
+kept_row (App place mid) undo old = refl
+
+pub forgotten_again : (row : Option LineRow) (undo : List RowBefore) → not (has_undo_of row undo) ≡ true → without_last (noted_of row undo) ≡ undo
+forgotten_again None undo new = absurd (let e : false ≡ true = new in cc)
+forgotten_again (Some row) undo new = forgotten_row row undo new
+
+pub noted_before : (row : Option LineRow) (undo : List RowBefore) → not (has_undo_of row undo) ≡ false → noted_of row undo ≡ undo
+noted_before None undo old = refl
+noted_before (Some row) undo old = kept_row row undo old

@@ -1,5 +1,5 @@
 -- The rows that staged changes set or stopped, as they were before, for an offer that is rolled back (RFC 8829, section 5.7).
-use Rattle.std.specs.Prelude.{ℕ, Bool, true, List, [], ◌∷◌, ◌++◌, map, if◌then◌else◌}
+use Rattle.std.specs.Prelude.{ℕ, Bool, true, List, [], ◌∷◌, ◌++◌, map, if◌then◌else◌, Option, Some, None}
 use Rattle.rtc_sdp_values.specs.Mids.{is_among}
 use Rattle.rtc_sdp_values.specs.declared.direction.Direction.{Direction}
 use Rattle.rtc_sdp_values.specs.declared.line_row.LineRow.{LineRow}
@@ -16,6 +16,10 @@ undo_mids undo = map (λ was. was.0) undo
 abbrev pub has_undo : LineRow → List RowBefore → Bool
 has_undo (Media place mid kind dir stopped remote_created) undo = is_among (undo_mids undo) mid
 has_undo (App place mid) undo = true
+
+abbrev pub has_undo_of : Option LineRow → List RowBefore → Bool
+has_undo_of None undo = true
+has_undo_of (Some row) undo = has_undo row undo
 
 -- the rows that are noted once this one is set or stopped: the first note of a row stays
 abbrev pub noted : LineRow → List RowBefore → List RowBefore

@@ -1,9 +1,10 @@
 //! Lines whose direction is set, or that are stopped.
-ghost use Rattle.std.specs.Prelude.{◌≡◌, ◌++◌, ◌∷◌, [], OnOk, OnErr};
+ghost use Rattle.std.specs.Prelude.{◌≡◌, ◌++◌, ◌∷◌, [], not, IfOk, OnOk, OnErr};
 ghost use Rattle.rtc_change.specs.declared.change.Change.TheVariants.{Direction as DirectionSet};
 ghost use Rattle.rtc_peer_rows.specs.RowChanges.{directed_row, stopped_row, is_changed};
 ghost use Rattle.rtc_peer_rows.specs.Table.{row_of};
 ghost use Rattle.rtc_peer_core.specs.Calls.{SetsDirection, StopsMedia, noted_of};
+ghost use Rattle.rtc_peer_core.specs.Undo.{has_undo_of};
 
 use rtc_change::{Lines, direct_row, stop_row};
 use rtc_peer_core::{Peer, Staged, Undo};
@@ -33,6 +34,7 @@ fn can_stop(lines: &Lines, mid: Mid) -> bool
 // Notes the row of a mid as it is, and answers whether it was not noted before.
 fn note_row(undo: &mut Undo, lines: &Lines, mid: Mid) -> Result<bool, AllocError>
     ensures ok { OnOk result (undo.new ≡ noted_of (row_of lines.now mid) undo.old) }
+    ensures added { IfOk result (λ added. added ≡ not (has_undo_of (row_of lines.now mid) undo.old)) }
     ensures err { OnErr result (undo.new ≡ undo.old) }
 {
     match lines.find(mid) {
