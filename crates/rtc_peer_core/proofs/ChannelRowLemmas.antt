@@ -1,6 +1,6 @@
 -- What the rows of channels stay over, and what they become where a channel is added; and that a start keeps the longest message.
 use Rattle.std.specs.Prelude.{◌&&◌, not, is_some}
-use Rattle.std.proofs.Common.{◌≡◌, ◌∙◌, ◌++◌, ◌==◌, ℕ, Bool, true, false, cond, List, [], ◌∷◌, map, Option, Some, None, Result, Ok, Err, refl, ap}
+use Rattle.std.proofs.Common.{◌≡◌, ◌∙◌, ◌++◌, ℕ, Bool, true, false, cond, List, [], ◌∷◌, map, Option, Some, None, Result, Ok, Err, refl, ap}
 use Rattle.std.proofs.lemmas.List.{map-append}
 use Rattle.rtc_wire.specs.declared.channel_config.ChannelConfig.{ChannelConfig}
 use Rattle.rtc_sdp_values.specs.declared.line_row.LineRow.{LineRow}
@@ -17,9 +17,7 @@ use Rattle.rtc_sctp_entries.specs.Entries.{has_open}
 use Rattle.rtc_peer_rows.specs.Table.{app_of}
 use Rattle.rtc_sctp.proofs.StartLemmas.{AlikeStreams, ShowsNone, inits_same}
 use Rattle.rtc_channels.specs.Channels.{Channel, Channels, has_id, unconfirmed, with_channel, rows_confirmed, confirmed, all_confirmed}
-use Rattle.rtc_channels.specs.Holds.{is_unconfirmed, channels_without, cancelled_if, all_cancelled}
 use Rattle.rtc_channels.specs.declared.channel_row.ChannelRow.{ChannelRow}
-use Rattle.rtc_peer_core.proofs.StanceCalls.{row_without, row_cancelled_if, rows_cancelled}
 use Rattle.rtc_peer_core.specs.ChannelRows.{generation_over, is_open_over, channel_row, channel_rows}
 use Rattle.rtc_peer_core.specs.PartMoves.{StartsSctp, StartsWhere, needs_start, dropped_halves}
 
@@ -41,31 +39,6 @@ module _ {S : Type 0} (m : AssociationMeaning S) where
   confirmed_rows p [] held = refl
   confirmed_rows p (channel ∷ rest) held =
       confirmed_rows p rest (confirmed channel.0 channel.1 held) ∙ rows_of_confirmed p channel.0 channel.1 held.rows
-
-  rows_of_left : (p : SctpStreams S) (id : ℕ) (rows : List Channel)
-      → map (channel_row m p) (channels_without id rows) ≡ row_without id (map (channel_row m p) rows)
-  rows_of_left p id [] = refl
-  rows_of_left p id (channel ∷ rest) = by (has_id id channel) (rows_of_left p id rest)
-    where
-      by : (here : Bool) → map (channel_row m p) (channels_without id rest) ≡ row_without id (map (channel_row m p) rest)
-          → map (channel_row m p) (cond here rest (channel ∷ channels_without id rest))
-          ≡ cond here (map (channel_row m p) rest) (channel_row m p channel ∷ row_without id (map (channel_row m p) rest))
-      by true same = refl
-      by false same = ap (λ (more : List ChannelRow). channel_row m p channel ∷ more) same
-
-  rows_of_cancelled : (p : SctpStreams S) (cancels : Bool) (id : ℕ) (held : Channels)
-      → channel_rows m p (cancelled_if cancels id held) ≡ row_cancelled_if cancels id (channel_rows m p held)
-  rows_of_cancelled p true id held = rows_of_left p id held.rows
-  rows_of_cancelled p false id held = refl
-
-  -- with channels that are cancelled their rows go
-  pub cancelled_rows : (p : SctpStreams S) (channels : List (ℕ × ChannelConfig)) (held : Channels)
-      → channel_rows m p (all_cancelled channels held) ≡ rows_cancelled channels held (channel_rows m p held)
-  cancelled_rows p [] held = refl
-  cancelled_rows p (channel ∷ rest) held =
-      let cancels : Bool = is_unconfirmed channel.0 held.rows in
-      cancelled_rows p rest (cancelled_if cancels channel.0 held)
-      ∙ ap (λ (rows : List ChannelRow). rows_cancelled rest (cancelled_if cancels channel.0 held) rows) (rows_of_cancelled p cancels channel.0 held)
 
   -- a channel that is added has its row behind, and waits for a stream
   pub added_rows : (p : SctpStreams S) (held : Channels) (config : ChannelConfig)

@@ -11,13 +11,12 @@ use Rattle.rtc_sdp_values.specs.declared.sdp.Sdp.{Sdp}
 use Rattle.rtc_change.specs.declared.change.Change.{Change}
 use Rattle.rtc_sctp_values.specs.SnapHalves.{KeptHalves}
 use Rattle.rtc_channels.specs.Channels.{Channels, with_channel, all_confirmed}
-use Rattle.rtc_channels.specs.Holds.{all_cancelled}
 use Rattle.rtc_channels.specs.declared.channel_row.ChannelRow.{ChannelRow}
 use Rattle.rtc_change.specs.declared.change.Change.TheVariants.{AddMedia, AddApp, AddChannel, Direction as SetDirection, IceRestart}
-use Rattle.rtc_change.specs.PendingOffer.{PendingOffer, added_mids, new_channels, restart_of}
+use Rattle.rtc_change.specs.PendingOffer.{PendingOffer, added_mids, restart_of}
 use Rattle.rtc_change.proofs.AddedLemmas.{added_mids-append}
-use Rattle.rtc_peer_rows.specs.RowChanges.{RowChange, changed_of, restored_row, dir_restored, all_restored}
-use Rattle.rtc_peer_rows.proofs.RowChangeLemmas.{KeepsRow, AreAlike, changed_of_alike, restored_row_keeps}
+use Rattle.rtc_peer_rows.specs.RowChanges.{RowChange, changed_of}
+use Rattle.rtc_peer_rows.proofs.RowChangeLemmas.{KeepsRow, AreAlike, changed_of_alike}
 use Rattle.rtc_peer_core.specs.declared.rtc_error.RtcError.{RtcError}
 use Rattle.rtc_peer_core.specs.declared.rtc_error.RtcError.TheVariants.{RemoteSdp, Sdp as SdpRefused, Dtls, Sctp, Net, Media as MediaFailed, ChangesOutOfOrder, BadChannel, Alloc, Glare}
 use Rattle.rtc_peer_core.specs.Calls.{Wanted, raised, fitting_channels}
@@ -28,7 +27,7 @@ use Rattle.rtc_peer_core.specs.SdpHalves.{offered_snap}
 use Rattle.rtc_peer_core.specs.Stance.{Stance}
 use Rattle.rtc_peer_core.specs.Undo.{RowBefore}
 use Rattle.rtc_peer_core.proofs.Alls.{all-append}
-use Rattle.rtc_peer_core.proofs.StanceCalls.{StanceAddsMedia, StanceChangesLine, StanceAddsChannel, StanceStagesRestart, StanceApplies, StanceRollsBack, IsAppFor, rows_cancelled, stance_alone}
+use Rattle.rtc_peer_core.proofs.StanceCalls.{StanceAddsMedia, StanceChangesLine, StanceAddsChannel, StanceStagesRestart, StanceApplies, IsAppFor, stance_alone}
 
 -- ---- staged changes
 
@@ -209,44 +208,3 @@ applies_formed s (Err error) t applies formed = rw applies formed
 pub made_changes : (s : Stance) (made : Sdp × PendingOffer) (t : Stance) → StanceApplies s (Ok (Some made)) t → IsFormed s
     → AreFormedChanges made.1.changes
 made_changes s made t applies formed = rw applies.token formed.changes
-
--- ---- what is rolled back
-
--- rows that are restored keep their mids
-restored_tokens : (undo : List RowBefore) (rows : List LineRow) → HaveTokens rows → HaveTokens (all_restored undo rows)
-restored_tokens [] rows tokens = tokens
-restored_tokens (was ∷ undo) rows tokens =
-    let change : RowChange = restored_row (dir_restored was.1 was.2) was.2 in
-    restored_tokens undo (changed_of change was.0 rows)
-    (tokens_alike rows (changed_of change was.0 rows) (changed_of_alike change (restored_row_keeps (dir_restored was.1 was.2) was.2) was.0 rows) tokens)
-
-restored_formed : (s : Stance) (undo : List RowBefore) → IsFormed s → IsFormed (record s { lines = all_restored undo s.lines })
-restored_formed s undo formed = record {
-  session = formed.session;
-  creds = formed.creds;
-  candidates = formed.candidates;
-  fingerprint = formed.fingerprint;
-  rows = restored_tokens undo s.lines formed.rows;
-  staged = formed.staged;
-  size = formed.size;
-  changes = formed.changes;
-  formats = formed.formats;
-  media = formed.media;
-}
-
-pub rolled_back_formed : (s : Stance) (token : PendingOffer) (result : Result (Unit {0}) RtcError) (t : Stance)
-    → StanceRollsBack s token result t → IsFormed s → IsFormed t
-rolled_back_formed s token (Ok done) t rolls formed =
-    rw rolls.1 (counted_formed (record s { lines = all_restored token.undo s.lines }) (raised s.counter) false s.undo
-    (all_cancelled (new_channels token.changes) s.channels) (rows_cancelled (new_channels token.changes) s.channels s.rows)
-    (restored_formed s token.undo formed))
-rolled_back_formed s token (Err ChangesOutOfOrder) t rolls formed = rw rolls.1 formed
-rolled_back_formed s token (Err (RemoteSdp why)) t rolls formed = absurd rolls
-rolled_back_formed s token (Err (SdpRefused error)) t rolls formed = absurd rolls
-rolled_back_formed s token (Err (Dtls error)) t rolls formed = absurd rolls
-rolled_back_formed s token (Err (Sctp error)) t rolls formed = absurd rolls
-rolled_back_formed s token (Err (Net cause)) t rolls formed = absurd rolls
-rolled_back_formed s token (Err (MediaFailed cause)) t rolls formed = absurd rolls
-rolled_back_formed s token (Err BadChannel) t rolls formed = absurd rolls
-rolled_back_formed s token (Err Alloc) t rolls formed = absurd rolls
-rolled_back_formed s token (Err Glare) t rolls formed = absurd rolls

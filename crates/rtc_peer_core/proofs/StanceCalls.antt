@@ -11,12 +11,10 @@ use Rattle.std.specs.Prelude.{
   [],
   ◌∷◌,
   ◌++◌,
-  ◌==◌,
   ◌&&◌,
   ◌||◌,
   not,
   is_some,
-  if◌then◌else◌,
   Option,
   Some,
   None,
@@ -37,9 +35,7 @@ use Rattle.rtc_sdp_values.specs.declared.direction.Direction.TheVariants.{Inacti
 use Rattle.rtc_sdp_values.specs.declared.ice_creds.IceCreds.{IceCreds}
 use Rattle.rtc_sdp_values.specs.declared.sdp.Sdp.{Sdp}
 use Rattle.rtc_sctp_values.specs.InitChunk.{chunk_text, chunk_of_text}
-use Rattle.rtc_channels.specs.Channels.{Channels, is_bad_channel, with_channel, all_confirmed}
-use Rattle.rtc_channels.specs.Holds.{is_unconfirmed, cancelled_if, all_cancelled}
-use Rattle.rtc_channels.specs.declared.channel_row.ChannelRow.{ChannelRow}
+use Rattle.rtc_channels.specs.Channels.{is_bad_channel, with_channel, all_confirmed}
 use Rattle.rtc_part_dtls.specs.declared.dtls_error.DtlsError.TheVariants.{WouldBlock, Fault, Alloc as DtlsAlloc}
 use Rattle.rtc_part_media.specs.declared.media_update.MediaUpdate.{MediaUpdate}
 use Rattle.rtc_part_media.specs.MediaUpdates.{line_after}
@@ -54,9 +50,9 @@ use Rattle.rtc_change.specs.declared.refusal.Refusal.{Refusal}
 use Rattle.rtc_change.specs.declared.refusal.Refusal.TheVariants.{RemoteSdp as RefusedSdp, Sdp as RefusedText}
 use Rattle.rtc_change.specs.Held.{Asked}
 use Rattle.rtc_peer_rows.specs.ParsedLines.{parsed_lines}
-use Rattle.rtc_change.specs.PendingOffer.{PendingOffer, do_offer, new_channels, staged_restart}
+use Rattle.rtc_change.specs.PendingOffer.{PendingOffer, do_offer, staged_restart}
 use Rattle.rtc_change.specs.Plans.{verdict, asked_by, is_restart}
-use Rattle.rtc_peer_rows.specs.RowChanges.{RowChange, directed_row, stopped_row, is_changed, changed_of, all_restored}
+use Rattle.rtc_peer_rows.specs.RowChanges.{RowChange, directed_row, stopped_row, is_changed, changed_of}
 use Rattle.rtc_peer_rows.specs.Table.{row_of, app_of}
 use Rattle.rtc_change.specs.TableAfter.{table_after}
 use Rattle.rtc_peer_core.specs.declared.rtc_error.RtcError.{RtcError}
@@ -319,41 +315,3 @@ StanceAcceptsAnswer s token answer (Err (Sctp error)) t =
     × (verdict (held_by s) (Some (asked_by s.lines token)) answer ≡ None)
     × Breaks s (staged_restart token.changes) s.counter t
 StanceAcceptsAnswer s token answer (Err Alloc) t = (s.counter ≡ raised token.id) × Breaks s (staged_restart token.changes) s.counter t
-
--- the rows without the first of a number
-abbrev pub row_without : ℕ → List ChannelRow → List ChannelRow
-row_without id [] = []
-row_without id (row ∷ rows) = if row.id == id then rows else row ∷ row_without id rows
-
-abbrev pub row_cancelled_if : Bool → ℕ → List ChannelRow → List ChannelRow
-row_cancelled_if true id rows = row_without id rows
-row_cancelled_if false id rows = rows
-
--- the rows of the channels that are left, where those of these that were never confirmed are cancelled
-abbrev pub rows_cancelled : List (ℕ × ChannelConfig) → Channels → List ChannelRow → List ChannelRow
-rows_cancelled [] held rows = rows
-rows_cancelled (channel ∷ rest) held rows =
-    rows_cancelled rest (cancelled_if (is_unconfirmed channel.0 held.rows) channel.0 held)
-    (row_cancelled_if (is_unconfirmed channel.0 held.rows) channel.0 rows)
-
--- an offer of this side is rolled back
-abbrev pub StanceRollsBack : Stance → PendingOffer → Result (Unit {0}) RtcError → Stance → Type 0
-StanceRollsBack s token (Ok done) t =
-    (s.counter ≡ raised token.id)
-    × (t ≡ record s {
-      counter = raised s.counter;
-      outstanding = false;
-      lines = all_restored token.undo s.lines;
-      channels = all_cancelled (new_channels token.changes) s.channels;
-      rows = rows_cancelled (new_channels token.changes) s.channels s.rows;
-    })
-StanceRollsBack s token (Err ChangesOutOfOrder) t = (s.counter ≢ raised token.id) × (t ≡ s)
-StanceRollsBack s token (Err (RemoteSdp why)) t = ⊥
-StanceRollsBack s token (Err (SdpRefused error)) t = ⊥
-StanceRollsBack s token (Err (Dtls error)) t = ⊥
-StanceRollsBack s token (Err (Sctp error)) t = ⊥
-StanceRollsBack s token (Err (Net cause)) t = ⊥
-StanceRollsBack s token (Err (MediaFailed cause)) t = ⊥
-StanceRollsBack s token (Err BadChannel) t = ⊥
-StanceRollsBack s token (Err Alloc) t = ⊥
-StanceRollsBack s token (Err Glare) t = ⊥

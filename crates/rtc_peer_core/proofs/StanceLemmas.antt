@@ -11,12 +11,11 @@ use Rattle.rtc_sdp_values.specs.declared.sdp.Sdp.{Sdp}
 use Rattle.rtc_part_ice.specs.IceMeaning.{IceSettings}
 use Rattle.rtc_sctp_values.specs.SnapHalves.{KeptHalves}
 use Rattle.rtc_channels.specs.Channels.{with_channel, all_confirmed}
-use Rattle.rtc_channels.specs.Holds.{all_cancelled}
 use Rattle.rtc_channels.specs.declared.channel_row.ChannelRow.{ChannelRow}
 use Rattle.rtc_change.specs.declared.change.Change.{Change}
 use Rattle.rtc_change.specs.declared.change.Change.TheVariants.{AddChannel}
-use Rattle.rtc_change.specs.PendingOffer.{PendingOffer, added_mids, new_channels}
-use Rattle.rtc_peer_rows.specs.RowChanges.{RowChange, all_restored}
+use Rattle.rtc_change.specs.PendingOffer.{PendingOffer, added_mids}
+use Rattle.rtc_peer_rows.specs.RowChanges.{RowChange}
 use Rattle.rtc_peer_core.specs.declared.peer.Peer.{Peer}
 use Rattle.rtc_peer_core.specs.declared.rtc_error.RtcError.{RtcError}
 use Rattle.rtc_peer_core.specs.declared.rtc_error.RtcError.TheVariants.{
@@ -38,15 +37,14 @@ use Rattle.rtc_peer_core.specs.SdpHalves.{offered_snap, draws_half}
 use Rattle.rtc_peer_core.specs.ChannelRows.{channel_rows}
 use Rattle.rtc_peer_core.specs.Meanings.{Meanings, PartsLaws}
 use Rattle.rtc_peer_core.specs.Names.{is_held}
-use Rattle.rtc_peer_core.specs.RollingBack.{RollsBack}
 use Rattle.rtc_peer_core.specs.Stance.{Stance, stance_of}
 use Rattle.rtc_peer_core.proofs.BuiltPeers.{drawn_creds_words}
-use Rattle.rtc_peer_core.proofs.ChannelRowLemmas.{added_rows, confirmed_rows, cancelled_rows, kept_rows}
+use Rattle.rtc_peer_core.proofs.ChannelRowLemmas.{added_rows, confirmed_rows, kept_rows}
 use Rattle.rtc_peer_core.proofs.DrawnMids.{free_mid_token}
 use Rattle.rtc_peer_core.proofs.FormedNames.{staged_media_formed}
 use Rattle.rtc_peer_core.proofs.HalfLemmas.{drawn_read_back}
 use Rattle.rtc_peer_core.proofs.PartMovesLemmas.{control_settings}
-use Rattle.rtc_peer_core.proofs.StanceCalls.{StanceAddsMedia, StanceChangesLine, StanceAddsChannel, StanceStagesRestart, StanceApplies, StanceRollsBack}
+use Rattle.rtc_peer_core.proofs.StanceCalls.{StanceAddsMedia, StanceChangesLine, StanceAddsChannel, StanceStagesRestart, StanceApplies}
 use Rattle.rtc_peer_core.proofs.StanceCalls.{IsAppFor, stance_alone}
 
 -- ---- what is staged
@@ -180,26 +178,3 @@ applies_stands m laws p (Ok (Some made)) q h = record {
       (kept_rows m.association p.sctp (offered_snap (stance_of m p) (half_drawn m p)) p.channels) refl refl refl;
 }
 applies_stands m laws p (Err error) q h = lacks_stands m (draws_half (stance_of m p)) p q h
-
--- ---- what is rolled back
-
-pub rolls_back_stands : {I D S M E X T W N : Type 0} (m : Meanings I D S M E X T W N) → PartsLaws m → (p : Peer I D S M N)
-    (token : PendingOffer) (result : Result (Unit {0}) RtcError) (q : Peer I D S M N) → RollsBack p token result q
-    → StanceRollsBack (stance_of m p) token result (stance_of m q)
-rolls_back_stands m laws p token (Ok done) q h = (h.0, ap (stance_of m) h.1 ∙ ap (λ (rows : List ChannelRow). record (stance_of m p) {
-  counter = raised p.counter;
-  outstanding = false;
-  lines = all_restored token.undo p.lines;
-  channels = all_cancelled (new_channels token.changes) p.channels;
-  rows = rows;
-}) (cancelled_rows m.association p.sctp (new_channels token.changes) p.channels))
-rolls_back_stands m laws p token (Err ChangesOutOfOrder) q h = (h.0, ap (stance_of m) h.1)
-rolls_back_stands m laws p token (Err (RemoteSdp why)) q h = absurd h
-rolls_back_stands m laws p token (Err (SdpRefused error)) q h = absurd h
-rolls_back_stands m laws p token (Err (Dtls error)) q h = absurd h
-rolls_back_stands m laws p token (Err (Sctp error)) q h = absurd h
-rolls_back_stands m laws p token (Err (Net cause)) q h = absurd h
-rolls_back_stands m laws p token (Err (MediaFailed cause)) q h = absurd h
-rolls_back_stands m laws p token (Err BadChannel) q h = absurd h
-rolls_back_stands m laws p token (Err Alloc) q h = absurd h
-rolls_back_stands m laws p token (Err Glare) q h = absurd h

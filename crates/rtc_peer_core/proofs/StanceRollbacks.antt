@@ -102,7 +102,15 @@ pub rolled_back_formed : (s : Stance) (token : PendingOffer) (r : Result (Unit {
     → IsFormed s → IsFormed t
 rolled_back_formed s token (Ok done) t h formed = rw h.1 (rolled_formed s token formed)
 rolled_back_formed s token (Err ChangesOutOfOrder) t h formed = rw h.1 formed
-rolled_back_formed s token (Err error) t h formed = absurd h
+rolled_back_formed s token (Err (RemoteSdp why)) t h formed = absurd h
+rolled_back_formed s token (Err (SdpRefused error)) t h formed = absurd h
+rolled_back_formed s token (Err (Dtls error)) t h formed = absurd h
+rolled_back_formed s token (Err (Sctp error)) t h formed = absurd h
+rolled_back_formed s token (Err (Net cause)) t h formed = absurd h
+rolled_back_formed s token (Err (MediaFailed cause)) t h formed = absurd h
+rolled_back_formed s token (Err BadChannel) t h formed = absurd h
+rolled_back_formed s token (Err Alloc) t h formed = absurd h
+rolled_back_formed s token (Err Glare) t h formed = absurd h
 
 -- ---- peers
 
@@ -143,4 +151,12 @@ module _ {I D S M E X T W N : Type 0} (m : Meanings I D S M E X T W N) where
         (all_cancelled_rows p.sctp (new_channels token.changes) p.channels),
   )
   rolls_back_stands p token (Err ChangesOutOfOrder) q h = (h.0, ap (stance_of m) h.1)
-  rolls_back_stands p token (Err error) q h = absurd h
+  rolls_back_stands p token (Err (RemoteSdp why)) q h = absurd h
+  rolls_back_stands p token (Err (SdpRefused error)) q h = absurd h
+  rolls_back_stands p token (Err (Dtls error)) q h = absurd h
+  rolls_back_stands p token (Err (Sctp error)) q h = absurd h
+  rolls_back_stands p token (Err (Net cause)) q h = absurd h
+  rolls_back_stands p token (Err (MediaFailed cause)) q h = absurd h
+  rolls_back_stands p token (Err BadChannel) q h = absurd h
+  rolls_back_stands p token (Err Alloc) q h = absurd h
+  rolls_back_stands p token (Err Glare) q h = absurd h
