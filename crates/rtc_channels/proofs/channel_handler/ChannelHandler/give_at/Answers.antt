@@ -1,4 +1,4 @@
-use Rattle.std.proofs.Common.{◌∙◌, ap, arith, length, ℕ, List, Option, Some, None, cond, ◌==◌}
+use Rattle.std.proofs.Common.{◌∙◌, ap, arith, length, ℕ, List, Option, Some, None, cond, ◌==◌, false}
 use Rattle.std.proofs.lemmas.Grind.{common_steps}
 use Rattle.rtc_channels.specs.Channels.{Channels}
 use Rattle.std.specs.Prelude.{slice_get}

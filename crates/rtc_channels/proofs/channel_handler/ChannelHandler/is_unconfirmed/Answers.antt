@@ -1,4 +1,4 @@
-use Rattle.std.proofs.Common.{◌∙◌, ◌+◌, sym, ap, arith, ℕ, List, Option, Some}
+use Rattle.std.proofs.Common.{◌∙◌, sym, ap, arith, ℕ, List, Option, Some}
 use Rattle.std.proofs.lemmas.Grind.{common_steps}
 use Rattle.rtc_channels.specs.Channels.{Channels}
 use Rattle.rtc_channels.specs.Holds.{is_unconfirmed}

@@ -1,4 +1,4 @@
-use Rattle.std.proofs.Common.{◌∙◌, ◌+◌, sym, ap, arith, drop, ℕ, Option, None}
+use Rattle.std.proofs.Common.{◌∙◌, ◌+◌, sym, ap, arith, drop, ℕ, Option, None, false}
 use Rattle.std.proofs.lemmas.Grind.{common_steps}
 use Rattle.rtc_channels.specs.Channels.{Channels}
 use Rattle.rtc_channels.proofs.GivingLemmas.{place_within}

@@ -1,4 +1,4 @@
-use Rattle.std.proofs.Common.{◌∙◌, sym, arith, None}
+use Rattle.std.proofs.Common.{◌∙◌, sym, arith, None, false}
 use Rattle.std.proofs.lemmas.Grind.{common_steps}
 use Rattle.rtc_channels.proofs.GivingLemmas.{place_within, seek_has, seek_bare}
 use Rattle.rtc_channels.proofs.channel_handler.ChannelHandler.seek.Goals as goal
