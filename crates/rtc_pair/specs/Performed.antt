@@ -8,8 +8,6 @@ use Rattle.rtc_run_history.specs.declared.side.Side.TheVariants.{Left, Right}
 use Rattle.rtc_run_history.specs.declared.reply.Reply.{Reply}
 use Rattle.rtc_run_history.specs.declared.step.Step.{Step}
 use Rattle.rtc_run_history.specs.Memory.{lacks_memory, tell_fault}
-use Rattle.rtc_run_history.specs.Crossed.{CrossedOffersMeet}
-use Rattle.rtc_run_history.specs.Drains.{AreUndriven}
 use Rattle.rtc_run_history.specs.DrawnInRuns.{AllPlain, DrawsUnused}
 use Rattle.rtc_run_history.specs.Fresh.{ArePeersFormed}
 use Rattle.rtc_run_history.specs.Native.{are_native}
@@ -48,10 +46,9 @@ IsPairOf alloc script pair =
 
 -- A script was run on the program's pair, which is formed, with these replies, which left this pair, and each description that was made is
 -- read back, as it was written where each source was unused when it was drawn. No reply tells that a part failed: those in memory never
--- do. Where no step brings in a text or bytes of anybody, channels hand out what the other side sent, and of those that were opened in-band
--- each is announced at most once; where the run leaves the pair settled, one that is open at a side, over a stream that both keep, is open
--- at both, and was announced at both. Offers that cross between a polite and an impolite side meet, and each drain ends within the weight
--- of its peer.
+-- do. Where no step brings in a text or bytes of anybody, and none rolls an offer back, channels hand out what the other side sent, and of
+-- those that were opened in-band each is announced at most once; where the run leaves the pair settled, one that is open at a side, over a
+-- stream that both keep, is open at both, and was announced at both.
 pub record RanScript (alloc : Global) (script : Script) (replies : List (Reply PlainMediaEvent)) (pair : PlainPairState) : Type 0 where
   pub start : PlainPairState
   pub program : IsPairOf alloc script start
@@ -62,8 +59,6 @@ pub record RanScript (alloc : Global) (script : Script) (replies : List (Reply P
   pub no_fault : tell_fault replies ≡ false
   pub channels : are_native script.steps ≡ true → HandsOut counting is_ice_message start script.steps replies pair runs
   pub settles : are_native script.steps ≡ true → SettlesOpen counting is_ice_message start script.steps replies pair runs
-  pub crossed : CrossedOffersMeet plain_parts is_ice_message start
-  pub undriven : AreUndriven plain_parts start
 
 -- This text is the report of a run of a script.
 pub record IsReport (alloc : Global) (script : Script) (text : List ℕ) : Type 0 where

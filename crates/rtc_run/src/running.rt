@@ -1,6 +1,5 @@
 //! Runs of pairs.
 ghost use Rattle.std.specs.Prelude.{◌≡◌, ◌+◌, ◌<◌, ◌≤◌, ◌^◌, ◌-◌, [], length, IfOk, OnErr, vec_capacity};
-ghost use Rattle.rtc_run_history.specs.Crossed.{CrossedOffersMeet};
 ghost use Rattle.rtc_run_history.specs.DrawnInRuns.{AllPlain, DrawsUnused, HaveNoLines};
 ghost use Rattle.rtc_run_history.specs.Sizes.{steps_size};
 ghost use Rattle.rtc_run_history.specs.Fresh.{ArePeersFormed, IsFresh};
@@ -35,8 +34,6 @@ pub fn run_pair<I: IceAgent, D: DtlsInstance, S: Association, M: MediaSession, N
         pair.old steps.now replies pair.new)
         → DrawsUnused (meanings I.ice D.dtls S.association M.media N.ids) I.stun pair.old steps.now replies pair.new run
         → AllPlain pair.new.sdps) }
-    ensures crossed { ArePeersFormed (meanings I.ice D.dtls S.association M.media N.ids) pair.old
-        → CrossedOffersMeet (meanings I.ice D.dtls S.association M.media N.ids) I.stun pair.old }
     ensures untouched { OnErr result (pair.new ≡ pair.old) }
 {
     let mut replies = Vec::with_capacity(alloc, steps.len())?;
