@@ -11,8 +11,10 @@ use Rattle.std.proofs.lemmas.List.Folds.{list_any-append}
 use Rattle.std.proofs.lemmas.Map.Text.{is_eq-slice_cmp}
 use Rattle.std.proofs.lemmas.Slice.Eq.{bytes_eq-Decides}
 use Rattle.rtc_sdp_values.specs.Mids.{is_among, AreDistinct}
+use Rattle.rtc_sdp_values.specs.declared.direction.Direction.{Direction}
 use Rattle.rtc_sdp_values.specs.declared.line_row.LineRow.{LineRow}
 use Rattle.rtc_sdp_values.specs.declared.line_row.LineRow.TheVariants.{Media, App}
+use Rattle.rtc_sdp_values.specs.declared.media_kind.MediaKind.{MediaKind}
 use Rattle.rtc_peer_core.specs.Calls.{noted_of}
 use Rattle.rtc_peer_core.specs.Undo.{RowBefore, undo_mids, has_undo, has_undo_of, noted, without_last}
 use Rattle.rtc_peer_core.specs.UndoIndex.{IsNoted}
@@ -144,3 +146,8 @@ forgotten_again (Some row) undo new = forgotten_row row undo new
 pub noted_before : (row : Option LineRow) (undo : List RowBefore) → not (has_undo_of row undo) ≡ false → noted_of row undo ≡ undo
 noted_before None undo old = refl
 noted_before (Some row) undo old = kept_row row undo old
+
+-- a row that is among them is noted already
+pub noted_already : (row : LineRow) (undo : List RowBefore) (place : ℕ) (mid : List ℕ) (kind : MediaKind) (dir : Direction) (stopped remote_created : Bool)
+    → row ≡ Media place mid kind dir stopped remote_created → is_among (undo_mids undo) mid ≡ true → undo ≡ noted row undo
+noted_already row undo place mid kind dir stopped remote_created is among = rw (is, among) refl

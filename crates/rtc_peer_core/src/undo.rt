@@ -1,5 +1,9 @@
 //! Rows that are set or stopped, as they were before.
-ghost use Rattle.std.specs.Prelude.{◌≡◌, ◌++◌, ◌∷◌, [], true, false, not, IfOk, OnOk, OnErr};
+ghost use Rattle.std.specs.Prelude.{◌≡◌, ◌++◌, ◌∷◌, [], true, false, cond, not, List, ℕ, IfOk, OnOk, OnErr};
+ghost use Rattle.std.specs.BTreeMap.{is_at};
+ghost use Rattle.std.specs.BTreeSet.{contains};
+ghost use Rattle.std.specs.Cmp.Lexicographic.{slice_cmp};
+ghost use Rattle.std.specs.Ordering.{nat_cmp};
 ghost use Rattle.rtc_sdp_values.specs.Mids.{is_among};
 ghost use Rattle.rtc_peer_core.specs.Undo.{has_undo, noted, undo_mids, without_last};
 
@@ -40,6 +44,14 @@ impl Drop for Undo {
             mids: _mids,
         } = self;
     }
+}
+
+// Removes a mid, if it is there.
+fn forget_mid(mids: &mut BTreeSet<Mid>, mid: Mid)
+    ensures { (other : List ℕ) → contains (slice_cmp nat_cmp) mids.new other
+        ≡ cond (is_at (slice_cmp nat_cmp mid) other) false (contains (slice_cmp nat_cmp) mids.old other) }
+{
+    mids.remove(&mid);
 }
 
 impl Undo {
@@ -110,8 +122,8 @@ impl Undo {
     pub fn forget_last(&mut self)
         ensures { self.new ≡ without_last self.old }
     {
-        if let Some((mid, _, _)) = self.rows.pop() {
-            self.mids.remove(&mid);
+        if let Some(was) = self.rows.pop() {
+            forget_mid(&mut self.mids, was.0);
         }
     }
 }
