@@ -2,7 +2,6 @@
 -- and the peer after.
 use Rattle.std.specs.Prelude.{
   ◌≡◌,
-  ◌≢◌,
   ◌+◌,
   ◌%◌,
   ◌^◌,
