@@ -5,7 +5,6 @@ pub mod StreamStages
 pub mod MediaStages
 pub mod SendStages
 pub mod Walk
-pub mod Weight
 pub mod Inputs
 pub mod Kept
 pub mod Numbers
