@@ -98,7 +98,7 @@ length_without id (channel ∷ rest) = by (has_id id channel) (length_without id
     by true few = omega arith
     by false few = omega (arith, few)
 
-unconfirmed_without : (n id : ℕ) (rows : List Channel) → AreUnconfirmed n rows → AreUnconfirmed n (channels_without id rows)
+pub unconfirmed_without : (n id : ℕ) (rows : List Channel) → AreUnconfirmed n rows → AreUnconfirmed n (channels_without id rows)
 unconfirmed_without n id [] none = tt
 unconfirmed_without n id (channel ∷ rest) none = by (has_id id channel) (unconfirmed_without n id rest none.1)
   where
@@ -248,7 +248,7 @@ below_opened_by stream held below =
     below_one_more (held.given + 1) held.rows (opened_by_other held.given stream)
     (below_more held.given (held.given + 1) held.rows below (omega arith)) (omega arith)
 
-unconfirmed_more : (n : ℕ) (rows : List Channel) (channel : Channel) → channel.confirmed ≡ false → AreUnconfirmed n rows
+pub unconfirmed_more : (n : ℕ) (rows : List Channel) (channel : Channel) → channel.confirmed ≡ false → AreUnconfirmed n rows
     → AreUnconfirmed n (rows ++ channel ∷ [])
 unconfirmed_more n [] channel fresh none = (λ here. fresh, tt)
 unconfirmed_more n (first ∷ rows) channel fresh none = (none.0, unconfirmed_more n rows channel fresh none.1)

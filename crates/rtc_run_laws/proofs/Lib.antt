@@ -1,4 +1,5 @@
 pub mod NumberedChannels
+pub mod CancelledRows
 pub mod StanceSteps
 pub mod StandingPolls
 pub mod StandingChannels
@@ -22,11 +23,16 @@ pub mod PushedLists
 pub mod Tells
 pub mod Entries
 pub mod TokenEntries
+pub mod RolledTokens
 pub mod Around
 pub mod UnreadSdps
 pub mod Rests
+pub mod RestReplies
 pub mod OfferSteps
+pub mod OfferTells
 pub mod AnswerSteps
+pub mod AnswerTells
+pub mod RollbackSteps
 pub mod OfferApps
 pub mod NegotiateSteps
 pub mod SaidSdps

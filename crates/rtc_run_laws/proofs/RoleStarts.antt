@@ -33,7 +33,7 @@ use Rattle.rtc_peer_polling.proofs.StreamStarts.{started_same}
 use Rattle.rtc_run_history.specs.declared.side.Side.{Side}
 use Rattle.rtc_run_history.specs.Past.{Entry}
 use Rattle.rtc_run_history.specs.Sides.{side_of, other_side}
-use Rattle.rtc_run_history.specs.PairState.{PairState, rtc_at, peer_at}
+use Rattle.rtc_run_history.specs.PairState.{addr_at, PairState, rtc_at, peer_at}
 use Rattle.rtc_run_history.specs.Performs.{Enters}
 use Rattle.rtc_run_history.proofs.BothSides.{both_sides}
 use Rattle.rtc_run_laws.proofs.StepKinds.{PeerKind, KeptCore, StagedOps, TookOffer, TookAnswer, StepKind, Stayed, MovedBy, Described, acts_kind}
@@ -175,6 +175,6 @@ module _ {I D S M E X T W N : Type 0} (m : Meanings I D S M E X T W N) (laws : P
   enters_role stun old entry new enters =
       both_sides (λ at. KeepsRole (peer_at at old) (peer_at at new)) (side_of entry.step)
       (step_role (rtc_at (side_of entry.step) old) (rtc_at (side_of entry.step) new)
-      (acts_kind m laws stun entry.step (rtc_at (side_of entry.step) old) old.sdps old.packets entry.outcome entry.table (rtc_at (side_of entry.step) new)
+      (acts_kind m laws stun (addr_at (other_side (side_of entry.step)) old) (addr_at (side_of entry.step) old) entry.step (rtc_at (side_of entry.step) old) old.sdps old.packets entry.outcome entry.table (rtc_at (side_of entry.step) new)
       new.sdps new.packets enters.performs.acts))
       (step_role (rtc_at (other_side (side_of entry.step)) old) (rtc_at (other_side (side_of entry.step)) new) (Stayed enters.performs.other))
