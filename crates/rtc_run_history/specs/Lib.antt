@@ -11,7 +11,6 @@ pub mod Finished
 pub mod SaidRows
 pub mod Rounds
 pub mod Undone
-pub mod Taken
 pub mod Replies
 pub mod Sound
 pub mod CourseRows
@@ -22,9 +21,7 @@ pub mod PairState
 pub mod CallReplies
 pub mod StepAcceptances
 pub mod Performs
-pub mod Drains
 pub mod SoundParts
 pub mod Runs
 pub mod Fresh
-pub mod Crossed
 pub mod DrawnInRuns

@@ -27,7 +27,7 @@ module _ {I D S M E X T W N : Type 0} (m : Meanings I D S M E X T W N) (stun : L
   EntersSoundly start earlier between entry after =
       Enters m stun between entry after
       × IsSoundEntry (stances_of m start) earlier (stances_of m between) entry (stances_of m after)
-      × IsSoundOfParts m start between entry after
+      × IsSoundOfParts m between entry after
 
   -- A run by these steps, with these replies.
   pub record Runs (start : PairState I D S M N) (steps : List Step) (replies : List (Reply E)) (pair : PairState I D S M N) : Type 0 where

@@ -12,7 +12,6 @@ use Rattle.rtc_run_history.specs.declared.outcome.Outcome.{Outcome}
 use Rattle.rtc_run_history.specs.declared.outcome.Outcome.TheVariants.{Negotiated, Answered, Finished, Done, Wrote, Polled, Refused}
 use Rattle.rtc_run_history.specs.declared.outcome.Outcome.TheVariants.{NoSuch, Alloc}
 use Rattle.rtc_run_history.specs.Memory.{CountedPart, DtlsPart, AssociationPart, MediaPart, tells_fault_of}
-use Rattle.rtc_run_history.specs.Drains.{AreUndriven, DrainsWithinWeight}
 use Rattle.rtc_run_history.specs.Past.{Entry}
 use Rattle.rtc_run_history.specs.PairState.{PairState, peer_at}
 use Rattle.rtc_run_history.specs.Sides.{side_of}
@@ -61,11 +60,9 @@ module _ {I D S M E X T W N : Type 0} (m : Meanings I D S M E X T W N) where
   CountsFault part at before after = Rose (faults_at part at before) (faults_at part at after)
 
   -- No count of faults falls, and a reply tells a fault only where that part of the acting side failed in this step. A side that
-  -- refuses an offer, an answer or a token, for whatever cause, leaves the lines of its media part, and the sources that are in use. Where
-  -- no threshold was set and no handshake had begun at the start of the run, a drain ends within the weight of its peer.
-  pub record IsSoundOfParts (start between : PairState I D S M N) (entry : Entry E) (after : PairState I D S M N) : Type 0 where
+  -- refuses an offer, an answer or a token, for whatever cause, leaves the lines of its media part, and the sources that are in use.
+  pub record IsSoundOfParts (between : PairState I D S M N) (entry : Entry E) (after : PairState I D S M N) : Type 0 where
     pub later : (part : CountedPart) (at : Side) → faults_at part at between ≤ faults_at part at after
     pub fault : (part : CountedPart) → tells_fault_of entry.outcome part ≡ true → CountsFault part (side_of entry.step) between after
     pub media : refuses_sdp entry.step entry.outcome ≡ true
         → SameLines m.media (peer_at (side_of entry.step) between).media (peer_at (side_of entry.step) after).media
-    pub drains : AreUndriven m start → DrainsWithinWeight m between entry.step entry.outcome
