@@ -13,12 +13,15 @@ pub mod Bounds
 pub mod OpRows
 pub mod AddedRows
 pub mod PlacedRows
+pub mod UndoneRows
+pub mod NotedOps
 pub mod StagedApps
 pub mod StagedChanges
 pub mod StagedOps
 pub mod StagedChannelOps
 pub mod Staging
 pub mod AnsweredOps
+pub mod StagedNumbers
 pub mod PushedLists
 pub mod Tells
 pub mod Entries
