@@ -78,6 +78,7 @@ pub mod OrderlySounds
 pub mod StanceRuns
 pub mod CarriedLines
 pub mod TakenLines
+pub mod ReadTaken
 pub mod ChunkTexts
 pub mod RowLines
 pub mod PlainSdps

@@ -1,5 +1,5 @@
 -- Payload rows that are read have numbers of seven bits, and none stands twice.
-use Rattle.std.proofs.Common.{◌≡◌, ◌≢◌, ◌≤◌, ◌⊎◌, ◌∙◌, ℕ, Bool, true, false, not, ◌||◌, cond, eqb, List, [], ◌∷◌, ◌++◌, map, Option, Some, None, refl, sym, ap, inl, inr, arith}
+use Rattle.std.proofs.Common.{◌≡◌, ◌≢◌, ◌≤◌, ◌⊎◌, ◌∙◌, ℕ, Bool, true, false, not, ◌||◌, cond, eqb, List, [], ◌∷◌, ◌++◌, map, Option, Some, None, refl, sym, ap, inl, inr}
 use Rattle.std.specs.Prelude.{IfSome, option_map}
 use Rattle.std.specs.List.{AllByRecursion, filter_map, cons_option}
 use Rattle.std.specs.Option.{option_or}
@@ -29,7 +29,6 @@ use Rattle.rtc_sdp_reader.specs.Payloads.{
   is_primary,
   row_made,
   payload_row_of,
-  rows_of,
   payload_rows,
 }
 use Rattle.rtc_sdp_reader.specs.PlainPayloads.{optional_number, itself, row_formats, formats_of, IsPlainPayload, IsPayloadType, AreApart}

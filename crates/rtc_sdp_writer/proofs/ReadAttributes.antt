@@ -1,18 +1,16 @@
 -- What attributes and items of a text say.
-use Rattle.std.proofs.Common.{◌≡◌, ◌≤◌, ℕ, Bool, true, false, ◌&&◌, cond, eqb, List, [], ◌∷◌, map, Option, Some, None, refl}
+use Rattle.std.proofs.Common.{◌≡◌, ◌≤◌, ℕ, Bool, true, false, ◌&&◌, cond, eqb, List, [], ◌∷◌, map, Option, Some, None}
 use Rattle.std.specs.Prelude.{codes, IfSome, option_map}
-use Rattle.std.specs.List.{AllByRecursion, filter_map, cons_option, list_all}
-use Rattle.std.specs.Option.{option_or}
+use Rattle.std.specs.List.{AllByRecursion, filter_map, list_all}
 use Rattle.std.specs.Str.{bytes_eq}
 use Rattle.rtc_wire_text.specs.Cuts.{cut, Lacks}
 use Rattle.rtc_wire_text.specs.Fields.{each, first}
 use Rattle.rtc_wire_text.specs.Lines.{lines}
 use Rattle.rtc_wire_text.specs.Numbers.{number, number_up_to}
-use Rattle.rtc_wire_text.specs.Once.{each_once, IsApart}
+use Rattle.rtc_wire_text.specs.Once.{IsApart}
 use Rattle.rtc_wire_text.specs.Tokens.{is_token, is_short_token}
 use Rattle.rtc_wire_text.specs.Words.{words}
 use Rattle.rtc_sdp_values.specs.declared.direction.Direction.TheVariants.{SendRecv, SendOnly, RecvOnly, Inactive}
-use Rattle.rtc_sdp_values.specs.declared.extension.Extension.{Extension}
 use Rattle.rtc_sdp_values.specs.declared.line_kind.LineKind.{LineKind}
 use Rattle.rtc_sdp_values.specs.declared.line_kind.LineKind.TheVariants.{Audio, Video, Application, Unknown}
 use Rattle.rtc_sdp_attributes.specs.AttributeForms.{
@@ -29,8 +27,6 @@ use Rattle.rtc_sdp_attributes.specs.AttributeForms.{
   source_pair_form,
 }
 use Rattle.rtc_sdp_attributes.specs.Forms.{Form, is_filled, short_token, spaceless, word_up_to, one_of, saying, valued, bare}
-use Rattle.rtc_sdp_attributes.specs.declared.rid_line.RidLine.{RidLine}
-use Rattle.rtc_sdp_attributes.specs.declared.simulcast_line.SimulcastLine.{SimulcastLine}
 use Rattle.rtc_sdp_grammar.specs.declared.attribute.Attribute.{Attribute}
 use Rattle.rtc_sdp_grammar.specs.declared.attribute.Attribute.TheVariants.{
   MidLine,
@@ -64,8 +60,6 @@ use Rattle.rtc_sdp_grammar.specs.MediaForm.{
   with_numbers,
   media_of,
   is_channel_protocol,
-  application_of,
-  unknown_of,
   of_kind,
   at_port,
   media_words,

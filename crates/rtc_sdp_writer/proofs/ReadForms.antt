@@ -1,6 +1,6 @@
 -- What forms give.
-use Rattle.std.proofs.Common.{◌≡◌, ◌≢◌, ◌≤◌, ◌<◌, ℕ, Bool, true, false, not, cond, eqb, List, [], ◌∷◌, ◌++◌, Option, Some, None, refl, sym, inl, inr}
-use Rattle.std.specs.Prelude.{filter, option_map, IfSome, is_none, nat_lt, nat_le}
+use Rattle.std.proofs.Common.{◌≡◌, ◌≢◌, ◌≤◌, ◌<◌, ℕ, Bool, true, false, not, cond, List, [], ◌∷◌, ◌++◌, Option, Some, None, refl, inl, inr}
+use Rattle.std.specs.Prelude.{filter, option_map, IfSome, is_none}
 use Rattle.std.specs.List.{AllByRecursion}
 use Rattle.std.specs.Str.{bytes_eq}
 use Rattle.std.proofs.lemmas.Bool.Decides.{eqb_tells, leb_tells}
@@ -12,12 +12,9 @@ use Rattle.rtc_wire_text.specs.Once.{each_once, IsApart}
 use Rattle.rtc_wire_text.specs.Tokens.{is_short_token}
 use Rattle.rtc_wire_text.specs.Words.{parts, words}
 use Rattle.rtc_sdp_values.specs.Extension.{of_uri}
-use Rattle.rtc_sdp_values.specs.declared.direction.Direction.{Direction}
 use Rattle.rtc_sdp_values.specs.declared.direction.Direction.TheVariants.{SendRecv}
-use Rattle.rtc_sdp_values.specs.declared.extension.Extension.{Extension}
 use Rattle.rtc_sdp_attributes.specs.declared.rid_direction.RidDirection.{RidDirection}
 use Rattle.rtc_sdp_attributes.specs.declared.rid_direction.RidDirection.TheVariants.{Send, Recv}
-use Rattle.rtc_sdp_attributes.specs.declared.rid_line.RidLine.{RidLine}
 use Rattle.rtc_sdp_attributes.specs.declared.simulcast_line.SimulcastLine.{SimulcastLine}
 use Rattle.rtc_sdp_attributes.specs.AttributeForms.{
   direction_words,
@@ -45,19 +42,17 @@ use Rattle.rtc_sdp_attributes.specs.Forms.{
   one_of,
   above_zero,
   positive_up_to,
-  saying,
   fields_together,
   halves_together,
   split_fields,
   with_default,
   tailed,
   front_of,
-  up_to,
   each_part,
 }
-use Rattle.rtc_sdp_attributes.specs.PlainValues.{IsPlainPair, IsPlainList, is_listed}
+use Rattle.rtc_sdp_attributes.specs.PlainValues.{IsPlainList, is_listed}
 use Rattle.rtc_sdp_writer.specs.Plain.{IsPlainExtension, IsPairOfLine}
-use Rattle.rtc_sdp_writer.proofs.Lacking.{Halves, CutLacks, cut_lacks, parts_keep, parts_lack, both_all, IsFilled, parts_filled}
+use Rattle.rtc_sdp_writer.proofs.Lacking.{CutLacks, cut_lacks, parts_keep, parts_lack, both_all, IsFilled, parts_filled}
 
 -- a form gives nothing else than such values, of texts without a line feed
 abbrev pub Gives : {A : Type 0} → Form A → (A → Type 0) → Type 0

@@ -1,13 +1,12 @@
 -- Each line of a text that is read is one that can be written.
-use Rattle.std.proofs.Common.{◌≡◌, ℕ, Bool, true, false, cond, List, [], ◌∷◌, map, Option, Some, None, Ok, refl, ap, subst}
-use Rattle.std.specs.Prelude.{IfSome, option_map}
+use Rattle.std.proofs.Common.{◌≡◌, ℕ, Bool, true, false, cond, List, [], ◌∷◌, Option, Some, None, Ok, refl, ap, subst}
+use Rattle.std.specs.Prelude.{IfSome}
 use Rattle.std.specs.List.{AllByRecursion, filter_map, cons_option}
 use Rattle.rtc_wire_text.specs.Fields.{first}
 use Rattle.rtc_wire_text.specs.Tokens.{is_short_token}
 use Rattle.rtc_sdp_values.specs.declared.media_line.MediaLine.{MediaLine}
 use Rattle.rtc_sdp_values.specs.declared.sdp.Sdp.{Sdp}
 use Rattle.rtc_sdp_attributes.specs.AttributeTexts.{rids_in}
-use Rattle.rtc_sdp_attributes.specs.PlainValues.{IsPlainList}
 use Rattle.rtc_sdp_attributes.specs.declared.rid_direction.RidDirection.{RidDirection}
 use Rattle.rtc_sdp_attributes.specs.declared.rid_direction.RidDirection.TheVariants.{Send, Recv}
 use Rattle.rtc_sdp_attributes.specs.declared.rid_line.RidLine.{RidLine}
