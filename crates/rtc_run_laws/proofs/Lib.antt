@@ -36,6 +36,11 @@ pub mod OfferTells
 pub mod AnswerSteps
 pub mod AnswerTells
 pub mod RollbackSteps
+pub mod KeptTexts
+pub mod Outstands
+pub mod OutstandingSteps
+pub mod NegotiationOut
+pub mod UndoneSteps
 pub mod OfferApps
 pub mod NegotiateSteps
 pub mod SaidSdps
@@ -92,6 +97,7 @@ pub mod PlainRuns
 pub mod ReadFacts
 mod StartFacts
 pub mod Reaches
+pub mod OutstandingRuns
 pub mod CountedFaults
 pub mod StreamFaults
 pub mod MediaFaults
