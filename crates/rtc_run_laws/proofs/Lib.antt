@@ -51,6 +51,7 @@ pub mod FinishedRows
 pub mod AnswerCounts
 pub mod SoundPasts
 pub mod SeenSides
+pub mod SeenTexts
 pub mod SeenSteps
 pub mod PastTables
 pub mod PastOffers
