@@ -74,6 +74,7 @@ pub mod OrderlyOps
 pub mod OrderlyPasts
 pub mod KeptApps
 pub mod StartHalves
+pub mod RestoredApps
 pub mod StartedSides
 pub mod SideRounds
 pub mod SideRoundSteps
