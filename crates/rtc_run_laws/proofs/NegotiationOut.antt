@@ -114,10 +114,10 @@ offer_undoes past at ops apply answers k table made s p q token leaves rows fres
     record {
       numbers = numbers ∙ (rw here refl);
       rows = λ now like.
-      ap (λ undoes. all_restored undoes now) undo
-      ∙ leaves.noting.undone now (alike_on s.lines q.lines now (subst (λ (l : List LineRow). AreAlike s.lines l) (sym lines) leaves.noting.alike) like)
-      ∙ ap (λ (earlier : List LineRow). rows_undone (places_changed ops answers) 0 earlier now) rows
-      ∙ (rw here refl);
+          ap (λ undoes. all_restored undoes now) undo
+          ∙ leaves.noting.undone now (alike_on s.lines q.lines now (subst (λ (l : List LineRow). AreAlike s.lines l) (sym lines) leaves.noting.alike) like)
+          ∙ ap (λ (earlier : List LineRow). rows_undone (places_changed ops answers) 0 earlier now) rows
+          ∙ (rw here refl);
       unconfirmed = subst (λ held. AreCancellable (new_channels token.changes) held.rows) (sym channels)
           (all_numbered (new_channels token.changes) p.channels.rows
           (subst (λ (numbers : List ℕ). AllByRecursion (λ id. AreUnconfirmed id p.channels.rows) numbers) (sym numbers) fresh));

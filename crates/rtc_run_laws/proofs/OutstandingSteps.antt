@@ -162,7 +162,7 @@ found_own at kept kept' t token is changed own = elim (spent_places at kept kept
       let e : Some h.1.0 ≡ Some own.sdp = sym h.1.1 ∙ own.there in
       let same : h.1.0 ≡ own.sdp = cc in
       record { sdp = bare h.1.0; there = h.1.2; offer = ap (λ (one : Kept). one.offer) same ∙ own.offer; own = ap (λ (one : Kept). one.at) same ∙ own.own }
-    )
+      )
 ]
 
 gone_now : (at : Side) (kept kept' : List Kept) (t : ℕ) (token : PendingOffer) → held_token kept at t ≡ Some token → kept' ≡ spent t kept → held_token kept' at t ≡ None

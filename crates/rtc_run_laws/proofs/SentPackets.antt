@@ -192,7 +192,6 @@ module _ {I D S M E X T W N : Type 0} (m : Meanings I D S M E X T W N) where
   step_packets stun old (CloseChannel at channel) outcome table new performs =
       same_packets old.packets new.packets _ (close_channel_quiet at (open_stream_under channel (rtc_at at old)) channel (rtc_at at old) outcome table (rtc_at at new) performs.acts.0) performs.acts.2
   step_packets stun old (Close at) outcome table new performs = same_packets old.packets new.packets _ (calls_quiet at (ClosesPeer m) (rtc_at at old) outcome table (rtc_at at new) performs.acts.0) performs.acts.2
-
   step_packets stun old (Rollback at t) outcome table new performs =
       same_packets old.packets new.packets _ (rollback_quiet at t (held_token old.sdps at t) _ old.sdps outcome table _ new.sdps performs.acts.0) performs.acts.1.packets_kept
   step_packets stun old (ForeignOffer at text) outcome table new performs =

@@ -89,9 +89,9 @@ adds_one p r q config id answers staged channels number rest =
       numbers = rest.numbers ∙ ap (λ (l : List ℕ). l ++ numbers_answered answers) staged ∙ append_assoc (staged_numbers p.staged) (id ∷ []) (numbers_answered answers);
       stay = λ one none. rest.stay one (grows one none);
       fresh = λ below. (
-          rest.stay id (subst (λ (one : ℕ). AreUnconfirmed one r.channels.rows) (sym number) (grows p.channels.given (unconfirmed_above p.channels.given p.channels.rows below))),
-          rest.fresh ((channel_numbered config id p.channels r.channels channels number).below below),
-        );
+        rest.stay id (subst (λ (one : ℕ). AreUnconfirmed one r.channels.rows) (sym number) (grows p.channels.given (unconfirmed_above p.channels.given p.channels.rows below))),
+        rest.fresh ((channel_numbered config id p.channels r.channels channels number).below below),
+      );
     }
 
 line_adds : (change : RowChange) (to : Direction) (p : Stance) (mid : List ℕ) (changed : Bool) (r : Stance) → StanceChangesLine change to p mid (Ok changed) r
