@@ -100,6 +100,7 @@ pub mod ReadFacts
 mod StartFacts
 pub mod Reaches
 pub mod OutstandingRuns
+mod ForwardSteps
 pub mod CountedFaults
 pub mod StreamFaults
 pub mod MediaFaults
