@@ -1,5 +1,5 @@
 -- Where a side was drained, all was got that was sent.
-use Rattle.std.proofs.Common.{◌≡◌, ◌∙◌, ◌∷◌, ap, if◌then◌else◌, ℕ, Bool, false, true≢false, List, [], refl, sym, subst}
+use Rattle.std.proofs.Common.{◌≡◌, ◌∙◌, ◌∷◌, ap, if◌then◌else◌, ℕ, Bool, true, false, true≢false, List, [], refl, sym, subst}
 use Rattle.rtc_part_association.specs.AssociationActs.{LimitsSet, Stirred}
 use Rattle.rtc_part_values.specs.Why.{Other}
 use Rattle.rtc_assoc_state.proofs.PlainLaws.{plain_laws}

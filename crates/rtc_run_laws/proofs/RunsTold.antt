@@ -1,5 +1,5 @@
 -- Runs keep what holds of the channels that both sides announced, and what one channel hands out was sent over the other.
-use Rattle.std.proofs.Common.{◌≡◌, ◌∙◌, ◌∷◌, if◌then◌else◌, ℕ, Bool, List, [], Some, inr, refl, sym, ap, subst}
+use Rattle.std.proofs.Common.{◌≡◌, ◌∙◌, ◌∷◌, if◌then◌else◌, ℕ, Bool, true, List, [], Some, inr, refl, sym, ap, subst}
 use Rattle.rtc_part_values.specs.Among.{Among}
 use Rattle.rtc_part_association.proofs.AmongLemmas.{among_none}
 use Rattle.rtc_part_dtls.specs.DtlsWords.{dtls_got}

@@ -1,5 +1,5 @@
 -- In a settled pair a channel that one side announced is open at both.
-use Rattle.std.proofs.Common.{◌<◌, ◌+◌, ◌≡◌, ◌⊎◌, None, ℕ, Bool, false, List, [], Some, inl, inr}
+use Rattle.std.proofs.Common.{◌<◌, ◌+◌, ◌≡◌, ◌⊎◌, None, ℕ, Bool, true, false, List, [], Some, inl, inr}
 use Rattle.rtc_assoc_state.specs.Contents.{closed_here, generation_of, has_unread}
 use Rattle.rtc_assoc_state.specs.PlainMeaning.{plain_meaning}
 use Rattle.rtc_sctp_entries.specs.declared.stream_entry_state.StreamEntryState.TheVariants.{AwaitOpen}

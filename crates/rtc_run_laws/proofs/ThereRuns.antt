@@ -1,5 +1,5 @@
 -- In runs of new pairs each stream that is there in its first generation has an entry past its opening, or is held.
-use Rattle.std.proofs.Common.{◌≡◌, ◌⊎◌, inl, inr, ℕ, Bool, true≢false, List, [], ◌∷◌, refl, sym, ap, subst}
+use Rattle.std.proofs.Common.{◌≡◌, ◌⊎◌, inl, inr, ℕ, Bool, true, true≢false, List, [], ◌∷◌, refl, sym, ap, subst}
 use Rattle.rtc_part_association.specs.AssociationActs.{Stirred, LimitsSet}
 use Rattle.rtc_part_values.specs.Why.{Other}
 use Rattle.rtc_assoc_state.specs.Contents.{Contents, fresh_contents}

@@ -1,5 +1,5 @@
 -- In a settled pair each confirmed channel with a stream that was never reset is open at both sides.
-use Rattle.std.proofs.Common.{◌≡◌, ◌⊎◌, inl, inr, ℕ, Bool, List, []}
+use Rattle.std.proofs.Common.{◌≡◌, ◌⊎◌, inl, inr, ℕ, Bool, true, List, []}
 use Rattle.rtc_part_association.specs.AssociationWords.{written}
 use Rattle.rtc_assoc_state.specs.Contents.{generation_of}
 use Rattle.rtc_assoc_state.specs.PlainMeaning.{plain_meaning}
