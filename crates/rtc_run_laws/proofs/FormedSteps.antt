@@ -51,7 +51,6 @@ use Rattle.rtc_run_history.specs.Runs.{Runs}
 use Rattle.rtc_run_history.specs.Views.{AreFormed}
 use Rattle.rtc_run_history.proofs.BothSides.{both_sides}
 use Rattle.rtc_run_laws.proofs.LegibleSdps.{
-  IsLegibleKept,
   AreLegible,
   CanBeTaken,
   spent_legible,

@@ -1,7 +1,7 @@
 -- What a step that negotiates leaves of the offer of its side that awaits its answer.
 use Rattle.std.specs.List.{AllByRecursion}
 use Rattle.std.specs.Prelude.{is_some, slice_get}
-use Rattle.std.proofs.Common.{not, ◌≡◌, ◌==◌, ◌&&◌, ℕ, Bool, true, false, true≢false, cond, List, [], ◌∷◌, ◌++◌, length, Option, Some, None, refl, sym, ◌∙◌, ap, subst, arith, inl, inr, ◌⊎◌}
+use Rattle.std.proofs.Common.{not, ◌≡◌, ◌==◌, ◌&&◌, ℕ, Bool, true, false, true≢false, cond, List, [], ◌∷◌, ◌++◌, length, Option, Some, None, refl, sym, ◌∙◌, ap, subst, arith, inl, inr}
 use Rattle.std.proofs.lemmas.Bool.{and_right, eq-eqb, ne_eqb}
 use Rattle.rtc_wire.specs.declared.channel_config.ChannelConfig.{ChannelConfig}
 use Rattle.rtc_sdp_values.specs.declared.line_row.LineRow.{LineRow}
@@ -31,20 +31,18 @@ use Rattle.rtc_run_history.specs.Memory.{answers_lack}
 use Rattle.rtc_run_history.specs.PairState.{held_token, token_for}
 use Rattle.rtc_run_history.specs.Past.{Entry, MadeSdp, before, is_applied, makes}
 use Rattle.rtc_run_history.specs.Performs.{kept_offer}
-use Rattle.rtc_run_history.specs.Rounds.{before_last, makes_offer}
 use Rattle.rtc_run_history.specs.Sides.{same_side}
-use Rattle.rtc_run_history.specs.Undone.{channels_added_by, places_changed, places_changed_by, rows_undone}
+use Rattle.rtc_run_history.specs.Undone.{places_changed, rows_undone}
 use Rattle.rtc_run_history.specs.Views.{Stances}
 use Rattle.rtc_run_laws.proofs.Around.{entry}
 use Rattle.rtc_run_laws.proofs.CancelledRows.{AreCancellable, numbers_of}
 use Rattle.rtc_run_laws.proofs.KeptTexts.{Same, Pushed}
 use Rattle.rtc_run_laws.proofs.NotedOps.{IsNoting, notes_none, ops_note}
 use Rattle.rtc_run_laws.proofs.OutstandingSteps.{StepOut, role_parts, still_step, untouched_step}
-use Rattle.rtc_run_laws.proofs.Outstands.{IsOwnOffer, Outstands, TokenUndoes, moved_out, offered_out}
+use Rattle.rtc_run_laws.proofs.Outstands.{Outstands, TokenUndoes, moved_out, offered_out}
 use Rattle.rtc_run_laws.proofs.PushedLists.{push_places}
 use Rattle.rtc_run_laws.proofs.StagedChanges.{are_some}
 use Rattle.rtc_run_laws.proofs.StagedNumbers.{KeepsUnconfirmed, ops_number, staged_numbers}
-use Rattle.rtc_run_laws.proofs.StagedOps.{Stages}
 use Rattle.rtc_run_laws.proofs.Staging.{ops_stage}
 use Rattle.rtc_run_laws.proofs.StanceSteps.{PairStance, StanceMakesOf, StanceNegotiates, StancePerformsOps, lent}
 use Rattle.rtc_run_laws.proofs.Tells.{Tells, same_side-self}

@@ -1,6 +1,6 @@
 -- What steps leave of the offer of a side that awaits its answer: steps that negotiate nothing, and steps that hand over an offer or an answer, or
 -- roll an offer back.
-use Rattle.std.proofs.Common.{not, ◌≡◌, ◌≢◌, ◌≤◌, ◌<◌, ◌+◌, ◌^◌, ◌==◌, ◌&&◌, ◌||◌, ℕ, Bool, true, false, true≢false, List, [], ◌∷◌, length, Option, Some, None, Ok, Err, refl, sym, ◌∙◌, ap, subst, arith, inl, inr, ◌⊎◌}
+use Rattle.std.proofs.Common.{not, ◌≡◌, ◌≢◌, ◌<◌, ◌^◌, ◌&&◌, ◌||◌, ℕ, Bool, true, false, true≢false, List, ◌∷◌, length, Option, Some, None, refl, sym, ◌∙◌, ap, subst, inl, inr, ◌⊎◌}
 use Rattle.std.specs.Prelude.{slice_get}
 use Rattle.std.proofs.lemmas.Bool.{and_right, eq-eqb, or_from}
 use Rattle.rtc_part_dtls.specs.declared.dtls_error.DtlsError.TheVariants.{Fault, WouldBlock, Alloc as DtlsAlloc}
@@ -31,10 +31,10 @@ use Rattle.rtc_run_laws.proofs.AnswerTells.{HandsAnswer}
 use Rattle.rtc_run_laws.proofs.Around.{entry}
 use Rattle.rtc_run_laws.proofs.KeptTexts.{TextsChange, Same, Pushed, Spent, lost, same_before, spent_before, spent_places}
 use Rattle.rtc_run_laws.proofs.OfferTells.{HandsOffer}
-use Rattle.rtc_run_laws.proofs.Outstands.{IsOwnOffer, IsStill, Outstands, ended_out, moved_out, right_is_right, stays_out}
+use Rattle.rtc_run_laws.proofs.Outstands.{IsOwnOffer, Outstands, ended_out, moved_out, right_is_right, stays_out}
 use Rattle.rtc_run_laws.proofs.Rests.{IsRest, makes_none, moves_none, rests}
 use Rattle.rtc_run_laws.proofs.StanceSteps.{PairStance, StanceRests, StanceStepAcceptsAnswer, StanceStepAcceptsOffer, StanceStepRollsBack, lent}
-use Rattle.rtc_run_laws.proofs.Tells.{Tells, TokenTells, same_side-self}
+use Rattle.rtc_run_laws.proofs.Tells.{Tells, same_side-self}
 use Rattle.rtc_run_laws.proofs.TokenEntries.{bare}
 use Rattle.rtc_run_laws.proofs.UnreadSdps.{peer_reads, uncalled_offer}
 

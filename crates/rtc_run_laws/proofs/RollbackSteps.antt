@@ -1,32 +1,29 @@
 -- A step that rolls an offer back, and what its entry says that it leaves.
-use Rattle.std.proofs.Common.{◌≡◌, ◌≢◌, ◌<◌, ◌+◌, ◌^◌, ◌==◌, ℕ, List, [], ◌∷◌, Bool, true, false, ◌&&◌, Option, Some, None, Ok, Err, refl, sym, ◌∙◌, ap, subst, arith}
-use Rattle.std.specs.Prelude.{slice_get, slice_set, is_some}
+use Rattle.std.proofs.Common.{◌≡◌, ◌≤◌, ◌<◌, ◌^◌, ◌==◌, ℕ, List, [], ◌∷◌, Bool, true, false, Option, Some, None, Ok, refl, sym, ◌∙◌, ap, arith}
+use Rattle.std.specs.Prelude.{slice_get, is_some}
 use Rattle.std.proofs.lemmas.Bool.{and_right}
 use Rattle.rtc_channels.specs.Channels.{Channels}
 use Rattle.rtc_channels.specs.Holds.{all_cancelled}
 use Rattle.rtc_change.specs.PendingOffer.{PendingOffer, new_channels}
-use Rattle.rtc_peer_core.specs.Calls.{raised}
 use Rattle.rtc_peer_core.specs.Stance.{Stance}
-use Rattle.rtc_peer_core.specs.declared.rtc_error.RtcError.{RtcError}
 use Rattle.rtc_peer_core.specs.declared.rtc_error.RtcError.TheVariants.{RemoteSdp, Sdp as SdpRefused, Dtls, Sctp, Net, Media as MediaFailed, ChangesOutOfOrder, BadChannel, Alloc as PeerAlloc, Glare}
-use Rattle.rtc_peer_core.proofs.StanceRollbacks.{StanceRollsBack, rolled_back}
+use Rattle.rtc_peer_core.proofs.StanceRollbacks.{StanceRollsBack}
 use Rattle.rtc_run_history.specs.declared.side.Side.{Side}
-use Rattle.rtc_run_history.specs.declared.step.Step.{Step}
 use Rattle.rtc_run_history.specs.declared.step.Step.TheVariants.{Rollback}
 use Rattle.rtc_run_history.specs.declared.outcome.Outcome.{Outcome}
 use Rattle.rtc_run_history.specs.declared.outcome.Outcome.TheVariants.{Done, Refused, NoSuch, Alloc}
 use Rattle.rtc_run_history.specs.declared.table.Table.{Table}
-use Rattle.rtc_run_history.specs.Past.{Entry, MadeSdp, before, channels_shown, channel_rows_or, holds_token, is_right, numbers_in, rows_or, was_rolled_back, makes}
+use Rattle.rtc_run_history.specs.Past.{Entry, MadeSdp, before, channels_shown, channel_rows_or, is_right, numbers_in, rows_or, was_rolled_back, makes}
 use Rattle.rtc_run_history.specs.Sound.{RepliesToRollback, IsSound}
 use Rattle.rtc_run_history.specs.Undone.{table_shown, table_undone}
 use Rattle.rtc_run_history.specs.Views.{Stances}
 use Rattle.rtc_run_history.specs.declared.kept.Kept.{Kept}
-use Rattle.rtc_run_history.specs.PairState.{token_for, held_token, spent}
+use Rattle.rtc_run_history.specs.PairState.{token_for, held_token}
 use Rattle.rtc_run_laws.proofs.AnswerSteps.{now_right, not_right}
 use Rattle.rtc_run_laws.proofs.AnswerTells.{text_found, spent-is, and_true}
 use Rattle.rtc_run_laws.proofs.NumberedChannels.{AreNumbered, same_numbers, all_cancelled_numbered}
 use Rattle.rtc_run_laws.proofs.Tells.{ChannelsTell, Tells, TokenTells, raised-small}
-use Rattle.rtc_run_laws.proofs.TokenEntries.{bare, spent_tells}
+use Rattle.rtc_run_laws.proofs.TokenEntries.{spent_tells}
 use Rattle.rtc_run_laws.proofs.RolledTokens.{rolled_tells}
 use Rattle.rtc_run_laws.proofs.Around.{Around, entry, goes_on, channels_next, quiet_tells, size_grows}
 use Rattle.rtc_run_laws.proofs.StanceSteps.{PairStance, LeavesRows, StanceShows, StanceStepRollsBack, lent}

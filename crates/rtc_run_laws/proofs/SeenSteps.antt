@@ -1,12 +1,11 @@
 -- What a side knows of the other one after a step.
-use Rattle.std.proofs.Common.{◌≡◌, Bool, true, false, not, ◌&&◌, List, [], ◌∷◌, Option, Some, None, refl, sym, ◌∙◌, ap, cond, subst, ℕ}
+use Rattle.std.proofs.Common.{◌≡◌, Bool, true, false, not, ◌&&◌, List, [], ◌∷◌, Option, Some, None, refl, sym, ◌∙◌, ap, subst, ℕ}
 use Rattle.std.specs.Prelude.{is_some, Ok}
 use Rattle.rtc_part_dtls.specs.declared.dtls_error.DtlsError.TheVariants.{Fault, WouldBlock, Alloc as DtlsAlloc}
 use Rattle.rtc_change.specs.Plans.{asked_by}
 use Rattle.rtc_change.specs.PendingOffer.{PendingOffer}
 use Rattle.rtc_change.specs.TableAfter.{table_after}
 use Rattle.rtc_peer_rows.specs.ParsedLines.{parsed_lines}
-use Rattle.rtc_sdp_values.specs.declared.line_row.LineRow.{LineRow}
 use Rattle.rtc_peer_core.specs.SdpHalves.{tells_half, kept_told}
 use Rattle.rtc_change.specs.declared.change.Change.{Change}
 use Rattle.rtc_change.proofs.VerdictLemmas.{unrefused}
@@ -19,7 +18,7 @@ use Rattle.rtc_sctp_values.specs.declared.sctp_error.SctpError.TheVariants.{Prot
 use Rattle.rtc_peer_core.specs.declared.rtc_error.RtcError.TheVariants.{Net, Media as MediaFailed, Glare}
 use Rattle.rtc_peer_core.specs.declared.rtc_error.RtcError.TheVariants.{RemoteSdp, Sdp as SdpRefused, Dtls, Sctp, ChangesOutOfOrder, BadChannel, Alloc as PeerAlloc}
 use Rattle.rtc_peer_core.proofs.StanceCalls.{StanceChangesLine, stance_alone}
-use Rattle.rtc_run_history.specs.Signalled.{Signalled, NotMade, Unreadable, Readable, sdp_read, foreign}
+use Rattle.rtc_run_history.specs.Signalled.{Signalled, NotMade, Unreadable, Readable, foreign}
 use Rattle.rtc_run_history.specs.declared.side.Side.{Side}
 use Rattle.rtc_run_history.specs.declared.kept.Kept.{Kept}
 use Rattle.rtc_run_history.specs.declared.op.Op.{Op}
@@ -35,7 +34,7 @@ use Rattle.rtc_run_history.specs.declared.outcome.Outcome.TheVariants.{Negotiate
 use Rattle.rtc_run_history.specs.declared.table.Table.{Table}
 use Rattle.rtc_run_history.specs.Memory.{answers_lack, is_fault}
 use Rattle.rtc_run_history.specs.Answers.{has_app_row}
-use Rattle.rtc_run_history.specs.Past.{Entry, MadeSdp, before}
+use Rattle.rtc_run_history.specs.Past.{Entry, MadeSdp}
 use Rattle.rtc_run_history.specs.Sides.{other_side, side_of}
 use Rattle.rtc_run_history.specs.Views.{Stances, tells_init, init_told_by}
 use Rattle.rtc_run_history.specs.PairState.{kept_remote_sdp, held_token}

@@ -1,5 +1,5 @@
 -- What steps that hand over an offer or an answer tell of its acceptance.
-use Rattle.std.proofs.Common.{◌≡◌, ◌&&◌, ℕ, Bool, true, cond, List, [], ◌∷◌, Option, Some, None, refl, ap}
+use Rattle.std.proofs.Common.{◌≡◌, ◌&&◌, ℕ, Bool, true, false, cond, List, ◌∷◌, Option, Some, None, refl, ap}
 use Rattle.rtc_peer_core.specs.declared.rtc_error.RtcError.{RtcError}
 use Rattle.rtc_run_history.specs.Signalled.{Signalled, foreign, sdp_read}
 use Rattle.rtc_run_history.specs.declared.side.Side.{Side}

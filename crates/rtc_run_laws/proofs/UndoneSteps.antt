@@ -1,5 +1,5 @@
 -- What a side shows once it rolled an offer back is what the past says.
-use Rattle.std.proofs.Common.{◌≡◌, ℕ, true, List, Option, Some, None, Ok, refl, sym, ◌∙◌, ap}
+use Rattle.std.proofs.Common.{◌≡◌, ℕ, List, Option, Some, None, Ok, ◌∙◌, ap}
 use Rattle.rtc_sdp_values.specs.declared.line_row.LineRow.{LineRow}
 use Rattle.rtc_channels.specs.declared.channel_row.ChannelRow.{ChannelRow}
 use Rattle.rtc_change.specs.PendingOffer.{PendingOffer}
@@ -9,7 +9,7 @@ use Rattle.rtc_peer_rows.proofs.RowChangeLemmas.{alike_self}
 use Rattle.rtc_run_history.specs.declared.side.Side.{Side}
 use Rattle.rtc_run_history.specs.declared.table.Table.{Table}
 use Rattle.rtc_run_history.specs.PairState.{held_token}
-use Rattle.rtc_run_history.specs.Past.{Entry, before, channels_shown, is_right}
+use Rattle.rtc_run_history.specs.Past.{Entry, before}
 use Rattle.rtc_run_history.specs.Rounds.{before_last, makes_offer}
 use Rattle.rtc_run_history.specs.Undone.{channels_added_by, channels_but, places_changed_by, rows_undone, table_undone}
 use Rattle.rtc_run_history.specs.Views.{Stances}
