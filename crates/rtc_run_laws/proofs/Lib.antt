@@ -81,6 +81,7 @@ pub mod SideRoundSteps
 pub mod OrderlyRuns
 pub mod OpsNext
 pub mod OrderlyNext
+pub mod QuietSteps
 pub mod OrderlySounds
 pub mod StanceRuns
 pub mod CarriedLines
