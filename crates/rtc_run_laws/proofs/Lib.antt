@@ -115,6 +115,7 @@ pub mod InputCounts
 pub mod OpParts
 pub mod RestSides
 pub mod ChannelFaults
+pub mod SideFaults
 pub mod SoundSides
 pub mod PartsSound
 pub mod SentPackets
