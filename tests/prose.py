@@ -1,6 +1,6 @@
 #!/usr/bin/env python3
 """Counts the words of the README, of docs/ and of the crates' READMEs, and the lengths of their sentences. Blocks of code, targets of
-links, pages made by scripts and, in a crate's README, tables of claims (those with a column "Clause", "Call" or "Law") are not counted.
+links, pages made by scripts and, in a crate's README, tables of claims, definitions and examples (those with a column in CLAIMS) are not counted.
 The mean is over paragraphs and items of lists; the longest sentence may also stand in a cell of a table.
 
 usage: tests/prose.py [--check]     writes a row for each page; with --check only what passes a limit, which the status tells too
@@ -14,7 +14,7 @@ TOP = os.path.dirname(os.path.dirname(os.path.abspath(__file__)))
 README_WORDS, DOCS_WORDS, CRATE_WORDS = 900, 15_000, 250
 MEAN_SENTENCE, SENTENCE = 25, 40
 MADE = ["docs/PROMISES.md", "docs/api/"]
-CLAIMS = ("Claim", "Clause", "Call", "Law")
+CLAIMS = ("Claim", "Clause", "Call", "Law", "Definition", "Subject")
 
 
 # A text without blocks of code, comments, and targets of links.
