@@ -16,7 +16,7 @@ use std::alloc::{AllocError, Global};
 use std::marker::Model;
 
 /// What a peer is built from.
-#[derive(Debug, PartialEq, Eq)]
+#[derive(Debug)]
 pub struct RtcConfig {
     pub(crate) alloc: Global,
     pub(crate) ice: IceSettings,
@@ -27,6 +27,7 @@ pub struct RtcConfig {
     pub(crate) media: MediaSettings,
     pub(crate) sctp: SctpSettings,
     pub(crate) mtu: (usize, usize),
+    pub(crate) polite: Option<bool>,
 }
 
 impl Model for RtcConfig {
@@ -43,6 +44,7 @@ impl Model for RtcConfig {
       media = config.media;
       sctp = config.sctp;
       mtu = config.mtu;
+      polite = config.polite;
     } };
 
     ghost invariant = { λ config. IsShortCert config.dtls.cert × AreMediaSettings config.media × IsMtu config.mtu };
@@ -61,6 +63,7 @@ impl Drop for RtcConfig {
             media: _media,
             sctp: _sctp,
             mtu: _mtu,
+            polite: _polite,
         } = self;
     }
 }
@@ -126,7 +129,6 @@ impl RtcConfig {
     /// The default: an agent that makes checks, a peer that draws its credentials and its certificate, DTLS 1.2 and certificates that are
     /// verified, the codecs and header extensions that are enabled by default, no statistics, and no start of the association by session
     /// descriptions.
-    #[tactic(auto, using(crate::proofs::FormedDefault::rows_where_default, crate::proofs::FormedDefault::extensions_where_default))]
     pub fn new(alloc: Global) -> Result<RtcConfig, AllocError>
         ensures value { IfOk result (λ config. config ≡ spec.default_config) }
         ensures codecs { IfOk result (λ config. AreFormedRows config.codecs.rows) }
@@ -148,6 +150,7 @@ impl RtcConfig {
             media: default_media(),
             sctp: default_sctp(),
             mtu: (DATAGRAM_MTU_TARGET, DATAGRAM_MTU_WARN),
+            polite: None,
         })
     }
 
@@ -165,6 +168,7 @@ impl RtcConfig {
             media: _,
             sctp: _,
             mtu: _,
+            polite: _,
         } = self;
         (codecs, extensions)
     }
@@ -186,6 +190,7 @@ impl TryCopy for RtcConfig {
             media: self.media,
             sctp: self.sctp,
             mtu: self.mtu,
+            polite: self.polite,
         })
     }
 }

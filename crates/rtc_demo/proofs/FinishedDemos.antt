@@ -17,7 +17,7 @@ use Rattle.rtc_run_history.specs.Past.{Entry, MadeSdp, steps_of, replies_of, rep
 use Rattle.rtc_run_history.specs.Runs.{Went, EntersSoundly, Runs}
 use Rattle.rtc_run_history.specs.Sides.{same_side, side_of}
 use Rattle.rtc_run_history.specs.Sizes.{step_size, steps_size}
-use Rattle.rtc_run_history.specs.Sound.{IsSound, RepliesToOffer, RepliesToAnswer, asked_in}
+use Rattle.rtc_run_history.specs.Sound.{IsSound, RepliesToOffer, RepliesToAnswer, asked_in, is_glare_at}
 use Rattle.rtc_run_history.specs.SoundEntry.{IsSoundEntry}
 use Rattle.rtc_run_history.specs.Views.{Stances}
 use Rattle.rtc_run_history.specs.declared.outcome.Outcome.{Outcome}
@@ -25,7 +25,8 @@ use Rattle.rtc_run_history.specs.declared.outcome.Outcome.TheVariants.{Negotiate
 use Rattle.rtc_run_history.specs.declared.reply.Reply.{Reply}
 use Rattle.rtc_run_history.specs.declared.side.Side.{Side}
 use Rattle.rtc_run_history.specs.declared.step.Step.{Step}
-use Rattle.rtc_run_history.specs.declared.step.Step.TheVariants.{Negotiate, AcceptOffer, AcceptAnswer, Time, Datagram, Poll, Drain, Write, CloseChannel, Close}
+use Rattle.rtc_run_history.specs.declared.step.Step.TheVariants.{Negotiate, AcceptOffer, AcceptAnswer, Time, Datagram, Poll, Drain}
+use Rattle.rtc_run_history.specs.declared.step.Step.TheVariants.{Write, CloseChannel, Close, Rollback, ForeignOffer, ForeignAnswer, Raw}
 use Rattle.rtc_run_history.specs.declared.table.Table.{Table}
 use Rattle.rtc_run_laws.proofs.ChannelCounts.{steps_size-append, told_within}
 use Rattle.rtc_run_laws.proofs.OrderlyPasts.{next_of, follow_last}
@@ -47,6 +48,10 @@ accepts_answer (Drain at) = false
 accepts_answer (Write at channel binary bytes) = false
 accepts_answer (CloseChannel at channel) = false
 accepts_answer (Close at) = false
+accepts_answer (Rollback at token) = false
+accepts_answer (ForeignOffer at text) = false
+accepts_answer (ForeignAnswer at token text) = true
+accepts_answer (Raw at bytes now) = false
 
 -- how many steps do
 abbrev answers_in : List Step → ℕ
@@ -59,18 +64,21 @@ answers_in_both (step ∷ steps) more = omega (arith, answers_in_both steps more
 
 -- ---- a step that negotiates, and succeeded
 
-offer_unfinished : {E : Type 0} → (sdp : Signalled) (view : Held) (next : ℕ) (outcome : Outcome E) (after : List LineRow) → RepliesToOffer sdp view next outcome after → tells_finished outcome ≡ false
-offer_unfinished NotMade view next Finished after takes = absurd takes
-offer_unfinished (Unreadable line) view next Finished after takes = absurd takes
-offer_unfinished (Readable sdp) view next Finished after takes = absurd takes
-offer_unfinished sdp view next (Negotiated answers made) after takes = refl
-offer_unfinished sdp view next (Answered k) after takes = refl
-offer_unfinished sdp view next Done after takes = refl
-offer_unfinished sdp view next (Wrote taken) after takes = refl
-offer_unfinished sdp view next (Polled outputs end) after takes = refl
-offer_unfinished sdp view next (Refused error) after takes = refl
-offer_unfinished sdp view next NoSuch after takes = refl
-offer_unfinished sdp view next Alloc after takes = refl
+offer_unfinished : {E : Type 0} → (glare : Bool) (sdp : Signalled) (view : Held) (next : ℕ) (outcome : Outcome E) (after : List LineRow) → RepliesToOffer glare sdp view next outcome after → tells_finished outcome ≡ false
+offer_unfinished false NotMade view next Finished after takes = absurd takes
+offer_unfinished false (Unreadable line) view next Finished after takes = absurd takes
+offer_unfinished false (Readable sdp) view next Finished after takes = absurd takes
+offer_unfinished true NotMade view next Finished after takes = absurd takes
+offer_unfinished true (Unreadable line) view next Finished after takes = absurd takes
+offer_unfinished true (Readable sdp) view next Finished after takes = absurd takes
+offer_unfinished glare sdp view next (Negotiated answers made) after takes = refl
+offer_unfinished glare sdp view next (Answered k) after takes = refl
+offer_unfinished glare sdp view next Done after takes = refl
+offer_unfinished glare sdp view next (Wrote taken) after takes = refl
+offer_unfinished glare sdp view next (Polled outputs end) after takes = refl
+offer_unfinished glare sdp view next (Refused error) after takes = refl
+offer_unfinished glare sdp view next NoSuch after takes = refl
+offer_unfinished glare sdp view next Alloc after takes = refl
 
 -- an acceptance of an answer is answered by no other Ok
 answer_finished : {E : Type 0} → (held right : Bool) (asked : Asked) (sdp : Signalled) (view : Held) (outcome : Outcome E) (after : List LineRow) → RepliesToAnswer held right asked sdp view outcome after → is_ok outcome ≡ true → tells_finished outcome ≡ true
@@ -111,7 +119,7 @@ ok_finished fresh between past (Negotiate at ops apply) Alloc None made negotiat
 ok_finished fresh between past (Negotiate at ops apply) (Negotiated answers what) (Some table) made negotiating sound fine = refl
 ok_finished fresh between past (AcceptOffer at k) Alloc None made negotiating sound fine = absurd (cc)
 ok_finished fresh between past (AcceptOffer at k) outcome (Some table) made negotiating sound fine =
-    offer_unfinished (remote_sdp true at k past) _ _ outcome table.lines (offer_taking fresh between past at k outcome table made sound)
+    offer_unfinished (is_glare_at fresh at past) (remote_sdp true at k past) _ _ outcome table.lines (offer_taking fresh between past at k outcome table made sound)
 ok_finished fresh between past (AcceptAnswer at t a) Alloc None made negotiating sound fine = absurd (cc)
 ok_finished fresh between past (AcceptAnswer at t a) outcome (Some table) made negotiating sound fine =
     answer_finished (holds_token at t past) (is_right at t past) (asked_in at t past) (remote_sdp false at a past) _ outcome table.lines (answer_taking fresh between past at t a outcome table made sound) fine
@@ -122,6 +130,10 @@ ok_finished fresh between past (Drain at) outcome table made negotiating sound f
 ok_finished fresh between past (Write at channel binary bytes) outcome table made negotiating sound fine = absurd (cc)
 ok_finished fresh between past (CloseChannel at channel) outcome table made negotiating sound fine = absurd (cc)
 ok_finished fresh between past (Close at) outcome table made negotiating sound fine = absurd (cc)
+ok_finished fresh between past (Rollback at token) outcome table made negotiating sound fine = absurd (cc)
+ok_finished fresh between past (ForeignOffer at text) outcome table made negotiating sound fine = absurd (cc)
+ok_finished fresh between past (ForeignAnswer at token text) outcome table made negotiating sound fine = absurd (cc)
+ok_finished fresh between past (Raw at bytes now) outcome table made negotiating sound fine = absurd (cc)
 ok_finished fresh between past step outcome table made negotiating sound fine = absurd sound
 
 -- ---- pasts

@@ -11,7 +11,7 @@ use Rattle.rtc_run_history.specs.declared.op.Op.TheVariants.{AddMedia, SetDirect
 use Rattle.rtc_run_history.specs.declared.op_answer.OpAnswer.{OpAnswer}
 use Rattle.rtc_run_history.specs.declared.op_answer.OpAnswer.TheVariants.{Mid, Changed, NoLine, Channel as Numbered, BadChannel, Alloc as OpAlloc, Creds}
 use Rattle.rtc_run_history.specs.declared.step.Step.{Step}
-use Rattle.rtc_run_history.specs.declared.step.Step.TheVariants.{Negotiate, AcceptOffer, AcceptAnswer, Time, Datagram, Poll, Drain, Write, CloseChannel, Close}
+use Rattle.rtc_run_history.specs.declared.step.Step.TheVariants.{Negotiate, AcceptOffer, AcceptAnswer, Time, Datagram, Poll, Drain, Write, CloseChannel, Close, Rollback, ForeignOffer, ForeignAnswer, Raw}
 use Rattle.rtc_run_history.specs.declared.outcome.Outcome.{Outcome}
 use Rattle.rtc_run_history.specs.declared.outcome.Outcome.TheVariants.{Negotiated, Answered, Finished, Done, Wrote, Polled, Refused, NoSuch, Alloc}
 use Rattle.rtc_run_history.specs.Sides.{same_side, side_of}

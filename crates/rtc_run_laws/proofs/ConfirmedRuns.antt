@@ -5,10 +5,10 @@ use Rattle.rtc_peer_core.specs.Meanings.{Meanings, PartsLaws}
 use Rattle.rtc_peer_transport.specs.declared.polled_peer.PolledPeer.{PolledPeer}
 use Rattle.rtc_peer_laws.specs.RowsChanged.{RowsChanged}
 use Rattle.rtc_run_history.specs.declared.side.Side.{Side}
-use Rattle.rtc_run_history.specs.PairState.{PairState, rtc_at}
+use Rattle.rtc_run_history.specs.PairState.{addr_at, PairState, rtc_at}
 use Rattle.rtc_run_history.specs.Past.{Entry}
 use Rattle.rtc_run_history.specs.Runs.{Reached}
-use Rattle.rtc_run_history.specs.Sides.{side_of}
+use Rattle.rtc_run_history.specs.Sides.{side_of, other_side}
 use Rattle.rtc_run_laws.specs.ConfirmedChannels.{HasConfig, WasConfirmed}
 use Rattle.rtc_run_laws.proofs.BegunRows.{AreSound, Awaits, IsBegun}
 use Rattle.rtc_run_laws.proofs.OpenedRows.{changed_begun}
@@ -51,7 +51,7 @@ module _ {I D S M E X T W N : Type 0} (m : Meanings I D S M E X T W N) (laws : P
         → StepRows m (rtc_at at ran.0) (rtc_at at pair)
     last_rows entry past pair ran at =
         rows_at m (side_of entry.step) at ran.0 pair
-        (acts_rows m laws stun entry.step (rtc_at (side_of entry.step) ran.0) ran.0.sdps ran.0.packets entry.outcome entry.table
+        (acts_rows m laws stun (addr_at (other_side (side_of entry.step)) ran.0) (addr_at (side_of entry.step) ran.0) entry.step (rtc_at (side_of entry.step) ran.0) ran.0.sdps ran.0.packets entry.outcome entry.table
         (rtc_at (side_of entry.step) pair) pair.sdps pair.packets ran.2.performs.acts) ran.2.performs.other
 
     pub run_sound : (past : List (Entry E)) (pair : PairState I D S M N) → Reached m stun start past pair

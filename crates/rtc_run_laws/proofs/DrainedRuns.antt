@@ -17,7 +17,7 @@ use Rattle.rtc_run_history.specs.declared.reply.Reply.{Reply}
 use Rattle.rtc_run_history.specs.declared.side.Side.{Side}
 use Rattle.rtc_run_history.specs.declared.side.Side.TheVariants.{Left, Right}
 use Rattle.rtc_run_history.specs.declared.step.Step.{Step}
-use Rattle.rtc_run_history.specs.PairState.{rtc_at}
+use Rattle.rtc_run_history.specs.PairState.{addr_at, rtc_at}
 use Rattle.rtc_run_history.specs.Past.{Entry}
 use Rattle.rtc_run_history.specs.Runs.{Reached, Runs}
 use Rattle.rtc_run_history.specs.Sides.{other_side, same_side, side_of}
@@ -84,7 +84,7 @@ module _ {N : Type 0} (draws : Draws N) where
       heard_after (side_of entry.step) at ran.0 pair uses acted entry.step entry.outcome
       (λ x. IsDrained x past) ran.2.performs.other
       (λ before e.
-      acts_heard draws there.other (rtc_at (other_side (side_of entry.step)) ran.0) (sent (side_of entry.step)) stun entry.step (rtc_at (side_of entry.step) ran.0) ran.0.sdps
+      acts_heard draws there.other (rtc_at (other_side (side_of entry.step)) ran.0) (sent (side_of entry.step)) stun (addr_at (other_side (side_of entry.step)) ran.0) (addr_at (side_of entry.step) ran.0) entry.step (rtc_at (side_of entry.step) ran.0) ran.0.sdps
       ran.0.packets entry.outcome entry.table (rtc_at (side_of entry.step) pair) pair.sdps pair.packets (uses (side_of entry.step))
       (told (side_of entry.step)) ran.2.performs.acts there.stood (IsDrained (side_of entry.step) past) before e
       (empty (side_of entry.step)))
@@ -101,7 +101,7 @@ module _ {N : Type 0} (draws : Draws N) where
 
       acted : List ChannelUse → List ChannelUse
       acted l =
-          uses_acted (plain_over draws) stun entry.step (rtc_at (side_of entry.step) ran.0) ran.0.sdps ran.0.packets entry.outcome entry.table
+          uses_acted (plain_over draws) stun (addr_at (other_side (side_of entry.step)) ran.0) (addr_at (side_of entry.step) ran.0) entry.step (rtc_at (side_of entry.step) ran.0) ran.0.sdps ran.0.packets entry.outcome entry.table
           (rtc_at (side_of entry.step) pair) pair.sdps pair.packets ran.2.performs.acts l
 
       empty : AreUnused (plain_over draws) (plain_over_laws draws) pair

@@ -9,7 +9,7 @@ use Rattle.rtc_change.specs.Plans.{verdict}
 use Rattle.rtc_peer_core.specs.declared.rtc_error.RtcError.TheVariants.{RemoteSdp, Sdp as SdpRefused, Alloc as PeerAlloc, Dtls, Sctp}
 use Rattle.rtc_run_history.specs.declared.side.Side.{Side}
 use Rattle.rtc_run_history.specs.declared.op.Op.{Op}
-use Rattle.rtc_run_history.specs.declared.step.Step.TheVariants.{Negotiate, AcceptOffer, AcceptAnswer, Time, Datagram, Poll, Drain, Write, CloseChannel, Close}
+use Rattle.rtc_run_history.specs.declared.step.Step.TheVariants.{Negotiate, AcceptOffer, AcceptAnswer, Time, Datagram, Poll, Drain, Write, CloseChannel, Close, Rollback, ForeignOffer, ForeignAnswer, Raw}
 use Rattle.rtc_run_history.specs.declared.outcome.Outcome.{Outcome}
 use Rattle.rtc_run_history.specs.declared.outcome.Outcome.TheVariants.{Negotiated, Answered, Finished, Refused, Alloc}
 use Rattle.rtc_run_history.specs.declared.table.Table.{Table}

@@ -9,7 +9,7 @@ use Rattle.rtc_peer_rows.specs.Table.{IsTable}
 use Rattle.rtc_peer_core.specs.Stance.{Stance}
 use Rattle.rtc_run_history.specs.declared.side.Side.{Side}
 use Rattle.rtc_run_history.specs.declared.step.Step.{Step}
-use Rattle.rtc_run_history.specs.declared.step.Step.TheVariants.{Negotiate, AcceptOffer, AcceptAnswer, Time, Datagram, Poll, Drain, Write, CloseChannel, Close}
+use Rattle.rtc_run_history.specs.declared.step.Step.TheVariants.{Negotiate, AcceptOffer, AcceptAnswer, Time, Datagram, Poll, Drain, Write, CloseChannel, Close, Rollback, ForeignOffer, ForeignAnswer, Raw}
 use Rattle.rtc_run_history.specs.declared.outcome.Outcome.{Outcome}
 use Rattle.rtc_run_history.specs.declared.table.Table.{Table}
 use Rattle.rtc_run_history.specs.declared.kept.Kept.{Kept}
@@ -32,7 +32,8 @@ use Rattle.rtc_run_laws.proofs.SeenSteps.{step_sees}
 use Rattle.rtc_run_laws.proofs.NegotiateSteps.{negotiate_reply, negotiate_tells}
 use Rattle.rtc_run_laws.proofs.OfferSteps.{offer_reply, offer_tells}
 use Rattle.rtc_run_laws.proofs.AnswerSteps.{answer_reply, answer_tells}
-use Rattle.rtc_run_laws.proofs.Rests.{handled_rests, heard_rests, polled_rests, told_rests, rest_tells, lines_stay, time_reply, datagram_reply, poll_reply, drain_reply, close_reply, written_rests, closed_rests, write_reply, close_channel_reply}
+use Rattle.rtc_run_laws.proofs.Rests.{handled_rests, heard_rests, polled_rests, told_rests, rest_tells, written_rests, closed_rests}
+use Rattle.rtc_run_laws.proofs.RestReplies.{lines_stay, time_reply, datagram_reply, poll_reply, drain_reply, close_reply, write_reply, close_channel_reply, raw_reply}
 
 -- ---- one step
 
@@ -90,6 +91,7 @@ fresh_channels E at s none no_rows = record {
   shown = no_rows;
   few = rw none (omega arith);
   below = rw none tt;
+  rising = rw none tt;
   told = All-nil (λ number. number < s.channels.given);
 }
 

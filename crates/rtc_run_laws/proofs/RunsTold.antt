@@ -24,7 +24,7 @@ use Rattle.rtc_peer_laws.specs.JoinedPeers.{packet_parts}
 use Rattle.rtc_peer_laws.proofs.JoinedLemmas.{unused_joined}
 use Rattle.rtc_run_history.specs.declared.side.Side.{Side}
 use Rattle.rtc_run_history.specs.declared.side.Side.TheVariants.{Left, Right}
-use Rattle.rtc_run_history.specs.PairState.{rtc_at}
+use Rattle.rtc_run_history.specs.PairState.{addr_at, rtc_at}
 use Rattle.rtc_run_history.specs.Past.{Entry}
 use Rattle.rtc_run_history.specs.Runs.{Reached}
 use Rattle.rtc_run_history.specs.Sides.{other_side, same_side, side_of}
@@ -171,7 +171,7 @@ module _ {N : Type 0} (draws : Draws N) where
 
         acted : List ChannelUse → List ChannelUse
         acted l =
-            uses_acted (plain_over draws) stun entry.step (rtc_at (side_of entry.step) ran.0) ran.0.sdps ran.0.packets entry.outcome entry.table
+            uses_acted (plain_over draws) stun (addr_at (other_side (side_of entry.step)) ran.0) (addr_at (side_of entry.step) ran.0) entry.step (rtc_at (side_of entry.step) ran.0) ran.0.sdps ran.0.packets entry.outcome entry.table
             (rtc_at (side_of entry.step) pair) pair.sdps pair.packets ran.2.performs.acts l
 
         sends : ℕ → ℕ → List (Bool × List ℕ) → List (Bool × List ℕ)
@@ -179,7 +179,7 @@ module _ {N : Type 0} (draws : Draws N) where
 
         tells : MessagesTold → MessagesTold
         tells l =
-            by_step (plain_over draws) (told_shown (plain_over draws)) stun entry.step (rtc_at (side_of entry.step) ran.0) ran.0.sdps ran.0.packets
+            by_step (plain_over draws) (told_shown (plain_over draws)) stun (addr_at (other_side (side_of entry.step)) ran.0) (addr_at (side_of entry.step) ran.0) entry.step (rtc_at (side_of entry.step) ran.0) ran.0.sdps ran.0.packets
             entry.outcome entry.table (rtc_at (side_of entry.step) pair) pair.sdps pair.packets ran.2.performs.acts l
 
         by : PairTold ran.0 uses sent told
@@ -189,7 +189,7 @@ module _ {N : Type 0} (draws : Draws N) where
         by h =
             let before : StoodIn (side_of entry.step) ran.0 uses sent told = stood_in (side_of entry.step) ran.0 uses sent told h in
             told_after (side_of entry.step) pair before.other (rtc_at (other_side (side_of entry.step)) ran.0) ran.2.performs.other uses acted sent sends told tells
-            (acts_stood draws before.other (rtc_at (other_side (side_of entry.step)) ran.0) stun entry.step (rtc_at (side_of entry.step) ran.0) ran.0.sdps
+            (acts_stood draws before.other (rtc_at (other_side (side_of entry.step)) ran.0) stun (addr_at (other_side (side_of entry.step)) ran.0) (addr_at (side_of entry.step) ran.0) entry.step (rtc_at (side_of entry.step) ran.0) ran.0.sdps
             ran.0.packets entry.outcome entry.table (rtc_at (side_of entry.step) pair) pair.sdps pair.packets (uses (side_of entry.step))
             (sent (side_of entry.step)) (told (side_of entry.step)) ran.2.performs.acts before.stood)
             before.rest

@@ -16,7 +16,7 @@ use Rattle.rtc_peer_core.specs.Stance.{Stance, held_by}
 use Rattle.rtc_sctp_values.specs.declared.proto_error.ProtoError.TheVariants.{Fault as AssociationFault}
 use Rattle.rtc_sctp_values.specs.declared.sctp_error.SctpError.{SctpError}
 use Rattle.rtc_sctp_values.specs.declared.sctp_error.SctpError.TheVariants.{Proto}
-use Rattle.rtc_peer_core.specs.declared.rtc_error.RtcError.TheVariants.{Net, Media as MediaFailed}
+use Rattle.rtc_peer_core.specs.declared.rtc_error.RtcError.TheVariants.{Net, Media as MediaFailed, Glare}
 use Rattle.rtc_peer_core.specs.declared.rtc_error.RtcError.TheVariants.{RemoteSdp, Sdp as SdpRefused, Dtls, Sctp, ChangesOutOfOrder, BadChannel, Alloc as PeerAlloc}
 use Rattle.rtc_peer_core.proofs.StanceCalls.{StanceChangesLine, stance_alone}
 use Rattle.rtc_run_history.specs.Signalled.{Signalled, NotMade, Unreadable, Readable, sdp_read}
@@ -29,7 +29,7 @@ use Rattle.rtc_run_history.specs.declared.op_answer.OpAnswer.TheVariants.{Mid, C
 use Rattle.rtc_run_history.specs.declared.made.Made.{Made}
 use Rattle.rtc_run_history.specs.declared.made.Made.TheVariants.{NotAsked, Nothing, Offer, Alloc as MadeAlloc}
 use Rattle.rtc_run_history.specs.declared.step.Step.{Step}
-use Rattle.rtc_run_history.specs.declared.step.Step.TheVariants.{Negotiate, AcceptOffer, AcceptAnswer, Time, Datagram, Poll, Drain, Write, CloseChannel, Close}
+use Rattle.rtc_run_history.specs.declared.step.Step.TheVariants.{Negotiate, AcceptOffer, AcceptAnswer, Time, Datagram, Poll, Drain, Write, CloseChannel, Close, Rollback, ForeignOffer, ForeignAnswer, Raw}
 use Rattle.rtc_run_history.specs.declared.outcome.Outcome.{Outcome}
 use Rattle.rtc_run_history.specs.declared.outcome.Outcome.TheVariants.{Negotiated, Answered, Finished, Refused, NoSuch, Alloc}
 use Rattle.rtc_run_history.specs.declared.table.Table.{Table}
@@ -136,8 +136,8 @@ offer_sees fresh past at k (Readable sdp) old new kept kept' (Answered n) (Some 
     })
     (here_is at (sdp_read (remote_sdp true at k past)) ∙ read)
     (rows_here at table (before at past) ∙ ap has_app_row (h.4.lines ∙ ap (λ s. s.lines) h.1.rest)) sees
-offer_sees fresh past at k (Readable sdp) old new kept kept' (Refused (RemoteSdp why)) (Some table) made said h sees = sees_still fresh past _ at old new (keeps_by old new (ap side_parts h.0.1)) refl sees
-offer_sees fresh past at k (Readable sdp) old new kept kept' (Refused (SdpRefused error)) (Some table) made said h sees = sees_still fresh past _ at old new (keeps_by old new (ap side_parts h.0.1)) refl sees
+offer_sees fresh past at k (Readable sdp) old new kept kept' (Refused (RemoteSdp why)) (Some table) made said h sees = sees_still fresh past _ at old new (keeps_by old new (ap side_parts h.0.1.1)) refl sees
+offer_sees fresh past at k (Readable sdp) old new kept kept' (Refused (SdpRefused error)) (Some table) made said h sees = sees_still fresh past _ at old new (keeps_by old new (ap side_parts h.0.1.1)) refl sees
 offer_sees fresh past at k (Readable sdp) old new kept kept' (Refused (Dtls Fault)) (Some table) made said h sees = sees_broken fresh past _ at old new h.0.1.breaks.lite (broken_start (lent old) new _ _ h.0.1.breaks) (here_breaks at true refl) refl sees
 offer_sees fresh past at k (Readable sdp) old new kept kept' (Refused (Sctp error)) (Some table) made said h sees = sees_broken fresh past _ at old new h.0.2.breaks.lite (broken_start (lent old) new _ _ h.0.2.breaks) (here_breaks at (is_fault (Sctp error)) (fault_breaks error h.0.0)) refl sees
 offer_sees fresh past at k (Readable sdp) old new kept kept' (Refused PeerAlloc) (Some table) made said h sees = sees_broken fresh past _ at old new h.0.breaks.lite (broken_start (lent old) new _ _ h.0.breaks) (here_breaks at true refl) refl sees
@@ -147,6 +147,7 @@ offer_sees fresh past at k (Readable sdp) old new kept kept' (Refused ChangesOut
 offer_sees fresh past at k (Readable sdp) old new kept kept' (Refused (Net cause)) (Some table) made said h sees = absurd h.0
 offer_sees fresh past at k (Readable sdp) old new kept kept' (Refused (MediaFailed cause)) (Some table) made said h sees = absurd h.0
 offer_sees fresh past at k (Readable sdp) old new kept kept' (Refused BadChannel) (Some table) made said h sees = absurd h.0
+offer_sees fresh past at k (Readable sdp) old new kept kept' (Refused Glare) (Some table) made said h sees = sees_still fresh past _ at old new (keeps_by old new (ap side_parts h.0.1)) refl sees
 offer_sees fresh past at k offer old new kept kept' outcome table made said h sees = absurd h
 
 answer_sees : {E : Type 0} → (fresh : Stances) (past : List (Entry E)) (at : Side) (t a : ℕ) (token : Option PendingOffer) (sdp : Signalled) (old new : Stance) (kept kept' : List Kept) (outcome : Outcome E) (table : Option Table) (made : List MadeSdp)
@@ -191,6 +192,7 @@ answer_sees fresh past at t a (Some token) (Readable sdp) old new kept kept' (Re
 answer_sees fresh past at t a (Some token) (Readable sdp) old new kept kept' (Refused (Net cause)) (Some table) made said inits h sees = absurd h.0
 answer_sees fresh past at t a (Some token) (Readable sdp) old new kept kept' (Refused (MediaFailed cause)) (Some table) made said inits h sees = absurd h.0
 answer_sees fresh past at t a (Some token) (Readable sdp) old new kept kept' (Refused BadChannel) (Some table) made said inits h sees = absurd h.0
+answer_sees fresh past at t a (Some token) (Readable sdp) old new kept kept' (Refused Glare) (Some table) made said inits h sees = absurd h.0
 answer_sees fresh past at t a token sdp old new kept kept' outcome table made said inits h sees = absurd h
 
 acts_see : {E : Type 0} → (fresh : Stances) (past : List (Entry E)) (old new : PairStance) (step : Step) (outcome : Outcome E) (table : Option Table) (made : List MadeSdp) → Tells past old

@@ -1,6 +1,7 @@
 -- What an acting peer tells of its parts: of the faults that its DTLS part, its association and its media part count, and of the lines
 -- of its media part.
 use Rattle.std.proofs.Common.{subst, ◌≡◌, ◌≤◌, ◌∙◌, ◌⊎◌, ℕ, List, Bool, true, false, not, ◌&&◌, Option, Some, None, Result, Ok, Err, refl, sym, ap, arith}
+use Rattle.rtc_wire.specs.declared.addr.Addr.{Addr}
 use Rattle.rtc_io.specs.Faults.{Rose}
 use Rattle.rtc_part_dtls.specs.declared.dtls_error.DtlsError.TheVariants.{WouldBlock, Fault, Alloc as DtlsAlloc}
 use Rattle.rtc_part_dtls.specs.DtlsState.{DtlsState}
@@ -18,7 +19,7 @@ use Rattle.rtc_change.specs.TableAfter.{table_after}
 use Rattle.rtc_peer_rows.specs.ParsedLines.{parsed_lines}
 use Rattle.rtc_peer_core.specs.declared.peer.Peer.{Peer}
 use Rattle.rtc_peer_core.specs.declared.rtc_error.RtcError.{RtcError}
-use Rattle.rtc_peer_core.specs.declared.rtc_error.RtcError.TheVariants.{Net, Media as MediaFailed}
+use Rattle.rtc_peer_core.specs.declared.rtc_error.RtcError.TheVariants.{Net, Media as MediaFailed, Glare}
 use Rattle.rtc_peer_core.specs.declared.rtc_error.RtcError.TheVariants.{RemoteSdp, Sdp as SdpRefused, Dtls, Sctp, ChangesOutOfOrder, BadChannel, Alloc as PeerAlloc}
 use Rattle.rtc_peer_core.specs.Acceptances.{StartsBySdp, AcceptsOffer, AcceptsAnswer}
 use Rattle.rtc_peer_core.specs.MadeSdp.{role_after}
@@ -32,7 +33,7 @@ use Rattle.rtc_run_history.specs.Signalled.{Signalled, NotMade, Unreadable, Read
 use Rattle.rtc_run_history.specs.declared.side.Side.{Side}
 use Rattle.rtc_run_history.specs.declared.op.Op.{Op}
 use Rattle.rtc_run_history.specs.declared.step.Step.{Step}
-use Rattle.rtc_run_history.specs.declared.step.Step.TheVariants.{Negotiate, AcceptOffer, AcceptAnswer, Time, Datagram, Poll, Drain, Write, CloseChannel, Close}
+use Rattle.rtc_run_history.specs.declared.step.Step.TheVariants.{Negotiate, AcceptOffer, AcceptAnswer, Time, Datagram, Poll, Drain, Write, CloseChannel, Close, Rollback, ForeignOffer, ForeignAnswer, Raw}
 use Rattle.rtc_run_history.specs.declared.outcome.Outcome.{Outcome}
 use Rattle.rtc_run_history.specs.declared.outcome.Outcome.TheVariants.{Negotiated, Answered, Finished, Refused, NoSuch, Alloc}
 use Rattle.rtc_run_history.specs.declared.table.Table.{Table}
@@ -130,8 +131,8 @@ module _ {I D S M E X T W N : Type 0} (m : Meanings I D S M E X T W N) (laws : P
       (sdp_later p true offer (offer_halves m p offer) (Ok tt) q.sctp h.sctp_starts) (updated_later m laws.media p.media q.media _ h.media_updated))
 
   offer_refused : (p q : Peer I D S M N) (offer : Sdp) (error : RtcError) → AcceptsOffer m p offer (Err error) q → IsSoundOfSide p true (Refused error) q
-  offer_refused p q offer (RemoteSdp why) h = refused p q (RemoteSdp why) (λ part. refl) (ap counting_parts h.1)
-  offer_refused p q offer (SdpRefused error) h = refused p q (SdpRefused error) (λ part. refl) (ap counting_parts h.1)
+  offer_refused p q offer (RemoteSdp why) h = refused p q (RemoteSdp why) (λ part. refl) (ap counting_parts h.1.1)
+  offer_refused p q offer (SdpRefused error) h = refused p q (SdpRefused error) (λ part. refl) (ap counting_parts h.1.1)
   offer_refused p q offer (Dtls Fault) h = record {
     later = by_part (λ part. faults_of m part p ≤ faults_of m part q) (start_later m.dtls laws.dtls p.dtls q.dtls _ _ _ _ h.dtls_fails)
         (same_sctp p q (ap (λ (r : Peer I D S M N). r.sctp.association) h.rest)) (prepared_later m laws.media p.media q.media _ (Ok tt) h.media_prepared);
@@ -152,6 +153,7 @@ module _ {I D S M E X T W N : Type 0} (m : Meanings I D S M E X T W N) (laws : P
   offer_refused p q offer (Net cause) h = absurd h
   offer_refused p q offer (MediaFailed cause) h = absurd h
   offer_refused p q offer BadChannel h = absurd h
+  offer_refused p q offer Glare h = refused p q Glare (λ part. refl) (ap counting_parts h.1)
   offer_refused p q offer PeerAlloc h = record {
     later = by_part (λ part. faults_of m part p ≤ faults_of m part q)
         (stop_later m.dtls laws.dtls p.dtls q.dtls _ _ (stopped_dtls m (record p { counter = raised p.counter }) _ _ _ _ _ _ q h.stops))
@@ -189,6 +191,7 @@ module _ {I D S M E X T W N : Type 0} (m : Meanings I D S M E X T W N) (laws : P
   answer_refused p q token answer (Net cause) h = absurd h
   answer_refused p q token answer (MediaFailed cause) h = absurd h
   answer_refused p q token answer BadChannel h = absurd h
+  answer_refused p q token answer Glare h = absurd h
   answer_refused p q token answer PeerAlloc h = record {
     later = by_part (λ part. faults_of m part p ≤ faults_of m part q)
         (stop_later m.dtls laws.dtls p.dtls q.dtls _ _ (stopped_dtls m p _ _ _ _ _ _ q h.stops))
@@ -257,23 +260,23 @@ module _ {I D S M E X T W N : Type 0} (m : Meanings I D S M E X T W N) (laws : P
   }
 
   -- What a step tells of the parts of the peer that acts.
-  pub acts_side : (stun : List ℕ → Bool) (step : Step) (old : PolledPeer I D S M N) (sdps : List Kept) (packets : List SentPacket) (outcome : Outcome E) (table : Option Table)
+  pub acts_side : (stun : List ℕ → Bool) (other own : Addr) (step : Step) (old : PolledPeer I D S M N) (sdps : List Kept) (packets : List SentPacket) (outcome : Outcome E) (table : Option Table)
       (new : PolledPeer I D S M N) (sdps' : List Kept) (packets' : List SentPacket)
-      → Acts m stun step old sdps packets outcome table new sdps' packets' → IsSoundOfSide old.core (refuses_sdp step outcome) outcome new.core
-  acts_side stun (Negotiate at ops apply) old sdps packets outcome table new sdps' packets' h = negotiate_side at ops apply old.core sdps outcome table new.core sdps' h.0
-  acts_side stun (AcceptOffer at k) old sdps packets outcome table new sdps' packets' h =
+      → Acts m stun other own step old sdps packets outcome table new sdps' packets' → IsSoundOfSide old.core (refuses_sdp step outcome) outcome new.core
+  acts_side stun other own (Negotiate at ops apply) old sdps packets outcome table new sdps' packets' h = negotiate_side at ops apply old.core sdps outcome table new.core sdps' h.0
+  acts_side stun other own (AcceptOffer at k) old sdps packets outcome table new sdps' packets' h =
       offer_side at (kept_remote_sdp true sdps at k) old.core sdps outcome table new.core sdps' h.0
-  acts_side stun (AcceptAnswer at t a) old sdps packets outcome table new sdps' packets' h =
+  acts_side stun other own (AcceptAnswer at t a) old sdps packets outcome table new sdps' packets' h =
       answer_side t (held_token sdps at t) (kept_remote_sdp false sdps at a) old.core sdps outcome table new.core sdps' h.0
-  acts_side stun (Time at now) old sdps packets outcome table new sdps' packets' h = rest_side old new outcome (time_goes m laws now old outcome table new h.0)
-  acts_side stun (Datagram at packet now) old sdps packets outcome table new sdps' packets' h =
+  acts_side stun other own (Time at now) old sdps packets outcome table new sdps' packets' h = rest_side old new outcome (time_goes m laws now old outcome table new h.0)
+  acts_side stun other own (Datagram at packet now) old sdps packets outcome table new sdps' packets' h =
       rest_side old new outcome (datagram_goes m laws stun (remote_packet packets at packet) now old outcome table new h.0)
-  acts_side stun (Poll at) old sdps packets outcome table new sdps' packets' h =
+  acts_side stun other own (Poll at) old sdps packets outcome table new sdps' packets' h =
       rest_side old new outcome (polls_go m laws (PollsOnce m at old) old (λ kept outputs end q kept'. once_goes m laws at old kept outputs end q kept') packets outcome table new packets' h.0)
-  acts_side stun (Drain at) old sdps packets outcome table new sdps' packets' h =
+  acts_side stun other own (Drain at) old sdps packets outcome table new sdps' packets' h =
       rest_side old new outcome (polls_go m laws (DrainsPeer m at old) old (λ kept outputs end q kept'. drains_go m laws at old kept outputs end q kept') packets outcome table new packets' h.0)
-  acts_side stun (Write at channel binary bytes) old sdps packets outcome table new sdps' packets' h =
+  acts_side stun other own (Write at channel binary bytes) old sdps packets outcome table new sdps' packets' h =
       rest_side old new outcome (write_goes m laws (open_stream_under channel old) binary bytes old outcome table new h.0)
-  acts_side stun (CloseChannel at channel) old sdps packets outcome table new sdps' packets' h =
+  acts_side stun other own (CloseChannel at channel) old sdps packets outcome table new sdps' packets' h =
       rest_side old new outcome (close_channel_goes m laws (open_stream_under channel old) channel old outcome table new h.0)
-  acts_side stun (Close at) old sdps packets outcome table new sdps' packets' h = rest_side old new outcome (shut_goes m laws old outcome table new h.0)
+  acts_side stun other own (Close at) old sdps packets outcome table new sdps' packets' h = rest_side old new outcome (shut_goes m laws old outcome table new h.0)

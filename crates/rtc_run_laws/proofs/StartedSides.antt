@@ -14,7 +14,7 @@ use Rattle.rtc_change.specs.TableAfter.{table_after}
 use Rattle.rtc_change.specs.declared.change.Change.{Change}
 use Rattle.rtc_peer_core.specs.SdpHalves.{tells_half, kept_told}
 use Rattle.rtc_peer_core.specs.Stance.{Stance, held_by}
-use Rattle.rtc_peer_core.specs.declared.rtc_error.RtcError.TheVariants.{Net, Media as MediaFailed}
+use Rattle.rtc_peer_core.specs.declared.rtc_error.RtcError.TheVariants.{Net, Media as MediaFailed, Glare}
 use Rattle.rtc_peer_core.specs.declared.rtc_error.RtcError.TheVariants.{RemoteSdp, Sdp as SdpRefused, Dtls, Sctp, ChangesOutOfOrder, BadChannel, Alloc as PeerAlloc}
 use Rattle.rtc_peer_core.proofs.StanceCalls.{Breaks, inited_after, begun_by, stance_alone}
 use Rattle.rtc_run_history.specs.Signalled.{Signalled, NotMade, Unreadable, Readable}
@@ -25,7 +25,7 @@ use Rattle.rtc_run_history.specs.declared.op_answer.OpAnswer.{OpAnswer}
 use Rattle.rtc_run_history.specs.declared.made.Made.{Made}
 use Rattle.rtc_run_history.specs.declared.made.Made.TheVariants.{NotAsked, Nothing, Offer, Alloc as MadeAlloc}
 use Rattle.rtc_run_history.specs.declared.step.Step.{Step}
-use Rattle.rtc_run_history.specs.declared.step.Step.TheVariants.{Negotiate, AcceptOffer, AcceptAnswer, Time, Datagram, Poll, Drain, Write, CloseChannel, Close}
+use Rattle.rtc_run_history.specs.declared.step.Step.TheVariants.{Negotiate, AcceptOffer, AcceptAnswer, Time, Datagram, Poll, Drain, Write, CloseChannel, Close, Rollback, ForeignOffer, ForeignAnswer, Raw}
 use Rattle.rtc_run_history.specs.declared.outcome.Outcome.{Outcome}
 use Rattle.rtc_run_history.specs.declared.outcome.Outcome.TheVariants.{Negotiated, Answered, Finished, Refused, NoSuch, Alloc}
 use Rattle.rtc_run_history.specs.declared.table.Table.{Table}
@@ -146,9 +146,9 @@ offer_told at (Readable sdp) old new kept kept' (Answered n) (Some table) h rows
     accepted_told old new (table_after old.lines (parsed_lines sdp) true) h.1.halves false (ap (λ (x : Stance). x.lines) h.1.rest)
     (ap (λ (x : Stance). x.inited) h.1.rest) (ap (λ (x : Stance). x.snap) h.1.rest) (app_stays (held_by (lent old)) None sdp rows h.1.passes) told
 offer_told at (Readable sdp) old new kept kept' (Refused (RemoteSdp why)) (Some table) h rows told =
-    told_alike old new (ap (λ (x : Stance). has_app_row x.lines) h.0.1) (ap (λ (x : Stance). x.inited) h.0.1) (ap (λ (x : Stance). x.snap) h.0.1) told
+    told_alike old new (ap (λ (x : Stance). has_app_row x.lines) h.0.1.1) (ap (λ (x : Stance). x.inited) h.0.1.1) (ap (λ (x : Stance). x.snap) h.0.1.1) told
 offer_told at (Readable sdp) old new kept kept' (Refused (SdpRefused error)) (Some table) h rows told =
-    told_alike old new (ap (λ (x : Stance). has_app_row x.lines) h.0.1) (ap (λ (x : Stance). x.inited) h.0.1) (ap (λ (x : Stance). x.snap) h.0.1) told
+    told_alike old new (ap (λ (x : Stance). has_app_row x.lines) h.0.1.1) (ap (λ (x : Stance). x.inited) h.0.1.1) (ap (λ (x : Stance). x.snap) h.0.1.1) told
 offer_told at (Readable sdp) old new kept kept' (Refused (Dtls Fault)) (Some table) h rows told = broken_told (lent old) new _ _ h.0.1.breaks (lent_told old told)
 offer_told at (Readable sdp) old new kept kept' (Refused (Sctp error)) (Some table) h rows told = broken_told (lent old) new _ _ h.0.2.breaks (lent_told old told)
 offer_told at (Readable sdp) old new kept kept' (Refused PeerAlloc) (Some table) h rows told = broken_told (lent old) new _ _ h.0.breaks (lent_told old told)
@@ -158,6 +158,8 @@ offer_told at (Readable sdp) old new kept kept' (Refused ChangesOutOfOrder) (Som
 offer_told at (Readable sdp) old new kept kept' (Refused (Net cause)) (Some table) h rows told = absurd h.0
 offer_told at (Readable sdp) old new kept kept' (Refused (MediaFailed cause)) (Some table) h rows told = absurd h.0
 offer_told at (Readable sdp) old new kept kept' (Refused BadChannel) (Some table) h rows told = absurd h.0
+offer_told at (Readable sdp) old new kept kept' (Refused Glare) (Some table) h rows told =
+    told_alike old new (ap (λ (x : Stance). has_app_row x.lines) h.0.1) (ap (λ (x : Stance). x.inited) h.0.1) (ap (λ (x : Stance). x.snap) h.0.1) told
 offer_told at offer old new kept kept' outcome table h rows told = absurd h
 
 answer_told : {E : Type 0} → (t : ℕ) (token : Option PendingOffer) (answer : Signalled) (old new : Stance) (kept kept' : List Kept) (outcome : Outcome E) (table : Option Table)
@@ -191,6 +193,7 @@ answer_told t (Some token) (Readable sdp) old new kept kept' (Refused (Dtls Dtls
 answer_told t (Some token) (Readable sdp) old new kept kept' (Refused (Net cause)) (Some table) h rows told = absurd h.0
 answer_told t (Some token) (Readable sdp) old new kept kept' (Refused (MediaFailed cause)) (Some table) h rows told = absurd h.0
 answer_told t (Some token) (Readable sdp) old new kept kept' (Refused BadChannel) (Some table) h rows told = absurd h.0
+answer_told t (Some token) (Readable sdp) old new kept kept' (Refused Glare) (Some table) h rows told = absurd h.0
 answer_told t token answer old new kept kept' outcome table h rows told = absurd h
 
 rest_told : (old new : Stance) → new ≡ record old { channels = new.channels; rows = new.rows } → IsStartTold old → IsStartTold new
