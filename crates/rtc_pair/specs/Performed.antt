@@ -10,7 +10,7 @@ use Rattle.rtc_run_history.specs.declared.step.Step.{Step}
 use Rattle.rtc_run_history.specs.Memory.{lacks_memory, tell_fault}
 use Rattle.rtc_run_history.specs.DrawnInRuns.{AllPlain, DrawsUnused}
 use Rattle.rtc_run_history.specs.Fresh.{ArePeersFormed}
-use Rattle.rtc_run_history.specs.Native.{are_native}
+use Rattle.rtc_run_history.specs.Native.{go_forward}
 use Rattle.rtc_run_history.specs.Runs.{Runs}
 use Rattle.rtc_run_history.specs.Signalled.{AllReadBack}
 use Rattle.rtc_plain_ice.specs.Messages.{is_ice_message}
@@ -57,8 +57,8 @@ pub record RanScript (alloc : Global) (script : Script) (replies : List (Reply P
   pub read_back : AllReadBack pair.sdps
   pub plain : DrawsUnused plain_parts is_ice_message start script.steps replies pair runs → AllPlain pair.sdps
   pub no_fault : tell_fault replies ≡ false
-  pub channels : are_native script.steps ≡ true → HandsOut counting is_ice_message start script.steps replies pair runs
-  pub settles : are_native script.steps ≡ true → SettlesOpen counting is_ice_message start script.steps replies pair runs
+  pub channels : go_forward script.steps ≡ true → HandsOut counting is_ice_message start script.steps replies pair runs
+  pub settles : go_forward script.steps ≡ true → SettlesOpen counting is_ice_message start script.steps replies pair runs
 
 -- This text is the report of a run of a script.
 pub record IsReport (alloc : Global) (script : Script) (text : List ℕ) : Type 0 where

@@ -1,5 +1,5 @@
 -- An offer that is rolled back leaves the use of each stream, and each channel that does not go.
-use Rattle.std.proofs.Common.{◌≡◌, ◌≤◌, ◌⊎◌, inl, inr, ℕ, List, [], Some, Result, Ok, Err, refl, sym, ap, subst, ◌∙◌}
+use Rattle.std.proofs.Common.{◌≡◌, ◌≤◌, ◌⊎◌, inl, inr, ℕ, List, [], Some, Result, Ok, Err, sym, ap, subst, ◌∙◌}
 use Rattle.rtc_wire.specs.declared.channel_config.ChannelConfig.{ChannelConfig}
 use Rattle.rtc_change.specs.PendingOffer.{PendingOffer, new_channels}
 use Rattle.rtc_channels.specs.Channels.{Channels}
@@ -17,9 +17,7 @@ use Rattle.rtc_sctp_laws.specs.StreamUses.{IsLive}
 use Rattle.rtc_peer_laws.specs.Acts.{with_core}
 use Rattle.rtc_peer_laws.specs.ChannelStreams.{AreNumberedChannels, IsGone, IsLiveChannel}
 use Rattle.rtc_peer_laws.specs.KeptChannels.{CallKeepsStreams, CallLeavesStreams}
-use Rattle.rtc_peer_laws.specs.RowsChanged.{Cancelled}
 use Rattle.rtc_peer_laws.proofs.CancelledChannels.{cancelled_given, cancelled_gone, cancelled_numbers, cancelled_over}
-use Rattle.rtc_peer_laws.proofs.ChangedRows.{no_acts, one_changed}
 use Rattle.rtc_peer_laws.proofs.KeptCalls.{kept_same}
 use Rattle.rtc_peer_laws.proofs.KeptPeers.{same_kept}
 use Rattle.rtc_peer_laws.proofs.StreamsJoin.{same_given}
@@ -36,7 +34,6 @@ module _ {I D S M E X T W N : Type 0} (m : Meanings I D S M E X T W N) where
     running = h.running;
     given = h.given;
     fresh = h.fresh;
-    changed = h.changed;
   }
 
   -- a live channel stays over its stream, or goes
@@ -69,10 +66,6 @@ module _ {I D S M E X T W N : Type 0} (m : Meanings I D S M E X T W N) where
             subst (λ (x : Channels). p.core.channels.given ≤ x.given) (sym is)
             (same_given p.core.channels.given (all_cancelled channels p.core.channels).given (cancelled_given channels p.core.channels));
         fresh = kept.fresh;
-        changed =
-            inr
-            (one_changed m.association p.core.channels p.core.sctp core.channels core.sctp
-            (Cancelled channels is (no_acts m.association p.core.sctp p.core.sctp core.sctp sctp refl refl refl)));
       }
 
   pub rolled_back : (p : PolledPeer I D S M N) (token : PendingOffer) (r : Result (Unit {0}) RtcError) (core : Peer I D S M N)

@@ -17,7 +17,7 @@ use Rattle.rtc_sctp.specs.Polls.{PollsStreams}
 use Rattle.rtc_sctp_laws.specs.GenerationLaws.{OpenAndReadNone}
 use Rattle.rtc_channels.specs.Allocation.{channel_ensured}
 use Rattle.rtc_channels.specs.Channels.{Channels, all_confirmed, with_channel}
-use Rattle.rtc_channels.specs.Holds.{all_cancelled, removed_channel}
+use Rattle.rtc_channels.specs.Holds.{removed_channel}
 use Rattle.rtc_channels.specs.Openings.{MeetsMoment}
 use Rattle.rtc_peer_polling.specs.StreamStages.{channel_over}
 
@@ -71,7 +71,7 @@ module _ {S : Type 0} (m : AssociationMeaning S) where
 
   -- One change of channels and of the entries of their streams: none; a poll of the streams, with what becomes of their channels; a moment
   -- that the streams take, and one that the channels take behind them; a threshold that is set; a stream that is closed from here; channels
-  -- that are confirmed, and one that is added; channels that go with an offer that is rolled back.
+  -- that are confirmed, and one that is added.
   pub data RowsChange (held : Channels) (a : SctpStreams S) (held' : Channels) (b : SctpStreams S) : Type 0 where
     Stayed : SameRows held held' → OnlyActs a b → RowsChange held a held' b
     Polled : (answer : Result (Option SctpEvent) AllocError) (streams : SctpStreams S) → PollsStreams m a answer streams
@@ -88,7 +88,6 @@ module _ {S : Type 0} (m : AssociationMeaning S) where
         → RowsChange held a held' b
     Confirmed : (channels : List (ℕ × ChannelConfig)) → held' ≡ all_confirmed channels held → OnlyActs a b → RowsChange held a held' b
     Made : (config : ChannelConfig) → held' ≡ with_channel held config → OnlyActs a b → RowsChange held a held' b
-    Cancelled : (channels : List (ℕ × ChannelConfig)) → held' ≡ all_cancelled channels held → OnlyActs a b → RowsChange held a held' b
 
   -- so many changes, one after the other
   abbrev pub ChangeRows : ℕ → Channels → SctpStreams S → Channels → SctpStreams S → Type 0
@@ -100,12 +99,11 @@ module _ {S : Type 0} (m : AssociationMeaning S) where
     pub changes : ℕ
     pub changed : ChangeRows changes held a held' b
 
-  -- a change confirms no channel, adds none, and cancels none
+  -- a change confirms no channel, and adds none
   abbrev pub ConfirmsNone : (held : Channels) (a : SctpStreams S) (held' : Channels) (b : SctpStreams S)
       → RowsChange held a held' b → Type 0
   ConfirmsNone held a held' b (Confirmed channels is h) = ⊥
   ConfirmsNone held a held' b (Made config is h) = ⊥
-  ConfirmsNone held a held' b (Cancelled channels is h) = ⊥
   ConfirmsNone held a held' b change = Unit {0}
 
   -- so many such changes, one after the other

@@ -5,9 +5,9 @@ use Rattle.rtc_channels.specs.declared.channel_row.ChannelRow.{ChannelRow}
 use Rattle.rtc_run_history.specs.Signalled.{Signalled, NotMade, Unreadable, Readable, foreign}
 use Rattle.rtc_sdp_values.specs.declared.sdp_error.SdpError.TheVariants.{Parse}
 use Rattle.rtc_run_history.specs.Views.{Stances, view_in, tells_init, init_told_by}
-use Rattle.std.proofs.Common.{not, ◌≡◌, ◌≢◌, ◌≤◌, ◌<◌, ◌+◌, ◌^◌, ◌==◌, ℕ, List, [], ◌∷◌, length, Bool, true, false, ◌&&◌, Option, Some, None, refl, sym, ◌∙◌, ap, arith}
-use Rattle.std.specs.Prelude.{slice_get, slice_set, is_some, option_map}
-use Rattle.std.proofs.lemmas.Bool.{and_right, eq-eqb, ne_eqb}
+use Rattle.std.proofs.Common.{◌≡◌, ◌≢◌, ◌≤◌, ◌<◌, ◌+◌, ◌^◌, ◌==◌, ℕ, List, length, Bool, true, false, Option, Some, None, refl, sym, ◌∙◌, ap, arith}
+use Rattle.std.specs.Prelude.{slice_get, is_some, option_map}
+use Rattle.std.proofs.lemmas.Bool.{eq-eqb, ne_eqb}
 use Rattle.rtc_sdp_values.specs.declared.line_row.LineRow.{LineRow}
 use Rattle.rtc_change.specs.Held.{Held, Asked}
 use Rattle.rtc_change.specs.PendingOffer.{PendingOffer, added_rows, staged_restart}
@@ -16,7 +16,7 @@ use Rattle.rtc_peer_core.specs.Stance.{Stance}
 use Rattle.rtc_peer_core.specs.declared.rtc_error.RtcError.{RtcError}
 use Rattle.rtc_peer_core.specs.declared.rtc_error.RtcError.TheVariants.{Net, Media as MediaFailed}
 use Rattle.rtc_peer_core.specs.declared.rtc_error.RtcError.TheVariants.{RemoteSdp, Sdp as SdpRefused, Dtls, Sctp, ChangesOutOfOrder, BadChannel, Alloc as PeerAlloc, Glare}
-use Rattle.rtc_peer_core.specs.Calls.{raised, fitting_channels}
+use Rattle.rtc_peer_core.specs.Calls.{raised}
 use Rattle.rtc_run_history.specs.declared.side.Side.{Side}
 use Rattle.rtc_run_history.specs.declared.step.Step.TheVariants.{AcceptAnswer, ForeignAnswer}
 use Rattle.rtc_run_history.specs.declared.outcome.Outcome.{Outcome}
@@ -25,16 +25,10 @@ use Rattle.rtc_run_history.specs.declared.table.Table.{Table}
 use Rattle.rtc_run_history.specs.Past.{Entry, MadeSdp, before, channels_shown, remote_sdp, holds_token, is_right, restarts_by, sdps}
 use Rattle.rtc_run_history.specs.Sound.{RepliesToAnswer, IsSound, asked_in}
 use Rattle.rtc_run_history.specs.declared.kept.Kept.{Kept}
-use Rattle.rtc_run_history.specs.PairState.{made_sdp, token_for, held_token, spent}
-use Rattle.rtc_wire.specs.declared.channel_config.ChannelConfig.{ChannelConfig}
-use Rattle.rtc_channels.specs.Channels.{Channels, all_confirmed}
-use Rattle.rtc_run_laws.proofs.UnreadSdps.{peer_reads, uncalled_unread}
-use Rattle.rtc_run_laws.proofs.NumberedChannels.{AreNumbered, same_numbers, all_confirmed_numbered}
-use Rattle.rtc_run_laws.proofs.Tells.{Tells, ChannelsTell, TokenTells, raised-small}
-use Rattle.rtc_run_laws.proofs.TokenEntries.{bare, spent_tells}
-use Rattle.rtc_run_laws.proofs.Around.{Around, entry, goes_on, channels_next, quiet_tells}
+use Rattle.rtc_run_history.specs.PairState.{made_sdp, token_for}
+use Rattle.rtc_run_laws.proofs.Tells.{TokenTells, raised-small}
 use Rattle.rtc_run_laws.proofs.OfferSteps.{shown_by}
-use Rattle.rtc_run_laws.proofs.StanceSteps.{lent, PairStance, StanceShows, StanceStepAcceptsAnswer}
+use Rattle.rtc_run_laws.proofs.StanceSteps.{StanceStepAcceptsAnswer}
 
 -- the same of equal tokens and views
 answer_by : {E : Type 0} → (held held' right right' : Bool) (asked asked' : Asked) (sdp : Signalled) (view view' : Held) (outcome : Outcome E) (after : List LineRow)

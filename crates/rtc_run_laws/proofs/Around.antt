@@ -8,7 +8,7 @@ use Rattle.rtc_run_history.specs.declared.step.Step.{Step}
 use Rattle.rtc_run_history.specs.declared.step.Step.TheVariants.{Negotiate, AcceptOffer, AcceptAnswer, Time, Datagram, Poll, Drain, Write, CloseChannel, Close, Rollback, ForeignOffer, ForeignAnswer, Raw}
 use Rattle.rtc_run_history.specs.declared.outcome.Outcome.{Outcome}
 use Rattle.rtc_run_history.specs.declared.table.Table.{Table}
-use Rattle.rtc_run_history.specs.Sides.{same_side, other_side, side_of}
+use Rattle.rtc_run_history.specs.Sides.{other_side, side_of}
 use Rattle.rtc_run_history.specs.Sizes.{step_size}
 use Rattle.rtc_run_history.specs.Past.{Entry, MadeSdp, before, channels_shown, channel_rows_or, numbers_in, numbers_told, numbers_or, rows_or, sdps, sdp_for, remote_sdp, spends, moves, makes}
 use Rattle.rtc_run_history.specs.Signalled.{signalled_if}

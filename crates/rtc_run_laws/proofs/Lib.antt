@@ -36,6 +36,11 @@ pub mod OfferTells
 pub mod AnswerSteps
 pub mod AnswerTells
 pub mod RollbackSteps
+pub mod KeptTexts
+pub mod Outstands
+pub mod OutstandingSteps
+pub mod NegotiationOut
+pub mod UndoneSteps
 pub mod OfferApps
 pub mod NegotiateSteps
 pub mod SaidSdps
@@ -46,6 +51,7 @@ pub mod FinishedRows
 pub mod AnswerCounts
 pub mod SoundPasts
 pub mod SeenSides
+pub mod SeenTexts
 pub mod SeenSteps
 pub mod PastTables
 pub mod PastOffers
@@ -68,6 +74,7 @@ pub mod OrderlyOps
 pub mod OrderlyPasts
 pub mod KeptApps
 pub mod StartHalves
+pub mod RestoredApps
 pub mod StartedSides
 pub mod SideRounds
 pub mod SideRoundSteps
@@ -78,6 +85,7 @@ pub mod OrderlySounds
 pub mod StanceRuns
 pub mod CarriedLines
 pub mod TakenLines
+pub mod ReadTaken
 pub mod ChunkTexts
 pub mod RowLines
 pub mod PlainSdps
@@ -91,6 +99,8 @@ pub mod PlainRuns
 pub mod ReadFacts
 mod StartFacts
 pub mod Reaches
+pub mod OutstandingRuns
+mod ForwardSteps
 pub mod CountedFaults
 pub mod StreamFaults
 pub mod MediaFaults

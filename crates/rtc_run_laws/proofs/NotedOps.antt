@@ -1,12 +1,12 @@
 -- The rows that ops set or stop are noted as they were before the step, so that they can be undone.
-use Rattle.std.proofs.Common.{◌≡◌, ◌+◌, ◌==◌, ◌||◌, ℕ, zero, suc, Bool, true, false, cond, List, [], ◌∷◌, ◌++◌, Option, Some, None, Ok, refl, sym, ◌∙◌, ap, subst, arith, append-nil, append_assoc, map}
+use Rattle.std.proofs.Common.{◌≡◌, ◌+◌, ◌==◌, ◌||◌, ℕ, zero, suc, Bool, true, false, cond, List, [], ◌∷◌, ◌++◌, Option, Some, None, Ok, refl, sym, ◌∙◌, ap, subst, arith, append-nil, append_assoc}
 use Rattle.std.specs.Prelude.{slice_get, is_some}
 use Rattle.std.specs.Str.{bytes_eq}
-use Rattle.std.proofs.lemmas.Bool.{eq-eqb, eqb-true, or_parts, both_ways, false_from_ne_true, or_from}
+use Rattle.std.proofs.lemmas.Bool.{eq-eqb, eqb-true, or_parts, both_ways, false_from_ne_true}
 use Rattle.std.proofs.lemmas.List.{map-append}
 use Rattle.std.proofs.lemmas.List.Folds.{list_any-append}
 use Rattle.std.proofs.lemmas.Slice.Eq.{bytes_eq-Decides}
-use Rattle.rtc_sdp_values.specs.LineRow.{row_mid, row_place}
+use Rattle.rtc_sdp_values.specs.LineRow.{row_place}
 use Rattle.rtc_sdp_values.specs.Mids.{is_among}
 use Rattle.rtc_sdp_values.specs.declared.direction.Direction.{Direction}
 use Rattle.rtc_sdp_values.specs.declared.direction.Direction.TheVariants.{Inactive}
@@ -18,7 +18,7 @@ use Rattle.rtc_peer_rows.specs.Table.{IsTable, Rising, row_of}
 use Rattle.rtc_peer_rows.proofs.RowChangeLemmas.{AreAlike, KeepsRow, alike_self, changed_of_alike, directed_row_keeps, stopped_row_keeps, table_alike}
 use Rattle.rtc_peer_core.specs.Calls.{noted_of}
 use Rattle.rtc_peer_core.specs.Stance.{Stance}
-use Rattle.rtc_peer_core.specs.Undo.{RowBefore, noted, undo_mids}
+use Rattle.rtc_peer_core.specs.Undo.{RowBefore, undo_mids}
 use Rattle.rtc_peer_core.proofs.StanceCalls.{StanceChangesLine}
 use Rattle.rtc_run_history.specs.declared.op.Op.{Op}
 use Rattle.rtc_run_history.specs.declared.op.Op.TheVariants.{AddMedia, SetDirection, StopMedia, AddChannel, IceRestart}

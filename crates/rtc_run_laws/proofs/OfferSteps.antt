@@ -1,37 +1,27 @@
 -- A step that hands over an offer is sound.
 use Rattle.rtc_part_dtls.specs.declared.dtls_error.DtlsError.TheVariants.{Fault, WouldBlock, Alloc as DtlsAlloc}
 use Rattle.rtc_change.specs.Held.{Held}
+use Rattle.rtc_sdp_values.specs.declared.sdp_error.SdpError.TheVariants.{Parse}
 use Rattle.rtc_channels.specs.declared.channel_row.ChannelRow.{ChannelRow}
-use Rattle.rtc_channels.specs.Channels.{Channels}
 use Rattle.rtc_peer_core.specs.Glare.{meets_glare}
 use Rattle.rtc_peer_core.specs.Stance.{held_by}
 use Rattle.rtc_run_history.specs.Signalled.{Signalled, NotMade, Unreadable, Readable, foreign}
 use Rattle.rtc_run_history.specs.Views.{Stances, view_in}
-use Rattle.std.proofs.Common.{not, ◌≡◌, ◌+◌, ℕ, List, [], ◌∷◌, length, Bool, true, false, ◌&&◌, ◌||◌, Option, Some, None, refl, sym, ◌∙◌, ap, arith}
-use Rattle.std.proofs.lemmas.Bool.{and_left, and_right}
+use Rattle.std.proofs.Common.{◌≡◌, ℕ, List, length, Bool, true, false, Option, Some, None, refl, sym, ◌∙◌, ap}
 use Rattle.rtc_sdp_values.specs.declared.line_row.LineRow.{LineRow}
 use Rattle.rtc_peer_core.specs.Stance.{Stance}
 use Rattle.rtc_peer_core.specs.declared.rtc_error.RtcError.{RtcError}
 use Rattle.rtc_peer_core.specs.declared.rtc_error.RtcError.TheVariants.{Net, Media as MediaFailed}
 use Rattle.rtc_peer_core.specs.declared.rtc_error.RtcError.TheVariants.{RemoteSdp, Sdp as SdpRefused, ChangesOutOfOrder, BadChannel, Alloc as PeerAlloc, Dtls, Sctp, Glare}
-use Rattle.rtc_peer_core.specs.Calls.{raised}
 use Rattle.rtc_run_history.specs.declared.side.Side.{Side}
-use Rattle.rtc_run_history.specs.declared.step.Step.{Step}
 use Rattle.rtc_run_history.specs.declared.step.Step.TheVariants.{AcceptOffer, ForeignOffer}
 use Rattle.rtc_run_history.specs.declared.outcome.Outcome.{Outcome}
 use Rattle.rtc_run_history.specs.declared.outcome.Outcome.TheVariants.{Negotiated, Answered, Finished, Done, Wrote, Polled, Refused, NoSuch, Alloc}
 use Rattle.rtc_run_history.specs.declared.table.Table.{Table}
-use Rattle.rtc_run_history.specs.Sides.{same_side, other_side, side_of}
-use Rattle.rtc_run_history.specs.Past.{Entry, MadeSdp, before, channels_shown, channel_rows_or, numbers_in, rows_or, sdps, remote_sdp, supersedes, is_unread, is_glare, makes, moves, spends}
+use Rattle.rtc_run_history.specs.Past.{Entry, MadeSdp, channels_shown, sdps, remote_sdp}
 use Rattle.rtc_run_history.specs.Sound.{RepliesToOffer, IsSound, is_glare_at}
 use Rattle.rtc_run_history.specs.declared.kept.Kept.{Kept}
-use Rattle.rtc_run_history.specs.Performs.{kept_answer}
-use Rattle.rtc_run_laws.proofs.UnreadSdps.{peer_reads, uncalled_offer}
-use Rattle.rtc_run_laws.proofs.NumberedChannels.{same_numbers}
-use Rattle.rtc_run_laws.proofs.Tells.{ChannelsTell, Tells, same_side-self, same_side-other, raised-small}
-use Rattle.rtc_run_laws.proofs.Entries.{answered_tells}
-use Rattle.rtc_run_laws.proofs.Around.{Around, entry, goes_on, channels_next, quiet_tells}
-use Rattle.rtc_run_laws.proofs.StanceSteps.{PairStance, StanceShows, StanceStepAcceptsOffer, lent}
+use Rattle.rtc_run_laws.proofs.StanceSteps.{StanceShows, StanceStepAcceptsOffer}
 
 -- the same of equal SDPs, views and counts
 offer_by : {E : Type 0} → (glare glare' : Bool) (sdp : Signalled) (view view' : Held) (next next' : ℕ) (outcome : Outcome E) (after : List LineRow) → glare' ≡ glare → view' ≡ view → next' ≡ next

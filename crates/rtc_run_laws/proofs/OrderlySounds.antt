@@ -34,6 +34,7 @@ use Rattle.rtc_run_laws.proofs.SideRounds.{InRound, AreAgreed}
 use Rattle.rtc_run_laws.proofs.StartedSides.{ran_tables, ran_told, performs_told}
 use Rattle.rtc_run_laws.proofs.OrderlyRuns.{IsOnCourse, step_side}
 use Rattle.rtc_run_laws.proofs.OrderlyNext.{round_next}
+use Rattle.rtc_run_laws.proofs.OutstandingRuns.{ran_outstands}
 use Rattle.rtc_run_laws.proofs.Reaches.{around_of, step_sound, step_tells, reached_tells, reached_sees, small_before}
 
 abbrev start_course : Course
@@ -184,7 +185,8 @@ sound_next start old new past step outcome table fresh ran performs small =
     let sound : Sound start.sides past = ran_sound start past old ran in
     let rows : IsTable (before (side_of step) past) = past_table start.sides past (side_of step) sound in
     let replied : IsSound start.sides past old.sides step outcome table (made_by old new) =
-    step_sound start.sides past old new step outcome table tells (reached_sees start old past fresh reached small_old) rows performs small in
+    step_sound start.sides past old new step outcome table tells (reached_sees start old past fresh reached small_old) rows
+    (ran_outstands start old past fresh ran small_old) performs small in
     let says : MakesSdp step outcome table (made_by old new) = makes_sdp start.sides old.sides past old new step outcome table performs rows replied (sym (tells.sides (side_of step)).rows) in
     let is : IsStep start past old new step outcome table (made_by old new) = record { performs = performs; made_is = refl; small = small; replied = replied; says = says } in
     record {

@@ -155,13 +155,13 @@ stays_out fresh past e at s t kept kept' still out =
       polite = still.polite ∙ out.polite;
       outstanding = still.outstanding ∙ out.outstanding ∙ by (right_offer at past) refl ∙ ap (is_held kept' at) (sym same);
       owns = λ u is.
-      let was : right_offer at past ≡ Some u = sym same ∙ is in
-      let own = out.owns u was in
-      record { sdp = own.sdp; there = still.right u own.sdp was own.there own.own ∙ own.there; offer = own.offer; own = own.own };
+          let was : right_offer at past ≡ Some u = sym same ∙ is in
+          let own = out.owns u was in
+          record { sdp = own.sdp; there = still.right u own.sdp was own.there own.own ∙ own.there; offer = own.offer; own = own.own };
       links = λ u token there is. same ∙ out.links u token (still.held u token there) (was_right u token there is);
       undoes = λ u token there is.
-      undoes_next past e at u token s t (unmade e at kept still.beyond u token (still.held u token there)) still.alike still.unconfirmed
-      (out.undoes u token (still.held u token there) (was_right u token there is));
+          undoes_next past e at u token s t (unmade e at kept still.beyond u token (still.held u token there)) still.alike still.unconfirmed
+          (out.undoes u token (still.held u token there) (was_right u token there is));
     }
   where
     by : (right : Option ℕ) → right_offer at past ≡ right → is_held kept at right ≡ is_held kept' at right
@@ -200,8 +200,8 @@ offered_out fresh past e at s t kept kept' k moved some makes_k polite set own h
       owns = λ u is. let f : Some k ≡ Some u = sym right ∙ is in subst (IsOwnOffer kept' at) (let g : k ≡ u = cc in g) own;
       links = λ u token there is. right ∙ ap (λ (n : ℕ). Some n) (only u is);
       undoes = λ u token there is.
-      let same : k ≡ u = only u is in
-      subst (λ (n : ℕ). TokenUndoes (e ∷ past) at n token t) same (undoes token (ap (λ (n : ℕ). held_token kept' at n) same ∙ there));
+          let same : k ≡ u = only u is in
+          subst (λ (n : ℕ). TokenUndoes (e ∷ past) at n token t) same (undoes token (ap (λ (n : ℕ). held_token kept' at n) same ∙ there));
     }
   where
     right_of : {u : ℕ} → makes u e.outcome ≡ (k == u) → is_right at u (e ∷ past) ≡ ((k == u) || false)
@@ -222,7 +222,7 @@ ended_out fresh past e at s t kept kept' k still unmade was right gone own polit
       owns = λ u is. let f : Some k ≡ Some u = sym same ∙ is in subst (IsOwnOffer kept' at) (let g : k ≡ u = cc in g) own;
       links = λ u token there is. same_right past e at still ∙ link u token there is;
       undoes = λ u token there is.
-      let f : Some k ≡ Some u = sym right ∙ link u token there is in
-      let g : k ≡ u = cc in
-      absurd (let lost : ◌≡◌ {A = Option PendingOffer} None (Some token) = sym gone ∙ ap (λ (n : ℕ). held_token kept' at n) g ∙ there in cc);
+          let f : Some k ≡ Some u = sym right ∙ link u token there is in
+          let g : k ≡ u = cc in
+          absurd (let lost : ◌≡◌ {A = Option PendingOffer} None (Some token) = sym gone ∙ ap (λ (n : ℕ). held_token kept' at n) g ∙ there in cc);
     }

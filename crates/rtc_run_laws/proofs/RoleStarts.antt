@@ -127,9 +127,9 @@ module _ {I D S M E X T W N : Type 0} (m : Meanings I D S M E X T W N) (laws : P
   offer_role p offer (Err Glare) q h = same_role p p q refl refl h.1
   offer_role p offer (Err PeerAlloc) q h =
       role_stopped p q offer
-      (stopped_started m laws (record p { counter = raised p.counter }) true offer (offer_halves m p offer) q.sctp
-      (stopped_sctp m (record p { counter = raised p.counter }) _ _ _ _ _ _ q h.stops))
-      (stopped_dtls m (record p { counter = raised p.counter }) _ _ _ _ _ _ q h.stops)
+      (stopped_started m laws (record p { counter = raised p.counter; outstanding = false }) true offer (offer_halves m p offer) q.sctp
+      (stopped_sctp m (record p { counter = raised p.counter; outstanding = false }) _ _ _ _ _ _ q h.stops))
+      (stopped_dtls m (record p { counter = raised p.counter; outstanding = false }) _ _ _ _ _ _ q h.stops)
 
   answer_role : (p : Peer I D S M N) (token : PendingOffer) (answer : Sdp) (r : Result (Unit {0}) RtcError) (q : Peer I D S M N)
       → AcceptsAnswer m p token answer r q → KeepsRole p q
@@ -146,8 +146,8 @@ module _ {I D S M E X T W N : Type 0} (m : Meanings I D S M E X T W N) (laws : P
   answer_role p token answer (Err BadChannel) q h = absurd h
   answer_role p token answer (Err Glare) q h = absurd h
   answer_role p token answer (Err PeerAlloc) q h =
-      role_stopped p q answer (stopped_started m laws p false answer (answer_halves m p token answer) q.sctp (stopped_sctp m p _ _ _ _ _ _ q h.stops))
-      (stopped_dtls m p _ _ _ _ _ _ q h.stops)
+      role_stopped p q answer (stopped_started m laws p false answer (answer_halves m p token answer) q.sctp (stopped_sctp m (record p { outstanding = false }) _ _ _ _ _ _ q h.stops))
+      (stopped_dtls m (record p { outstanding = false }) _ _ _ _ _ _ q h.stops)
 
   -- ---- steps
 

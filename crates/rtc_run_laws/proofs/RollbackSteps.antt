@@ -1,40 +1,37 @@
 -- A step that rolls an offer back, and what its entry says that it leaves.
-use Rattle.std.proofs.Common.{◌≡◌, ◌≢◌, ◌<◌, ◌+◌, ◌^◌, ◌==◌, ℕ, List, [], ◌∷◌, Bool, true, false, ◌&&◌, Option, Some, None, Ok, Err, refl, sym, ◌∙◌, ap, subst, arith}
-use Rattle.std.specs.Prelude.{slice_get, slice_set, is_some}
+use Rattle.std.proofs.Common.{◌≡◌, ◌≤◌, ◌<◌, ◌^◌, ◌==◌, ℕ, List, [], ◌∷◌, Bool, true, false, Option, Some, None, Ok, refl, sym, ◌∙◌, ap, arith}
+use Rattle.std.specs.Prelude.{slice_get, is_some}
 use Rattle.std.proofs.lemmas.Bool.{and_right}
 use Rattle.rtc_channels.specs.Channels.{Channels}
 use Rattle.rtc_channels.specs.Holds.{all_cancelled}
 use Rattle.rtc_change.specs.PendingOffer.{PendingOffer, new_channels}
-use Rattle.rtc_peer_core.specs.Calls.{raised}
 use Rattle.rtc_peer_core.specs.Stance.{Stance}
-use Rattle.rtc_peer_core.specs.declared.rtc_error.RtcError.{RtcError}
 use Rattle.rtc_peer_core.specs.declared.rtc_error.RtcError.TheVariants.{RemoteSdp, Sdp as SdpRefused, Dtls, Sctp, Net, Media as MediaFailed, ChangesOutOfOrder, BadChannel, Alloc as PeerAlloc, Glare}
-use Rattle.rtc_peer_core.proofs.StanceRollbacks.{StanceRollsBack, rolled_back}
+use Rattle.rtc_peer_core.proofs.StanceRollbacks.{StanceRollsBack}
 use Rattle.rtc_run_history.specs.declared.side.Side.{Side}
-use Rattle.rtc_run_history.specs.declared.step.Step.{Step}
 use Rattle.rtc_run_history.specs.declared.step.Step.TheVariants.{Rollback}
 use Rattle.rtc_run_history.specs.declared.outcome.Outcome.{Outcome}
 use Rattle.rtc_run_history.specs.declared.outcome.Outcome.TheVariants.{Done, Refused, NoSuch, Alloc}
 use Rattle.rtc_run_history.specs.declared.table.Table.{Table}
-use Rattle.rtc_run_history.specs.Past.{Entry, MadeSdp, before, channels_shown, channel_rows_or, holds_token, is_right, numbers_in, rows_or, was_rolled_back, makes}
+use Rattle.rtc_run_history.specs.Past.{Entry, MadeSdp, before, channels_shown, channel_rows_or, is_right, numbers_in, rows_or, was_rolled_back, makes}
 use Rattle.rtc_run_history.specs.Sound.{RepliesToRollback, IsSound}
 use Rattle.rtc_run_history.specs.Undone.{table_shown, table_undone}
 use Rattle.rtc_run_history.specs.Views.{Stances}
 use Rattle.rtc_run_history.specs.declared.kept.Kept.{Kept}
-use Rattle.rtc_run_history.specs.PairState.{token_for, held_token, spent}
+use Rattle.rtc_run_history.specs.PairState.{token_for, held_token}
 use Rattle.rtc_run_laws.proofs.AnswerSteps.{now_right, not_right}
 use Rattle.rtc_run_laws.proofs.AnswerTells.{text_found, spent-is, and_true}
 use Rattle.rtc_run_laws.proofs.NumberedChannels.{AreNumbered, same_numbers, all_cancelled_numbered}
 use Rattle.rtc_run_laws.proofs.Tells.{ChannelsTell, Tells, TokenTells, raised-small}
-use Rattle.rtc_run_laws.proofs.TokenEntries.{bare, spent_tells}
+use Rattle.rtc_run_laws.proofs.TokenEntries.{spent_tells}
 use Rattle.rtc_run_laws.proofs.RolledTokens.{rolled_tells}
 use Rattle.rtc_run_laws.proofs.Around.{Around, entry, goes_on, channels_next, quiet_tells, size_grows}
-use Rattle.rtc_run_laws.proofs.StanceSteps.{PairStance, StanceShows, StanceStepRollsBack, lent}
+use Rattle.rtc_run_laws.proofs.StanceSteps.{PairStance, LeavesRows, StanceShows, StanceStepRollsBack, lent}
 
 -- ---- the reply
 
 -- the table that a side shows is that of its lines and channels
-same_tables : (one other : Table) → one.lines ≡ other.lines → one.channels ≡ other.channels → one ≡ other
+pub same_tables : (one other : Table) → one.lines ≡ other.lines → one.channels ≡ other.channels → one ≡ other
 same_tables one other lines channels =
     ap (λ l. record { lines = l; channels = one.channels }) lines ∙ ap (λ c. record { lines = other.lines; channels = c }) channels
 
@@ -49,8 +46,8 @@ unheld_reply E false earlier undone table e = e
 -- What is rolled back by a token that is right is what the past says.
 abbrev pub IsUndone : {E : Type 0} → List (Entry E) → Side → ℕ → Option PendingOffer → Stance → Type 0
 IsUndone past at t None old = Unit {0}
-IsUndone past at t (Some token) old = is_right at t past ≡ true → (new : Stance) (table : Table) → StanceRollsBack (lent old) token (Ok tt) new → StanceShows table new
-    → table ≡ table_undone at t past
+IsUndone past at t (Some token) old = is_right at t past ≡ true → (new : Stance) (table : Table) → StanceRollsBack (lent old) token (Ok tt) new → LeavesRows token old new
+    → StanceShows table new → table ≡ table_undone at t past
 
 pub rollback_reply : {E : Type 0} → (fresh between : Stances) (past : List (Entry E)) (at : Side) (t size : ℕ) (found : Option Kept) (token : Option PendingOffer) (old new : Stance) (kept kept' : List Kept) (outcome : Outcome E) (table : Option Table) (made : List MadeSdp)
     → token_for at found ≡ token → TokenTells past at old.counter t found → old.counter ≤ size → size < 2 ^ 32 → before at past ≡ old.lines → channels_shown at past ≡ old.rows → IsUndone past at t token old
@@ -62,7 +59,7 @@ rollback_reply {E} fresh between past at t size found None old new kept kept' No
     (unheld_reply E (is_right at t past) (table_shown at past) (table_undone at t past) table (same_tables table (table_shown at past) (h.1.lines ∙ sym rows) (h.1.channels ∙ sym shown)))
 rollback_reply fresh between past at t size found (Some token) old new kept kept' Done (Some table) made is told_it low small rows shown undone h =
     let right : is_right at t past ≡ true = now_right old.counter size token.id (is_right at t past) h.0.0 (told_it.right token is) (told_it.older token is) low small in
-    rollback_by true _ true _ (table_shown at past) (table_undone at t past) table Done (sym told_it.held ∙ ap is_some is) right (undone right new table h.0 h.3)
+    rollback_by true _ true _ (table_shown at past) (table_undone at t past) table Done (sym told_it.held ∙ ap is_some is) right (undone right new table h.0 h.1 h.3)
 rollback_reply fresh between past at t size found (Some token) old new kept kept' (Refused ChangesOutOfOrder) (Some table) made is told_it low small rows shown undone h =
     rollback_by true _ false _ (table_shown at past) (table_undone at t past) table (Refused ChangesOutOfOrder) (sym told_it.held ∙ ap is_some is)
     (not_right old.counter size token.id (is_right at t past) h.0.0 (told_it.right token is) (told_it.older token is) low small)

@@ -1,7 +1,7 @@
 -- What a past says of a pair after an entry that rolls an offer back: its token is spent, and no token that is left is right.
-use Rattle.std.proofs.Common.{◌≡◌, ◌≤◌, ◌<◌, ◌+◌, ◌^◌, ◌==◌, ℕ, List, [], ◌∷◌, ◌++◌, map, length, Bool, true, false, Option, Some, None, refl, sym, ◌∙◌, ap, arith, cond, append-nil, length-set, inl, inr, ◌⊎◌}
+use Rattle.std.proofs.Common.{◌≡◌, ◌≤◌, ◌<◌, ◌+◌, ◌==◌, ℕ, List, [], ◌∷◌, ◌++◌, map, length, true, false, Option, Some, None, refl, sym, ◌∙◌, ap, arith, append-nil, length-set, inl, inr, ◌⊎◌}
 use Rattle.std.specs.Prelude.{slice_get, slice_set}
-use Rattle.std.proofs.lemmas.Bool.{and_right, eqb-true, ne_eqb, both_ways}
+use Rattle.std.proofs.lemmas.Bool.{and_right, ne_eqb, both_ways}
 use Rattle.std.proofs.lemmas.List.{length-map, drop_all}
 use Rattle.std.proofs.lemmas.Option.{slice_get_within}
 use Rattle.rtc_change.specs.PendingOffer.{PendingOffer}
@@ -12,7 +12,7 @@ use Rattle.rtc_run_history.specs.declared.kept.Kept.{Kept}
 use Rattle.rtc_run_history.specs.PairState.{made_sdp, token_for, held_token}
 use Rattle.rtc_run_laws.proofs.PushedLists.{set_places, map-slice_set}
 use Rattle.rtc_run_laws.proofs.Tells.{TokenTells, ChannelsTell, Tells, IsUntold, HeldBefore, same_side-self, not_next, token_next, no_token, held_before, side_next}
-use Rattle.rtc_run_laws.proofs.Entries.{sides_next, no_choice, unheld}
+use Rattle.rtc_run_laws.proofs.Entries.{sides_next, no_choice}
 use Rattle.rtc_run_laws.proofs.TokenEntries.{bare}
 use Rattle.rtc_run_laws.proofs.StanceSteps.{PairStance, made_by}
 

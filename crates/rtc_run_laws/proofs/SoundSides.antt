@@ -26,22 +26,23 @@ use Rattle.rtc_peer_core.specs.MadeSdp.{role_after}
 use Rattle.rtc_peer_core.specs.PartMoves.{remote_limit}
 use Rattle.rtc_peer_core.specs.Calls.{raised}
 use Rattle.rtc_peer_core.specs.Meanings.{Meanings, PartsLaws}
+use Rattle.rtc_peer_core.specs.RollingBack.{RollsBack}
 use Rattle.rtc_peer_transport.specs.declared.polled_peer.PolledPeer.{PolledPeer}
 use Rattle.rtc_peer_transport.specs.ChannelCalls.{open_stream_under}
 use Rattle.rtc_sdp_values.specs.declared.sdp_error.SdpError.TheVariants.{Parse}
-use Rattle.rtc_run_history.specs.Signalled.{Signalled, NotMade, Unreadable, Readable}
+use Rattle.rtc_run_history.specs.Signalled.{Signalled, NotMade, Unreadable, Readable, foreign}
 use Rattle.rtc_run_history.specs.declared.side.Side.{Side}
 use Rattle.rtc_run_history.specs.declared.op.Op.{Op}
 use Rattle.rtc_run_history.specs.declared.step.Step.{Step}
 use Rattle.rtc_run_history.specs.declared.step.Step.TheVariants.{Negotiate, AcceptOffer, AcceptAnswer, Time, Datagram, Poll, Drain, Write, CloseChannel, Close, Rollback, ForeignOffer, ForeignAnswer, Raw}
 use Rattle.rtc_run_history.specs.declared.outcome.Outcome.{Outcome}
-use Rattle.rtc_run_history.specs.declared.outcome.Outcome.TheVariants.{Negotiated, Answered, Finished, Refused, NoSuch, Alloc}
+use Rattle.rtc_run_history.specs.declared.outcome.Outcome.TheVariants.{Negotiated, Answered, Finished, Done, Refused, NoSuch, Alloc}
 use Rattle.rtc_run_history.specs.declared.table.Table.{Table}
 use Rattle.rtc_run_history.specs.declared.kept.Kept.{Kept}
 use Rattle.rtc_run_history.specs.declared.sent_packet.SentPacket.{SentPacket}
 use Rattle.rtc_run_history.specs.Memory.{CountedPart, DtlsPart, AssociationPart, MediaPart, answers_lack, tells_fault_of, is_fault_of}
 use Rattle.rtc_run_history.specs.PairState.{kept_remote_sdp, held_token, remote_packet}
-use Rattle.rtc_run_history.specs.Performs.{Negotiates, StepAcceptsOffer, StepAcceptsAnswer, PollsOnce, DrainsPeer, Acts, lent}
+use Rattle.rtc_run_history.specs.Performs.{Negotiates, StepAcceptsOffer, StepAcceptsAnswer, StepRollsBack, PollsOnce, DrainsPeer, Acts, lent, raw_datagram}
 use Rattle.rtc_run_history.specs.SoundParts.{refuses_sdp, tells_refusal, faults_of}
 use Rattle.rtc_peer_core.proofs.StoppedPeers.{stopped_dtls, stopped_sctp, stopped_media}
 use Rattle.rtc_run_laws.proofs.CountedFaults.{by_part, equal_below, start_later, start_fault, stop_later, sctp_later, sctp_fault, sctp_stop_later}
@@ -156,11 +157,11 @@ module _ {I D S M E X T W N : Type 0} (m : Meanings I D S M E X T W N) (laws : P
   offer_refused p q offer Glare h = refused p q Glare (λ part. refl) (ap counting_parts h.1)
   offer_refused p q offer PeerAlloc h = record {
     later = by_part (λ part. faults_of m part p ≤ faults_of m part q)
-        (stop_later m.dtls laws.dtls p.dtls q.dtls _ _ (stopped_dtls m (record p { counter = raised p.counter }) _ _ _ _ _ _ q h.stops))
-        (sdp_stop_later p true offer (offer_halves m p offer) q.sctp (stopped_sctp m (record p { counter = raised p.counter }) _ _ _ _ _ _ q h.stops))
-        (stopped_later m laws.media (record p { counter = raised p.counter }) _ _ _ _ _ _ q h.stops);
+        (stop_later m.dtls laws.dtls p.dtls q.dtls _ _ (stopped_dtls m (record p { counter = raised p.counter; outstanding = false }) _ _ _ _ _ _ q h.stops))
+        (sdp_stop_later p true offer (offer_halves m p offer) q.sctp (stopped_sctp m (record p { counter = raised p.counter; outstanding = false }) _ _ _ _ _ _ q h.stops))
+        (stopped_later m laws.media (record p { counter = raised p.counter; outstanding = false }) _ _ _ _ _ _ q h.stops);
     fault = λ part told. absurd (cc);
-    media = λ told. stopped_media m laws.media (record p { counter = raised p.counter }) _ _ _ _ _ _ q h.stops;
+    media = λ told. stopped_media m laws.media (record p { counter = raised p.counter; outstanding = false }) _ _ _ _ _ _ q h.stops;
   }
 
   answer_accepted : (p q : Peer I D S M N) (token : PendingOffer) (answer : Sdp) → AcceptsAnswer m p token answer (Ok tt) q → IsSoundOfSide p false Finished q
@@ -194,10 +195,10 @@ module _ {I D S M E X T W N : Type 0} (m : Meanings I D S M E X T W N) (laws : P
   answer_refused p q token answer Glare h = absurd h
   answer_refused p q token answer PeerAlloc h = record {
     later = by_part (λ part. faults_of m part p ≤ faults_of m part q)
-        (stop_later m.dtls laws.dtls p.dtls q.dtls _ _ (stopped_dtls m p _ _ _ _ _ _ q h.stops))
-        (sdp_stop_later p false answer (answer_halves m p token answer) q.sctp (stopped_sctp m p _ _ _ _ _ _ q h.stops)) (stopped_later m laws.media p _ _ _ _ _ _ q h.stops);
+        (stop_later m.dtls laws.dtls p.dtls q.dtls _ _ (stopped_dtls m (record p { outstanding = false }) _ _ _ _ _ _ q h.stops))
+        (sdp_stop_later p false answer (answer_halves m p token answer) q.sctp (stopped_sctp m (record p { outstanding = false }) _ _ _ _ _ _ q h.stops)) (stopped_later m laws.media (record p { outstanding = false }) _ _ _ _ _ _ q h.stops);
     fault = λ part told. absurd (cc);
-    media = λ told. stopped_media m laws.media p _ _ _ _ _ _ q h.stops;
+    media = λ told. stopped_media m laws.media (record p { outstanding = false }) _ _ _ _ _ _ q h.stops;
   }
 
   -- ---- steps
@@ -251,6 +252,28 @@ module _ {I D S M E X T W N : Type 0} (m : Meanings I D S M E X T W N) (laws : P
   answer_side t (Some token) (Readable sdp) old sdps (Refused error) (Some table) new sdps' h = lends old new true (Refused error) (answer_refused (lent old) new token sdp error h.0)
   answer_side t token answer old sdps outcome table new sdps' h = absurd h
 
+  -- a rollback moves no part
+  rollback_refused : (p q : Peer I D S M N) (token : PendingOffer) (error : RtcError) → RollsBack p token (Err error) q → IsSoundOfSide p true (Refused error) q
+  rollback_refused p q token ChangesOutOfOrder h = refused p q ChangesOutOfOrder (λ part. refl) (ap counting_parts h.1)
+  rollback_refused p q token (RemoteSdp why) h = absurd h
+  rollback_refused p q token (SdpRefused error) h = absurd h
+  rollback_refused p q token (Dtls error) h = absurd h
+  rollback_refused p q token (Sctp error) h = absurd h
+  rollback_refused p q token (Net cause) h = absurd h
+  rollback_refused p q token (MediaFailed cause) h = absurd h
+  rollback_refused p q token BadChannel h = absurd h
+  rollback_refused p q token Glare h = absurd h
+  rollback_refused p q token PeerAlloc h = absurd h
+
+  rollback_side : (t : ℕ) (token : Option PendingOffer) (old : Peer I D S M N) (sdps : List Kept) (outcome : Outcome E) (table : Option Table) (new : Peer I D S M N) (sdps' : List Kept)
+      → StepRollsBack m t token old sdps outcome table new sdps' → IsSoundOfSide old (tells_refusal outcome) outcome new
+  rollback_side t None old sdps Alloc None new sdps' h = unmoved old new Alloc (λ part. refl) (ap counting_parts h.peer)
+  rollback_side t (Some token) old sdps Alloc None new sdps' h = unmoved old new Alloc (λ part. refl) (ap counting_parts h.peer)
+  rollback_side t None old sdps NoSuch (Some table) new sdps' h = unmoved old new NoSuch (λ part. refl) (ap counting_parts h.0.peer)
+  rollback_side t (Some token) old sdps Done (Some table) new sdps' h = unmoved old new Done (λ part. refl) (ap counting_parts h.0.1)
+  rollback_side t (Some token) old sdps (Refused error) (Some table) new sdps' h = lends old new true (Refused error) (rollback_refused (lent old) new token error h.0)
+  rollback_side t token old sdps outcome table new sdps' h = absurd h
+
   -- a step that negotiates nothing
   rest_side : (old new : PolledPeer I D S M N) (outcome : Outcome E) → Counts m old (tells_fault_of outcome) new → IsSoundOfSide old.core false outcome new.core
   rest_side old new outcome goes = record {
@@ -280,3 +303,11 @@ module _ {I D S M E X T W N : Type 0} (m : Meanings I D S M E X T W N) (laws : P
   acts_side stun other own (CloseChannel at channel) old sdps packets outcome table new sdps' packets' h =
       rest_side old new outcome (close_channel_goes m laws (open_stream_under channel old) channel old outcome table new h.0)
   acts_side stun other own (Close at) old sdps packets outcome table new sdps' packets' h = rest_side old new outcome (shut_goes m laws old outcome table new h.0)
+  acts_side stun other own (Rollback at t) old sdps packets outcome table new sdps' packets' h =
+      rollback_side t (held_token sdps at t) old.core sdps outcome table new.core sdps' h.0
+  acts_side stun other own (ForeignOffer at text) old sdps packets outcome table new sdps' packets' h =
+      offer_side at (foreign text) old.core sdps outcome table new.core sdps' h.0
+  acts_side stun other own (ForeignAnswer at t text) old sdps packets outcome table new sdps' packets' h =
+      answer_side t (held_token sdps at t) (foreign text) old.core sdps outcome table new.core sdps' h.0
+  acts_side stun other own (Raw at bytes now) old sdps packets outcome table new sdps' packets' h =
+      rest_side old new outcome (datagram_goes m laws stun (Some (raw_datagram other own bytes)) now old outcome table new h.0)

@@ -1,5 +1,5 @@
 -- The channels that ops stage: they have the numbers that are answered, and none of them is confirmed.
-use Rattle.std.proofs.Common.{◌≡◌, ◌<◌, ◌==◌, ℕ, Bool, true, false, List, [], ◌∷◌, ◌++◌, map, Ok, refl, sym, ◌∙◌, ap, subst, arith, append-nil, append_assoc}
+use Rattle.std.proofs.Common.{◌≡◌, ℕ, Bool, true, false, List, [], ◌∷◌, ◌++◌, Ok, refl, sym, ◌∙◌, ap, subst, arith, append-nil, append_assoc}
 use Rattle.std.specs.List.{AllByRecursion}
 use Rattle.std.proofs.lemmas.Bool.{eqb-true}
 use Rattle.std.proofs.lemmas.List.{map-append}
@@ -24,7 +24,7 @@ use Rattle.rtc_run_history.specs.declared.op_answer.OpAnswer.{OpAnswer}
 use Rattle.rtc_run_history.specs.declared.op_answer.OpAnswer.TheVariants.{Mid, Changed, NoLine, Channel as Numbered, BadChannel as NoChannel, Creds, Alloc as OpAlloc}
 use Rattle.rtc_run_history.specs.Answers.{numbers_answered}
 use Rattle.rtc_run_laws.proofs.CancelledRows.{numbers_of}
-use Rattle.rtc_run_laws.proofs.NumberedChannels.{AreNumbered, channel_numbered}
+use Rattle.rtc_run_laws.proofs.NumberedChannels.{channel_numbered}
 use Rattle.rtc_run_laws.proofs.StanceSteps.{StancePerformsOps}
 
 -- the numbers of the channels that changes add
@@ -89,9 +89,9 @@ adds_one p r q config id answers staged channels number rest =
       numbers = rest.numbers ∙ ap (λ (l : List ℕ). l ++ numbers_answered answers) staged ∙ append_assoc (staged_numbers p.staged) (id ∷ []) (numbers_answered answers);
       stay = λ one none. rest.stay one (grows one none);
       fresh = λ below. (
-          rest.stay id (subst (λ (one : ℕ). AreUnconfirmed one r.channels.rows) (sym number) (grows p.channels.given (unconfirmed_above p.channels.given p.channels.rows below))),
-          rest.fresh ((channel_numbered config id p.channels r.channels channels number).below below),
-        );
+        rest.stay id (subst (λ (one : ℕ). AreUnconfirmed one r.channels.rows) (sym number) (grows p.channels.given (unconfirmed_above p.channels.given p.channels.rows below))),
+        rest.fresh ((channel_numbered config id p.channels r.channels channels number).below below),
+      );
     }
 
 line_adds : (change : RowChange) (to : Direction) (p : Stance) (mid : List ℕ) (changed : Bool) (r : Stance) → StanceChangesLine change to p mid (Ok changed) r

@@ -1,15 +1,13 @@
 -- Rows of which some are as they were earlier.
-use Rattle.std.proofs.Common.{◌≡◌, ◌≤◌, ◌<◌, ◌+◌, ◌==◌, ◌||◌, ℕ, zero, suc, Bool, true, false, cond, List, [], ◌∷◌, ◌++◌, Option, Some, None, refl, sym, ◌∙◌, ap, subst, arith}
+use Rattle.std.proofs.Common.{◌≡◌, ◌≤◌, ◌+◌, ◌==◌, ◌||◌, ℕ, zero, suc, Bool, true, false, cond, List, [], ◌∷◌, ◌++◌, Option, Some, None, refl, sym, ◌∙◌, ap, subst, arith}
 use Rattle.std.specs.Prelude.{slice_get}
-use Rattle.std.proofs.lemmas.Bool.{eq-eqb, ne_eqb, or_from}
+use Rattle.std.proofs.lemmas.Bool.{eq-eqb, ne_eqb}
 use Rattle.std.proofs.lemmas.List.Folds.{list_any-append}
-use Rattle.rtc_sdp_values.specs.LineRow.{row_mid, row_place}
 use Rattle.rtc_sdp_values.specs.declared.direction.Direction.{Direction}
 use Rattle.rtc_sdp_values.specs.declared.line_row.LineRow.{LineRow}
 use Rattle.rtc_sdp_values.specs.declared.line_row.LineRow.TheVariants.{Media, App}
 use Rattle.rtc_sdp_values.specs.declared.media_kind.MediaKind.{MediaKind}
 use Rattle.rtc_peer_rows.specs.RowChanges.{all_restored, changed_at, changed_of, dir_restored, media_mid, restored_row, row_after_change}
-use Rattle.rtc_peer_rows.specs.Table.{is_app}
 use Rattle.rtc_peer_rows.proofs.RowChangeLemmas.{AreAlike, AreAlikeRows}
 use Rattle.rtc_peer_core.specs.Undo.{RowBefore}
 use Rattle.rtc_run_history.specs.Undone.{is_number, row_undone, rows_undone}

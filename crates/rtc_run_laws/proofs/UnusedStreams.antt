@@ -161,13 +161,13 @@ module _ {I D S M E X T W N : Type 0} (m : Meanings I D S M E X T W N) (laws : P
   offer_unused p offer (Err BadChannel) q h unused = absurd h
   offer_unused p offer (Err Glare) q h unused = same_unused p q h.1 unused
   offer_unused p offer (Err PeerAlloc) q h unused =
-      let sctp = stopped_sctp m (record p { counter = raised p.counter }) _ _ _ _ _ _ q h.stops in
+      let sctp = stopped_sctp m (record p { counter = raised p.counter; outstanding = false }) _ _ _ _ _ _ q h.stops in
       record {
-        empty = stopped_unused (record p { counter = raised p.counter }) true offer (offer_halves m p offer) q.sctp sctp unused.empty;
+        empty = stopped_unused (record p { counter = raised p.counter; outstanding = false }) true offer (offer_halves m p offer) q.sctp sctp unused.empty;
         role = λ s.
-            stopped_role (record p { counter = raised p.counter }) offer q.dtls (m.association.started p.sctp.association ≡ true)
-            (stopped_dtls m (record p { counter = raised p.counter }) _ _ _ _ _ _ q h.stops) unused.role
-            (sym (stopped_started (record p { counter = raised p.counter }) true offer (offer_halves m p offer) q.sctp sctp) ∙ s);
+            stopped_role (record p { counter = raised p.counter; outstanding = false }) offer q.dtls (m.association.started p.sctp.association ≡ true)
+            (stopped_dtls m (record p { counter = raised p.counter; outstanding = false }) _ _ _ _ _ _ q h.stops) unused.role
+            (sym (stopped_started (record p { counter = raised p.counter; outstanding = false }) true offer (offer_halves m p offer) q.sctp sctp) ∙ s);
       }
 
   pub answer_unused : (p : Peer I D S M N) (token : PendingOffer) (answer : Sdp) (r : Result (Unit {0}) RtcError) (q : Peer I D S M N)
@@ -194,10 +194,10 @@ module _ {I D S M E X T W N : Type 0} (m : Meanings I D S M E X T W N) (laws : P
   answer_unused p token answer (Err BadChannel) q h unused = absurd h
   answer_unused p token answer (Err Glare) q h unused = absurd h
   answer_unused p token answer (Err PeerAlloc) q h unused =
-      let sctp = stopped_sctp m p _ _ _ _ _ _ q h.stops in
+      let sctp = stopped_sctp m (record p { outstanding = false }) _ _ _ _ _ _ q h.stops in
       record {
         empty = stopped_unused p false answer (answer_halves m p token answer) q.sctp sctp unused.empty;
         role = λ s.
-            stopped_role p answer q.dtls (m.association.started p.sctp.association ≡ true) (stopped_dtls m p _ _ _ _ _ _ q h.stops) unused.role
+            stopped_role p answer q.dtls (m.association.started p.sctp.association ≡ true) (stopped_dtls m (record p { outstanding = false }) _ _ _ _ _ _ q h.stops) unused.role
             (sym (stopped_started p false answer (answer_halves m p token answer) q.sctp sctp) ∙ s);
       }

@@ -9,6 +9,18 @@ use rtc_run_history::{Side, Step};
 use rtc_wire::{Bytes, Moment};
 use std::alloc::{AllocError, Global};
 
+// The offer of a word.
+fn read_text(alloc: Global, at: Side, digits: &[u8]) -> Result<Option<Step>, AllocError>
+    ensures some { IfOk result (λ read. IfSome read (λ step.
+        (side_of step ≡ at) × IsAct (codes "foreignoffer") (digits.now ∷ []) step)) }
+    ensures none { IfOk result (λ read. IfNone read ((text : List ℕ) → AreTextWords (digits.now ∷ []) text → ⊥)) }
+{
+    match read_label(alloc, digits)? {
+        Some(text) => Ok(Some(Step::ForeignOffer { at, text })),
+        None => Ok(None),
+    }
+}
+
 /// The offer that the words behind its verb write.
 pub fn read_foreign_offer(
     alloc: Global,
@@ -19,12 +31,9 @@ pub fn read_foreign_offer(
         (side_of step ≡ at) × IsAct (codes "foreignoffer") (map (λ word. word.now) words.now) step)) }
     ensures none { IfOk result (λ read. IfNone read ((text : List ℕ) → AreTextWords (map (λ word. word.now) words.now) text → ⊥)) }
 {
-    let [digits] = words else {
-        return Ok(None);
-    };
-    match read_label(alloc, digits)? {
-        Some(text) => Ok(Some(Step::ForeignOffer { at, text })),
-        None => Ok(None),
+    match words {
+        [digits] => read_text(alloc, at, digits),
+        _ => Ok(None),
     }
 }
 
