@@ -100,6 +100,23 @@ ops_formed p q (IceRestart keep ∷ ops) (Creds creds ∷ answers) h formed = op
 ops_formed p q (IceRestart keep ∷ ops) (OpAlloc ∷ []) h formed = stages_restart_formed p keep (Err alloc_error) q h formed
 ops_formed p q ops answers h formed = absurd h
 
+-- a side that is lent for a step
+lends_formed : (s : Stance) → IsFormed s → IsFormed (lent s)
+lends_formed s formed =
+    let bare = lent_formed s s.snap formed in
+    record {
+      session = bare.session;
+      creds = bare.creds;
+      candidates = bare.candidates;
+      fingerprint = bare.fingerprint;
+      rows = bare.rows;
+      staged = bare.staged;
+      changes = bare.changes;
+      formats = bare.formats;
+      media = bare.media;
+      size = bare.size;
+    }
+
 makes_formed : (asked : Bool) (at : Side) (p q : Stance) (kept kept' : List Kept) (made : Made) → StanceMakesOf asked at p kept made q kept' → IsFormed p → AreLegible kept → IsFormed q × AreLegible kept'
 makes_formed false at p q kept kept' NotAsked h formed legible = (rw h.0 formed, rw h.1 legible)
 makes_formed true at p q kept kept' Nothing h formed legible = (applies_formed p (Ok None) q h.0 formed, rw h.1 legible)
@@ -114,7 +131,7 @@ negotiates_formed : {E : Type 0} → (at : Side) (ops : List Op) (apply : Bool) 
     → StanceNegotiates at ops apply old kept outcome table new kept' → IsFormed old → AreLegible kept → IsFormed new × AreLegible kept'
 negotiates_formed at ops apply old new kept kept' Alloc None h formed legible = (rw h.peer formed, rw h.sdps_kept legible)
 negotiates_formed at ops apply old new kept kept' (Negotiated answers made) (Some table) h formed legible =
-    makes_formed (apply && not (answers_lack answers)) at h.0 new kept kept' made h.2 (ops_formed (lent old) h.0 ops answers h.1 (lent_formed old old.snap formed)) legible
+    makes_formed (apply && not (answers_lack answers)) at h.0 new kept kept' made h.2 (ops_formed (lent old) h.0 ops answers h.1 (lends_formed old formed)) legible
 negotiates_formed at ops apply old new kept kept' outcome table h formed legible = absurd h
 
 offer_formed : {E : Type 0} → (at : Side) (offer : Signalled) (old new : Stance) (kept kept' : List Kept) (outcome : Outcome E) (table : Option Table)
@@ -128,7 +145,7 @@ offer_formed at (Unreadable line) old new kept kept' (Refused error) (Some table
     (rw h.1.peer formed, rw h.1.sdps_kept legible)
 offer_formed at (Readable sdp) old new kept kept' (Answered n) (Some table) h taken formed legible =
     let its = taken sdp refl in
-    let lent_is : IsFormed (lent old) = lent_formed old old.snap formed in
+    let lent_is : IsFormed (lent old) = lends_formed old formed in
     let updates = h.1.tells.formed lent_is tt its.names its.lines in
     let whole : IsLegible h.0 =
     subst IsLegible (sym h.1.answered)
@@ -139,7 +156,7 @@ offer_formed at (Readable sdp) old new kept kept' (Answered n) (Some table) h ta
     )
 offer_formed at (Readable sdp) old new kept kept' (Refused error) (Some table) h taken formed legible =
     let its = taken sdp refl in
-    (offered_formed (lent old) sdp (Err error) new h.0 its.names its.lines (lent_formed old old.snap formed), rw h.1 legible)
+    (offered_formed (lent old) sdp (Err error) new h.0 its.names its.lines (lends_formed old formed), rw h.1 legible)
 offer_formed at offer old new kept kept' outcome table h taken formed legible = absurd h
 
 answer_formed : {E : Type 0} → (t : ℕ) (token : Option PendingOffer) (answer : Signalled) (old new : Stance) (kept kept' : List Kept)
@@ -166,12 +183,12 @@ answer_formed t (Some token) (Unreadable line) old new kept kept' (Refused error
     (rw h.1.peer formed, rw h.1.sdps_kept legible)
 answer_formed t (Some token) (Readable sdp) old new kept kept' Finished (Some table) h taken changes formed legible =
     let its = taken sdp refl in (
-      answered_formed (lent old) token sdp (Ok tt) new h.0 changes its.names its.lines (lent_formed old old.snap formed),
+      answered_formed (lent old) token sdp (Ok tt) new h.0 changes its.names its.lines (lends_formed old formed),
       rw h.1 (spent_legible t kept legible),
     )
 answer_formed t (Some token) (Readable sdp) old new kept kept' (Refused error) (Some table) h taken changes formed legible =
     let its = taken sdp refl in (
-      answered_formed (lent old) token sdp (Err error) new h.0 changes its.names its.lines (lent_formed old old.snap formed),
+      answered_formed (lent old) token sdp (Err error) new h.0 changes its.names its.lines (lends_formed old formed),
       rw h.1 (spent_legible t kept legible),
     )
 answer_formed t token answer old new kept kept' outcome table h taken changes formed legible = absurd h
@@ -182,9 +199,9 @@ roll_formed t None old new kept kept' Alloc None h formed legible = (rw h.peer f
 roll_formed t (Some token) old new kept kept' Alloc None h formed legible = (rw h.peer formed, rw h.sdps_kept legible)
 roll_formed t None old new kept kept' NoSuch (Some table) h formed legible = (rw h.0.peer formed, rw h.0.sdps_kept legible)
 roll_formed t (Some token) old new kept kept' Done (Some table) h formed legible =
-    (rolled_back_formed (lent old) token (Ok tt) new h.0 (lent_formed old old.snap formed), rw h.2 (spent_legible t kept legible))
+    (rolled_back_formed (lent old) token (Ok tt) new h.0 (lends_formed old formed), rw h.2 (spent_legible t kept legible))
 roll_formed t (Some token) old new kept kept' (Refused error) (Some table) h formed legible =
-    (rolled_back_formed (lent old) token (Err error) new h.0 (lent_formed old old.snap formed), rw h.1 (spent_legible t kept legible))
+    (rolled_back_formed (lent old) token (Err error) new h.0 (lends_formed old formed), rw h.1 (spent_legible t kept legible))
 roll_formed t token old new kept kept' outcome table h formed legible = absurd h
 
 -- what is read of a text that anybody wrote can be taken

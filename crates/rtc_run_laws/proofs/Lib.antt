@@ -81,6 +81,7 @@ pub mod SideRoundSteps
 pub mod OrderlyRuns
 pub mod OpsNext
 pub mod OrderlyNext
+pub mod QuietSteps
 pub mod OrderlySounds
 pub mod StanceRuns
 pub mod CarriedLines
@@ -114,6 +115,7 @@ pub mod InputCounts
 pub mod OpParts
 pub mod RestSides
 pub mod ChannelFaults
+pub mod SideFaults
 pub mod SoundSides
 pub mod PartsSound
 pub mod SentPackets

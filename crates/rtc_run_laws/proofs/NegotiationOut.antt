@@ -49,7 +49,7 @@ use Rattle.rtc_run_laws.proofs.Tells.{Tells, same_side-self}
 use Rattle.rtc_run_laws.proofs.UndoneRows.{alike_on}
 
 -- ops change no role, and no offer
-ops_roles : (p q : Stance) (ops : List Op) (answers : List OpAnswer) → StancePerformsOps p ops answers q → role_parts q ≡ role_parts p
+pub ops_roles : (p q : Stance) (ops : List Op) (answers : List OpAnswer) → StancePerformsOps p ops answers q → role_parts q ≡ role_parts p
 ops_roles p q [] [] h = ap role_parts h
 ops_roles p q (AddMedia kind dir ∷ ops) (Mid mid ∷ answers) h = ops_roles h.0 q ops answers h.2 ∙ ap role_parts h.1.rest
 ops_roles p q (AddMedia kind dir ∷ ops) (OpAlloc ∷ []) h = ap role_parts h

@@ -61,6 +61,11 @@ step_goes_on fresh between past (CloseChannel at channel) outcome table made cou
     rest_goes_on fresh between past (CloseChannel at channel) outcome table made course course' tt after is replied says
 step_goes_on fresh between past (Close at) outcome table made course course' read sound is side few replied says after =
     rest_goes_on fresh between past (Close at) outcome table made course course' tt after is replied says
+step_goes_on fresh between past (Raw at bytes now) outcome table made course course' read sound is side few replied says after =
+    rest_goes_on fresh between past (Raw at bytes now) outcome table made course course' tt after is replied says
+step_goes_on fresh between past (Rollback at t) outcome table made course course' read sound is side few replied says after = absurd (let e : None ≡ Some course' = after in cc)
+step_goes_on fresh between past (ForeignOffer at text) outcome table made course course' read sound is side few replied says after = absurd (let e : None ≡ Some course' = after in cc)
+step_goes_on fresh between past (ForeignAnswer at t text) outcome table made course course' read sound is side few replied says after = absurd (let e : None ≡ Some course' = after in cc)
 
 -- ---- pasts
 

@@ -74,7 +74,7 @@ same_alike : (s t : Stance) → t.lines ≡ s.lines → AreAlike s.lines t.lines
 same_alike s t same = subst (λ (rows : List LineRow). AreAlike s.lines rows) (sym same) (alike_self s.lines)
 
 -- a step that leaves its side as it was
-untouched_step : {E : Type 0} → (fresh : Stances) (past : List (Entry E)) (step : Step) (outcome : Outcome E) (table : Option Table) (made : List MadeSdp) (old new : PairStance)
+pub untouched_step : {E : Type 0} → (fresh : Stances) (past : List (Entry E)) (step : Step) (outcome : Outcome E) (table : Option Table) (made : List MadeSdp) (old new : PairStance)
     → moves (side_of step) step outcome ≡ false → ((k : ℕ) → makes k outcome ≡ false) → new.sdps ≡ old.sdps
     → (new.sides (side_of step) ≡ old.sides (side_of step)) ⊎ (new.sides (side_of step) ≡ lent (old.sides (side_of step)))
     → Outstands fresh past (side_of step) (old.sides (side_of step)) old.sdps → StepOut fresh past step outcome table made old new

@@ -193,7 +193,7 @@ pub offered_out : {E : Type 0} → (fresh : Stances) (past : List (Entry E)) (e 
 offered_out fresh past e at s t kept kept' k moved some makes_k polite set own held undoes out =
     let right : right_offer at (e ∷ past) ≡ Some k = rw (moved, some) refl in
     let only : (u : ℕ) → is_right at u (e ∷ past) ≡ true → k ≡ u =
-    λ u is. eqb-true k u (let here = makes_k u in sym (or_none (k == u)) ∙ sym (right_of here) ∙ is) in
+    λ u is. eqb-true k u (let here = makes_k u in sym (or_none (k == u)) ∙ sym (right_of u here) ∙ is) in
     record {
       polite = polite ∙ out.polite;
       outstanding = set ∙ sym (ap (is_held kept' at) right ∙ held);
@@ -204,8 +204,8 @@ offered_out fresh past e at s t kept kept' k moved some makes_k polite set own h
           subst (λ (n : ℕ). TokenUndoes (e ∷ past) at n token t) same (undoes token (ap (λ (n : ℕ). held_token kept' at n) same ∙ there));
     }
   where
-    right_of : {u : ℕ} → makes u e.outcome ≡ (k == u) → is_right at u (e ∷ past) ≡ ((k == u) || false)
-    right_of here = rw (here, moved) refl
+    right_of : (u : ℕ) → makes u e.outcome ≡ (k == u) → is_right at u (e ∷ past) ≡ ((k == u) || false)
+    right_of u here = rw (here, moved) refl
 
 -- ---- an entry that spends the token that is right
 

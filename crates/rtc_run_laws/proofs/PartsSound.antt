@@ -15,7 +15,8 @@ use Rattle.rtc_run_history.specs.Sides.{side_of, other_side}
 use Rattle.rtc_run_history.specs.SoundParts.{refuses_sdp, faults_of, faults_at, CountsFault, IsSoundOfParts}
 use Rattle.rtc_run_history.proofs.BothSides.{both_sides}
 use Rattle.rtc_run_laws.proofs.CountedFaults.{equal_below, rose_along}
-use Rattle.rtc_run_laws.proofs.SoundSides.{IsSoundOfSide, acts_side}
+use Rattle.rtc_run_laws.proofs.SideFaults.{IsSoundOfSide}
+use Rattle.rtc_run_laws.proofs.SoundSides.{acts_side}
 
 module _ {I D S M E X T W N : Type 0} (m : Meanings I D S M E X T W N) (stun : List ℕ → Bool) where
   -- The entry of a step that is performed is sound of the parts.

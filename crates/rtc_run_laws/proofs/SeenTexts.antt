@@ -1,5 +1,5 @@
 -- What steps that hand over an offer or an answer tell of its acceptance.
-use Rattle.std.proofs.Common.{◌≡◌, ◌&&◌, ℕ, Bool, true, false, cond, List, ◌∷◌, Option, Some, None, refl, ap}
+use Rattle.std.proofs.Common.{◌≡◌, ◌&&◌, ◌||◌, ℕ, Bool, true, false, cond, List, ◌∷◌, Option, Some, None, refl, ap}
 use Rattle.rtc_peer_core.specs.declared.rtc_error.RtcError.{RtcError}
 use Rattle.rtc_run_history.specs.Signalled.{Signalled, foreign, sdp_read}
 use Rattle.rtc_run_history.specs.declared.side.Side.{Side}
@@ -8,7 +8,7 @@ use Rattle.rtc_run_history.specs.declared.step.Step.TheVariants.{AcceptOffer, Ac
 use Rattle.rtc_run_history.specs.declared.outcome.Outcome.{Outcome}
 use Rattle.rtc_run_history.specs.declared.outcome.Outcome.TheVariants.{Answered, Finished, Refused, NoSuch, Alloc}
 use Rattle.rtc_run_history.specs.declared.table.Table.{Table}
-use Rattle.rtc_run_history.specs.Memory.{is_fault}
+use Rattle.rtc_run_history.specs.Memory.{error_lacks, is_fault}
 use Rattle.rtc_run_history.specs.Past.{Entry, MadeSdp, before, rows_or, remote_sdp}
 use Rattle.rtc_run_history.specs.Sides.{same_side}
 use Rattle.rtc_run_history.specs.Views.{accepted_by, breaks_off, init_brought, init_in, init_told_by}
@@ -27,7 +27,7 @@ pub record TellsOffer (E : Type 0) (past : List (Entry E)) (at : Side) (offer : 
   pub refused : (error : RtcError) → accepted_by {E = E} at step (Refused error) past ≡ None
   pub none : accepted_by {E = E} at step NoSuch past ≡ None
   pub lacking : accepted_by {E = E} at step Alloc past ≡ None
-  pub breaks : (error : RtcError) → is_fault error ≡ true → breaks_off {E = E} at step (Refused error) ≡ true
+  pub breaks : (error : RtcError) → (error_lacks error || is_fault error) ≡ true → breaks_off {E = E} at step (Refused error) ≡ true
   pub shows : (outcome : Outcome E) (table : Table) (made : List MadeSdp) → before at (entry step outcome (Some table) made ∷ past) ≡ table.lines
   pub brings : init_brought at step past ≡ init_in true (sdp_read offer)
 
@@ -37,7 +37,7 @@ tells_offer E past at k = record {
   refused = λ error. refl;
   none = refl;
   lacking = refl;
-  breaks = λ error is. here_breaks at (is_fault error) is;
+  breaks = λ error is. here_breaks at (error_lacks error || is_fault error) is;
   shows = λ outcome table made. ap (λ (b : Bool). rows_or b (Some table) (before at past)) (same_side-self at);
   brings = refl;
 }
@@ -48,7 +48,7 @@ tells_foreign E past at text = record {
   refused = λ error. refl;
   none = refl;
   lacking = refl;
-  breaks = λ error is. here_breaks at (is_fault error) is;
+  breaks = λ error is. here_breaks at (error_lacks error || is_fault error) is;
   shows = λ outcome table made. ap (λ (b : Bool). rows_or b (Some table) (before at past)) (same_side-self at);
   brings = refl;
 }
@@ -59,7 +59,7 @@ pub record TellsAnswer (E : Type 0) (past : List (Entry E)) (at : Side) (t : ℕ
   pub refused : (error : RtcError) → accepted_by {E = E} at step (Refused error) past ≡ None
   pub none : accepted_by {E = E} at step NoSuch past ≡ None
   pub lacking : accepted_by {E = E} at step Alloc past ≡ None
-  pub breaks : (error : RtcError) → is_fault error ≡ true → breaks_off {E = E} at step (Refused error) ≡ true
+  pub breaks : (error : RtcError) → (error_lacks error || is_fault error) ≡ true → breaks_off {E = E} at step (Refused error) ≡ true
   pub shows : (outcome : Outcome E) (table : Table) (made : List MadeSdp) → before at (entry step outcome (Some table) made ∷ past) ≡ table.lines
   pub brings : init_brought at step past ≡ init_in (init_told_by t past) (sdp_read sdp)
 
@@ -69,7 +69,7 @@ tells_answer E past at t a = record {
   refused = λ error. refl;
   none = refl;
   lacking = refl;
-  breaks = λ error is. here_breaks at (is_fault error) is;
+  breaks = λ error is. here_breaks at (error_lacks error || is_fault error) is;
   shows = λ outcome table made. ap (λ (b : Bool). rows_or b (Some table) (before at past)) (same_side-self at);
   brings = refl;
 }
@@ -80,7 +80,7 @@ foreign_answer E past at t text = record {
   refused = λ error. refl;
   none = refl;
   lacking = refl;
-  breaks = λ error is. here_breaks at (is_fault error) is;
+  breaks = λ error is. here_breaks at (error_lacks error || is_fault error) is;
   shows = λ outcome table made. ap (λ (b : Bool). rows_or b (Some table) (before at past)) (same_side-self at);
   brings = refl;
 }

@@ -115,9 +115,9 @@ module _ {I D S M E X T W N : Type 0} (m : Meanings I D S M E X T W N) (laws : P
   step_offer_stands at (Unreadable line) old sdps (Refused error) (Some table) new sdps' shut h =
       (h.0, stays_stands old new sdps sdps' h.1, shows_stands m laws table old h.2)
   step_offer_stands at (Readable sdp) old sdps (Answered k) (Some table) new sdps' shut h =
-      (h.0, accepts_offer_stands m laws _ sdp (Ok h.0) new shut h.1, h.2, h.3, shows_stands m laws table new h.4)
+      (h.0, accepts_offer_stands m laws (lent old) sdp (Ok h.0) new shut h.1, h.2, h.3, shows_stands m laws table new h.4)
   step_offer_stands at (Readable sdp) old sdps (Refused error) (Some table) new sdps' shut h =
-      (accepts_offer_stands m laws _ sdp (Err error) new shut h.0, h.1, shows_stands m laws table new h.2)
+      (accepts_offer_stands m laws (lent old) sdp (Err error) new shut h.0, h.1, shows_stands m laws table new h.2)
   step_offer_stands at offer old sdps outcome table new sdps' shut h = absurd h
 
   step_answer_stands : (t : ℕ) (token : Option PendingOffer) (answer : Signalled) (old : Peer I D S M N) (sdps : List Kept) (outcome : Outcome E) (table : Option Table) (new : Peer I D S M N) (sdps' : List Kept)

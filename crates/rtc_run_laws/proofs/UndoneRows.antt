@@ -134,4 +134,4 @@ changed_elsewhere change place k [] other = refl
 changed_elsewhere change zero zero (row ∷ rows) other = absurd (let e : true ≡ false = other in cc)
 changed_elsewhere change zero (suc k) (row ∷ rows) other = refl
 changed_elsewhere change (suc place) zero (row ∷ rows) other = refl
-changed_elsewhere change (suc place) (suc k) (row ∷ rows) other = changed_elsewhere change place k rows other
+changed_elsewhere change (suc place) (suc k) (row ∷ rows) other = changed_elsewhere change place k rows (grind (arith, other))

@@ -33,7 +33,6 @@ use Rattle.rtc_peer_core.specs.SdpMoves.{StartsBySdp, halves_for, answer_ids}
 use Rattle.rtc_peer_core.proofs.PartMovesLemmas.{role_taken}
 use Rattle.rtc_peer_core.proofs.StoppedPeers.{stopped_dtls, stopped_sctp}
 use Rattle.rtc_peer_polling.proofs.StreamStarts.{IsEmptyBefore}
-use Rattle.rtc_run_history.specs.declared.outcome.Outcome.TheVariants.{Alloc}
 use Rattle.rtc_run_laws.proofs.OpParts.{counting_parts}
 
 -- ---- a start
