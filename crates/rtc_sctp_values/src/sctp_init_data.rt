@@ -25,7 +25,7 @@ use std::alloc::{AllocError, Global};
 use std::marker::Model;
 
 /// The two halves of a start by session descriptions: the INIT chunk of each end (draft-hancke-tsvwg-snap).
-#[derive(Debug, PartialEq, Eq, Drop)]
+#[derive(Debug, Drop)]
 pub struct SctpInitData {
     alloc: Global,
     local: Option<Bytes>,
