@@ -125,7 +125,7 @@ def row(owner, line, found, told):
     differs = bool(other) or (text is not None and shape(text) != shape(wanted))
     if differs != bool(reason):
         return None, f"{name} differs: {text}" if differs else f"{name} does not differ"
-    if reason and (reason not in told or f"`{name}`" not in told[reason]):
+    if reason and (reason not in told or not re.search(rf"`(\w+::)?{name}`", told[reason])):
         return None, f"{name} has no row in docs/DIFFERENCES.md, {reason}"
     link = f"[{reason}](../DIFFERENCES.md#{anchor(reason)})" if reason else ""
     shown = f"`{name}`, as {linked(crate, owner, other)}" if other else linked(crate, owner, name)
