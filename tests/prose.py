@@ -1,7 +1,8 @@
 #!/usr/bin/env python3
 """Counts the words of the README, of docs/ and of the crates' READMEs, and the lengths of their sentences. Blocks of code, targets of
-links, pages made by scripts and, in a crate's README, tables of claims (those with a column "Clause", "Call" or "Law") are not counted.
-The mean is over paragraphs and items of lists; the longest sentence may also stand in a cell of a table.
+links, pages made by scripts and, in a crate's README, tables of claims, definitions and examples (those with a column in CLAIMS) are
+not counted; code within a line is one word. The mean is over paragraphs and items of lists; the longest sentence may also stand in a
+cell of a table.
 
 usage: tests/prose.py [--check]     writes a row for each page; with --check only what passes a limit, which the status tells too
 """
@@ -14,14 +15,14 @@ TOP = os.path.dirname(os.path.dirname(os.path.abspath(__file__)))
 README_WORDS, DOCS_WORDS, CRATE_WORDS = 900, 15_000, 250
 MEAN_SENTENCE, SENTENCE = 25, 40
 MADE = ["docs/PROMISES.md", "docs/api/"]
-CLAIMS = ("Claim", "Clause", "Call", "Law")
+CLAIMS = ("Claim", "Clause", "Call", "Law", "Definition", "Subject")
 
 
-# A text without blocks of code, comments, and targets of links.
+# A text without blocks of code, comments, and targets of links. Other code is one word: what stands in it ends no sentence and no cell.
 def bare(text):
     text = re.sub(r"^ *```.*?^ *```", "\n", text, flags=re.S | re.M)
     text = re.sub(r"<!--.*?-->", "", text, flags=re.S)
-    return re.sub(r"!?\[([^]]*)\]\([^)]*\)", r"\1", text)
+    return re.sub(r"!?\[([^]]*)\]\([^)]*\)", r"\1", re.sub(r"`[^`\n]*`", "code", text))
 
 
 # The blocks of a text: each a heading, a paragraph, an item or a row with its cells.
@@ -64,10 +65,8 @@ def words(text):
     return [word for word in text.split() if re.search(r"\w", word)]
 
 
-# Code is one word, so that what stands in it ends no sentence.
 def sentences(text):
-    plain = re.sub(r"`[^`]*`", "code", text)
-    return [len(words(part)) for part in re.split(r"(?<=[.!?:])\s+", plain) if words(part)]
+    return [len(words(part)) for part in re.split(r"(?<=[.!?:])\s+", text) if words(part)]
 
 
 # The words of a page, its mean and its longest sentence.
