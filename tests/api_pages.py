@@ -14,8 +14,8 @@ OUT = os.path.join(TOP, "docs", "api")
 KINDS = "struct|enum|trait|fn|const|type"
 HEAD = """# Public calls
 
-A page for each library crate that has public calls, lowest first, made from the sources by `tests/api_pages.py`: the types and calls that a program can
-name, with their conditions (`requires`) and clauses (`ensures`). What a clause means is the definition that it cites:
+[CALLS.md](CALLS.md) lists the calls by type. Here is a page for each library crate that has public calls, lowest first, made from the sources
+by `tests/api_pages.py`: the types and calls that a program can name, with their conditions (`requires`) and clauses (`ensures`). What a clause means is the definition that it cites:
 [PROMISES.md](../PROMISES.md) links each one.
 
 | Crate | What it is |
@@ -204,6 +204,7 @@ def pages():
 def main():
     made = dict(pages())
     there = {os.path.basename(path): read(path) for path in glob.glob(os.path.join(OUT, "*.md"))}
+    there.pop("CALLS.md", None)
     if sys.argv[1:] == ["--check"]:
         return 0 if made == there else 1
     os.makedirs(OUT, exist_ok=True)
