@@ -126,7 +126,6 @@ impl RtcConfig {
     /// The default: an agent that makes checks, a peer that draws its credentials and its certificate, DTLS 1.2 and certificates that are
     /// verified, the codecs and header extensions that are enabled by default, no statistics, and no start of the association by session
     /// descriptions.
-    #[tactic(auto, using(crate::proofs::FormedDefault::rows_where_default, crate::proofs::FormedDefault::extensions_where_default))]
     pub fn new(alloc: Global) -> Result<RtcConfig, AllocError>
         ensures value { IfOk result (λ config. config ≡ spec.default_config) }
         ensures codecs { IfOk result (λ config. AreFormedRows config.codecs.rows) }

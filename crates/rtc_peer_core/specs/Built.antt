@@ -112,4 +112,4 @@ module _ {I D S M E X T W N : Type 0} (m : Meanings I D S M E X T W N) where
     pub by_settings : m.media.configured media config.media p.media
     pub streams : p.sctp ≡ streams_of_config config start p.sctp.association
     pub rest : p
-      ≡ empty_peer alloc (config_formats config) (m.ids.drawn ids) start p.ice p.dtls p.sctp p.media (cert_drawn m.ids config ids)
+        ≡ empty_peer alloc (config_formats config) (m.ids.drawn ids) start p.ice p.dtls p.sctp p.media (cert_drawn m.ids config ids)
