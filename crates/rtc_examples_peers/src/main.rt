@@ -4,8 +4,8 @@
 //!
 //! Each line of the input names a subject and an example of it, and is printed again behind `agrees` or `differs`: `answer PATH` gives a
 //! fresh peer the offer `PATH.offer`, whose answer has the lines of `PATH.answer`; `copy PATH` copies what is read of one;
-//! `file SIZE SEED LOST TWICE` sends a file, and `work one C M B` and `work turn C M B` so many messages over channels, so that a tool
-//! that counts instructions sees what they cost.
+//! `file SIZE SEED LOST TWICE` sends a file, `work one C M B` and `work turn C M B` so many messages over channels, and `work idle C M 0`
+//! gives so many moments, so that a tool that counts instructions sees what they cost.
 #![tactic(auto)]
 
 mod announced;
