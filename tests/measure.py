@@ -143,7 +143,7 @@ def associations():
 
 # A line `work` of the program of peers, and what it costs.
 def count_peers(how, channels, messages, size):
-    line = work("work", how, channels, messages, size)
+    line = f"work {how} {channels} {messages} {size}\n".encode()
     cost, told = count([program("rtc_examples_peers")], line)
     if told != b"agrees " + line:
         sys.exit(f"measure: {line} ended with {told!r}")
