@@ -16,6 +16,7 @@ mod lookups;
 mod losses;
 mod scenes;
 mod scripts;
+mod starts;
 mod streams;
 mod two_peers;
 mod work;
@@ -50,6 +51,7 @@ impl Examples for Parts {
             "dtls" => dtls::does_agree(alloc, name),
             "ids" => free_ids::does_agree(name),
             "losses" => losses::does_agree(alloc, name),
+            "starts" => starts::does_agree(alloc, name),
             "streams" => scenes::does_agree(alloc, name),
             "work" => is_done(alloc, name),
             _ => false,
