@@ -127,10 +127,10 @@ impl<
         let same = api.reset_stream_tx(mid, None, Ssrc(8), None).is_none();
         let renumbered = api.reset_stream_tx(mid, None, Ssrc(9), None).is_some();
         let found = api.stream_tx(Ssrc(8)).is_none() & api.stream_tx(Ssrc(9)).is_some();
-        api.make_stream_rx(Ssrc(10), None, mid, None)?;
-        api.make_stream_tx(Ssrc(11), None, mid, None)?;
+        let further = api.make_stream_rx(Ssrc(10), None, mid, None).is_ok();
+        let last = api.make_stream_tx(Ssrc(11), None, mid, None).is_ok();
         let kept = every(&[early, line, expected, received, of_line, declared, sent]);
-        Ok(kept & same & renumbered & found)
+        Ok(kept & same & renumbered & found & further & last)
     }
 
     fn drops_streams(&mut self, mid: Mid) -> Result<bool, AllocError> {
