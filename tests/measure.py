@@ -141,28 +141,24 @@ def associations():
         print(f"| {streams:,} | {more:,} | {more // streams:,} | {most:,} |")
 
 
-# The streams of two peers: a poll that gives nothing, a message over the first or the last of so many open streams, streams that are
-# opened at once, and channels that are given streams. The answer is how many events are told, two for each stream and one for each
-# message, or the stream of the last channel.
-def streams():
-    def cost(word, streams, *more):
-        messages = more[1] if word == "message" else 0
-        return count_work(2 * streams + messages, "streams", word, streams, *more)
+# A line `work` of the program of peers, and what it costs.
+def count_peers(how, channels, messages, size):
+    line = f"work {how} {channels} {messages} {size}\n".encode()
+    cost, told = count([program("rtc_examples_peers")], line)
+    if told != b"agrees " + line:
+        sys.exit(f"measure: {line} ended with {told!r}")
+    return cost
 
-    print("| Open streams | A poll that gives nothing | A stream | A message over the first | Over the last |\n|---|---|---|---|---|")
-    for open_streams in (1, 100, 1_000, 10_000):
-        start = cost("idle", open_streams, 1)
-        poll = (cost("idle", open_streams, 11) - start) // 10
-        start = cost("message", open_streams, 0, 1)
-        first = (cost("message", open_streams, 0, 11) - start) // 10
-        start = cost("message", open_streams, open_streams - 1, 1)
-        last = (cost("message", open_streams, open_streams - 1, 11) - start) // 10
-        print(f"| {open_streams:,} | {poll:,} | {poll // open_streams:,} | {first:,} | {last:,} |")
-    print("\n| Streams opened at once at both ends | Instructions | A stream |\n|---|---|---|")
-    start = cost("open", 0)
-    for at_once in (10, 100, 1_000):
-        more = cost("open", at_once) - start
-        print(f"| {at_once:,} | {more:,} | {more // at_once:,} |")
+
+# Channels that two peers open at once, a moment that is given to both and at which nothing is due, and channels that are given streams. The
+# answer of the latter is the stream of the last channel.
+def streams():
+    print("| Open channels | Opening them at once | A moment with nothing due, at both | A channel |\n|---|---|---|---|")
+    start = count_peers("one", 0, 0, 0)
+    for channels in (1, 10, 100):
+        opened = count_peers("idle", channels, 1, 0)
+        idle = (count_peers("idle", channels, 11, 0) - opened) // 10
+        print(f"| {channels:,} | {opened - idle - start:,} | {idle:,} | {idle // channels:,} |")
     print("\n| Channels given streams at once | Instructions | A channel |\n|---|---|---|")
     for channels in (100, 1_000, 10_000, 30_000):
         more = count_work(2 * (channels - 1), "channels", "allocate", channels, 1) - count_work(0, "channels", "allocate", channels, 0)
@@ -174,11 +170,7 @@ def streams():
 # message is not in the figures. A packet has at most 1034 bytes of it.
 def channels():
     def cost(open_channels, messages, size):
-        line = work("work", "one", open_channels, messages, size)
-        more, told = count([program("rtc_examples_peers")], line)
-        if told != b"agrees " + line:
-            sys.exit(f"measure: {line} ended with {told!r}")
-        return more
+        return count_peers("one", open_channels, messages, size)
 
     print("| Open channels | Bytes | Instructions | A byte | A packet |\n|---|---|---|---|---|")
     for open_channels in (1, 10, 100, 1_000):

@@ -1,16 +1,69 @@
 //! Amounts of work for two ends of an association, between which every packet arrives.
-use crate::ends::{Call, make};
 use crate::work::Work;
 use rtc_assoc_end::PlainAssociation;
 use rtc_examples_cases::gives;
 use rtc_parts::{AssocError, Association, Ppi};
-use rtc_wire::Bytes;
+use rtc_wire::{Bytes, Moment};
 use std::alloc::{AllocError, Global};
+
+fn start<A: Association>(left: &mut A, right: &mut A) -> Result<(), AssocError> {
+    if left.is_started() || right.is_started() {
+        return Err(AssocError::Closing);
+    }
+    left.connect(Moment::FAR_PAST, u32::MAX)?;
+    right.accept(Moment::FAR_PAST, u32::MAX)
+}
+
+fn give<A: Association>(end: &mut A, packet: &[u8]) -> Result<(), AssocError> {
+    if !end.is_started() {
+        return Err(AssocError::Closing);
+    }
+    end.handle_input(Moment::FAR_PAST, packet)?;
+    Ok(())
+}
+
+fn open<A: Association>(end: &mut A, id: u16) -> Result<(), AssocError> {
+    if !end.is_started() {
+        return Err(AssocError::Closing);
+    }
+    end.open_stream(id)
+}
+
+fn write<A: Association>(end: &mut A, id: u16, message: &[u8]) -> Result<(), AssocError> {
+    if !end.is_started() {
+        return Err(AssocError::Closing);
+    }
+    end.stream_write(id, Ppi::Binary, message)?;
+    Ok(())
+}
+
+fn close<A: Association>(end: &mut A, id: u16) -> Result<(), AssocError> {
+    if !end.is_started() {
+        return Err(AssocError::Closing);
+    }
+    end.stream_close(id)
+}
+
+fn length(message: &Option<(Ppi, Bytes)>) -> usize {
+    match message {
+        None => 0,
+        Some((_, bytes)) => bytes.as_slice().len(),
+    }
+}
+
+// The length of the next message of a stream; 0 where there is none.
+fn read<A: Association>(end: &mut A, id: u16) -> Result<usize, AssocError> {
+    if !end.is_started() {
+        return Err(AssocError::Closing);
+    }
+    let message = end.stream_read(id)?;
+    Ok(length(&message))
+}
 
 fn carry_one<A: Association>(from: &mut A, to: &mut A) -> Result<bool, AssocError> {
     match from.poll_transmit() {
         Some(packet) => {
-            make(to, &Call::Give(0, packet.as_slice()))?;
+            give(to, packet.as_slice())?;
             Ok(true)
         }
         None => Ok(false),
@@ -45,27 +98,6 @@ fn exchange<A: Association>(left: &mut A, right: &mut A) -> Result<(), AssocErro
     Ok(())
 }
 
-fn open<A: Association>(left: &mut A, right: &mut A, id: u16) -> Result<(), AssocError> {
-    make(left, &Call::Open(id))?;
-    make(right, &Call::Open(id))
-}
-
-fn length(message: &Option<(Ppi, Bytes)>) -> usize {
-    match message {
-        None => 0,
-        Some((_, bytes)) => bytes.as_slice().len(),
-    }
-}
-
-// The length of the next message of a stream; 0 where there is none.
-fn read<A: Association>(end: &mut A, id: u16) -> Result<usize, AssocError> {
-    if !end.is_started() {
-        return Err(AssocError::Closing);
-    }
-    let message = end.stream_read(id)?;
-    Ok(length(&message))
-}
-
 fn content(alloc: Global, bytes: u32) -> Result<Vec<u8>, AllocError> {
     let mut content = Vec::with_capacity(alloc, bytes as usize)?;
     content.resize(bytes as usize, 7u8)?;
@@ -74,28 +106,28 @@ fn content(alloc: Global, bytes: u32) -> Result<Vec<u8>, AllocError> {
 
 // A message of so many bytes over the first of so many open streams. It answers the length of what was read.
 fn message<A: Association>(
-    alloc: Global,
     left: &mut A,
     right: &mut A,
-    bytes: u32,
+    content: &[u8],
     streams: u32,
 ) -> Result<usize, AssocError> {
     for id in 0..streams.min(65_536) {
-        open(left, right, id as u16)?;
+        open(left, id as u16)?;
+        open(right, id as u16)?;
     }
-    let content = content(alloc, bytes)?;
-    make(left, &Call::Write(0, content.as_slice()))?;
+    write(left, 0, content)?;
     exchange(left, right)?;
     read(right, 0)
 }
 
 // A stream that is opened, used, closed and reset at both ends.
 fn reset<A: Association>(left: &mut A, right: &mut A, id: u16) -> Result<bool, AssocError> {
-    open(left, right, id)?;
-    make(left, &Call::Write(id, b"a"))?;
+    open(left, id)?;
+    open(right, id)?;
+    write(left, id, b"a")?;
     exchange(left, right)?;
     read(right, id)?;
-    make(left, &Call::Close(id))?;
+    close(left, id)?;
     exchange(left, right)?;
     Ok((left.generation(id) == 1) & (right.generation(id) == 1))
 }
@@ -129,44 +161,28 @@ fn fill(
     Ok(())
 }
 
-// Gives an end a data packet with 100 bytes of a message that somebody else made.
+// Gives an end a data packet with 100 bytes of a message that somebody else made, and drops what it tells and what it sends first.
 fn give_piece<A: Association>(
     alloc: Global,
     end: &mut A,
     number: u64,
-    id: u16,
-    generation: u32,
-    part: u8,
+    (id, generation, part): (u16, u32, u8),
 ) -> Result<(), AssocError> {
     let mut bytes = Vec::with_capacity(alloc, 128)?;
     fill(&mut bytes, number, id, generation, part)?;
-    make(end, &Call::Give(0, bytes.as_slice()))?;
+    give(end, bytes.as_slice())?;
     drop_events(end);
+    let _ = end.poll_transmit();
     Ok(())
 }
 
-// The number that an end waits for, by its answer.
-fn awaited<A: Association>(end: &mut A) -> u64 {
-    let Some(packet) = end.poll_transmit() else {
-        return 1;
-    };
-    match packet.as_slice() {
-        [4, a, b, c, d, e, f, g, h] => {
-            u64::from_be_bytes([*a, *b, *c, *d, *e, *f, *g, *h]).saturating_add(1)
-        }
-        _ => 1,
-    }
-}
-
-// Gives an end so many packets, each with a message of another generation to come of stream 0, under the number that it waits for. It
-// answers how many of them were taken.
+// Gives an end so many packets under the number that it waits for, each with a message of another generation to come of stream 0. It
+// answers how many streams that makes.
 fn forge<A: Association>(alloc: Global, end: &mut A, packets: u32) -> Result<usize, AssocError> {
-    let mut number = 1u64;
     for generation in 1..=packets {
-        give_piece(alloc, end, number, 0, generation, 1)?;
-        number = awaited(end);
+        give_piece(alloc, end, 1, (0, generation, 1))?;
     }
-    Ok(number.saturating_sub(1) as usize)
+    Ok(if end.has_stream(0) { 1 } else { 0 })
 }
 
 fn give_pieces<A: Association>(
@@ -178,8 +194,7 @@ fn give_pieces<A: Association>(
 ) -> Result<(), AssocError> {
     let mut number = first;
     for id in 0..streams {
-        give_piece(alloc, end, number, id, 0, part)?;
-        let _ = end.poll_transmit();
+        give_piece(alloc, end, number, (id, 0, part))?;
         number = number.saturating_add(1);
     }
     Ok(())
@@ -203,19 +218,21 @@ fn interleave<A: Association>(
     Ok(count)
 }
 
-// What two ends answer to some work: the bytes that were read, or how many packets, messages or streams came through.
+// What two ends answer to some work: the bytes that were read, or how many messages or streams came through.
 fn answer<A: Association>(
     alloc: Global,
     left: &mut A,
     right: &mut A,
     work: &Work<'_>,
 ) -> Result<usize, AssocError> {
-    make(left, &Call::Connect(u32::MAX))?;
-    make(right, &Call::Accept(u32::MAX))?;
+    start(left, right)?;
     exchange(left, right)?;
     let (first, second, _) = work.amounts;
     match work.word {
-        "message" => message(alloc, left, right, first, second),
+        "message" => {
+            let content = content(alloc, first)?;
+            message(left, right, content.as_slice(), second)
+        }
         "forged" => forge(alloc, right, first),
         "pieces" => interleave(alloc, right, first.min(65_535) as u16),
         "resets" => resets(left, right, first),

@@ -1,10 +1,10 @@
 //! Look-ups of the last of so many entries of a part in memory.
 use crate::work::Work;
 use rtc_examples_cases::gives;
-use rtc_parts::{IceAgent, MediaSession, MediaUpdate};
+use rtc_parts::{IceAgent, MediaSession};
 use rtc_plain::{PlainIce, PlainMedia};
-use rtc_sdp_values::{Candidate, Direction, LineRow, MediaKind, Mid, Rid, Ssrc};
-use rtc_wire::{Addr, Protocol, Seq};
+use rtc_sdp_values::{Candidate, Mid, Rid, Ssrc};
+use rtc_wire::{Addr, Protocol};
 use std::alloc::{AllocError, Global};
 
 // An address for each number below 2^16.
@@ -41,61 +41,6 @@ fn mid(alloc: Global, place: u32) -> Result<Option<Mid>, AllocError> {
     Ok(Mid::read(text.as_str()))
 }
 
-// The update of a line that sends a stream with its retransmissions.
-fn update(alloc: Global, place: u32, mid: Mid) -> Result<MediaUpdate, AllocError> {
-    let mut ssrcs_tx = Seq::empty(alloc);
-    ssrcs_tx.push((Ssrc(place), Some(Ssrc(place ^ 0x8000_0000))))?;
-    Ok(MediaUpdate {
-        row: LineRow::Media {
-            place: 0,
-            mid,
-            kind: MediaKind::Video,
-            dir: Direction::SendOnly,
-            stopped: false,
-            remote_created: false,
-        },
-        removed: None,
-        announce: false,
-        payloads: Seq::empty(alloc),
-        exts: Seq::empty(alloc),
-        simulcast: None,
-        msid: None,
-        cname: None,
-        ssrcs_tx,
-        ssrcs_rx: Seq::empty(alloc),
-    })
-}
-
-fn add_line<M: MediaSession>(alloc: Global, part: &mut M, place: u32) -> Result<(), AllocError> {
-    let Some(mid) = mid(alloc, place)? else {
-        return Ok(());
-    };
-    let updates = [update(alloc, place, mid)?];
-    part.prepare(updates.as_slice())?;
-    part.commit();
-    Ok(())
-}
-
-// How often the source of the last of so many lines is in use.
-fn find_source<M: MediaSession>(
-    alloc: Global,
-    part: &mut M,
-    entries: u32,
-    times: u32,
-) -> Result<usize, AllocError> {
-    for place in 0..entries {
-        add_line(alloc, part, place)?;
-    }
-    let last = Ssrc(entries.saturating_sub(1));
-    let mut found = 0usize;
-    for _ in 0..times {
-        if part.ssrc_used(last) {
-            found = found.saturating_add(1);
-        }
-    }
-    Ok(found)
-}
-
 fn add_stream<M: MediaSession>(
     alloc: Global,
     part: &mut M,
@@ -108,44 +53,44 @@ fn add_stream<M: MediaSession>(
     Ok(())
 }
 
-fn count_streams<M: MediaSession>(part: &mut M, mid: Mid, rid: Rid, times: u32) -> usize {
+// How often the last of so many streams is found: by its ssrc, which is in use, or by line and layer.
+fn count_found<M: MediaSession>(
+    part: &mut M,
+    by_ssrc: bool,
+    (mid, rid): (Mid, Rid),
+    last: Ssrc,
+    times: u32,
+) -> usize {
     let mut found = 0usize;
     for _ in 0..times {
-        if part.stream_tx_by_mid(mid, Some(rid)).is_some() {
+        let there = if by_ssrc {
+            part.ssrc_used(last)
+        } else {
+            part.stream_tx_by_mid(mid, Some(rid)).is_some()
+        };
+        if there {
             found = found.saturating_add(1);
         }
     }
     found
 }
 
-// How often the last of so many streams, each of a line of its own, is found by line and layer.
+// How often the last of so many streams, each of a line of its own, is found.
 fn find_stream<M: MediaSession>(
-    alloc: Global,
-    part: &mut M,
-    entries: u32,
-    times: u32,
-) -> Result<usize, AllocError> {
-    let last = mid(alloc, entries.saturating_sub(1))?;
-    let (Some(mid), Some(rid)) = (last, Rid::read("h")) else {
-        return Ok(0);
-    };
-    for place in 0..entries {
-        add_stream(alloc, part, place, rid)?;
-    }
-    Ok(count_streams(part, mid, rid, times))
-}
-
-fn find_media<M: MediaSession>(
     alloc: Global,
     part: &mut M,
     work: &Work<'_>,
 ) -> Result<usize, AllocError> {
     let (entries, times, _) = work.amounts;
-    match work.word {
-        "sources" => find_source(alloc, part, entries, times),
-        "streams" => find_stream(alloc, part, entries, times),
-        _ => Err(AllocError),
+    let last = entries.saturating_sub(1);
+    let (Some(mid), Some(rid)) = (mid(alloc, last)?, Rid::read("h")) else {
+        return Ok(0);
+    };
+    for place in 0..entries {
+        add_stream(alloc, part, place, rid)?;
     }
+    let by_ssrc = work.word == "sources";
+    Ok(count_found(part, by_ssrc, (mid, rid), Ssrc(last), times))
 }
 
 /// Whether so many look-ups find what they are for.
@@ -156,5 +101,5 @@ pub fn is_done(alloc: Global, work: &Work<'_>) -> bool {
         return gives(found, &work.answer);
     }
     let mut part = PlainMedia::new(alloc);
-    gives(find_media(alloc, &mut part, work), &work.answer)
+    gives(find_stream(alloc, &mut part, work), &work.answer)
 }

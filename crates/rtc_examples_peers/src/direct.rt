@@ -1,18 +1,48 @@
 //! What examples ask of a peer that is driven without session descriptions.
-use crate::ask_direct::AskDirect;
-use crate::ask_streams::AskStreams;
-use crate::given::Given;
-use rtc_peer::Mid;
+use rtc_peer::{Candidate, Fingerprint, IceCreds, Mid, SctpInitData};
+use rtc_wire::ChannelConfig;
+use std::alloc::AllocError;
 
-/// What examples ask of a peer without session descriptions, whose lines have two mids. A function over it is checked without what a peer
-/// consists of.
+/// What examples ask of a peer without session descriptions: each is a row of calls, and whether they answer as they are to. A function
+/// over it is checked without what a peer consists of.
 pub trait Direct {
-    /// Whether a call does what it is asked for.
-    fn does_directly(&mut self, mids: (Mid, Mid), ask: AskDirect) -> bool;
+    /// Takes the role in ICE, credentials of both sides and the fingerprint of the other one. The credentials that are set are those of
+    /// this side; no certificate of the other side and no version is known yet.
+    fn sets_parts(&mut self, own: IceCreds, other: IceCreds, announced: Fingerprint) -> bool;
 
-    /// Whether a call on streams does what it is asked for.
-    fn does_on_streams(&mut self, mids: (Mid, Mid), ask: AskStreams) -> bool;
+    /// Takes an address of the other side, and invalidates one that was not added.
+    fn takes_address(&mut self, there: Candidate, unknown: &Candidate) -> bool;
 
-    /// Whether something is taken that was not there before.
-    fn takes(&mut self, given: Given) -> bool;
+    /// A second role in DTLS is Ok, as the first one is.
+    fn keeps_role(&mut self) -> bool;
+
+    /// The half of a start alone starts nothing.
+    fn refuses_half(&mut self, half: SctpInitData) -> bool;
+
+    /// Both halves start the association, and any start behind that is Ok.
+    fn starts(&mut self, halves: SctpInitData) -> bool;
+
+    /// Channels are numbered from 0: one that is settled for the stream 4, and one that is not. None has a stream before a poll.
+    fn makes_channels(&mut self, settled: ChannelConfig, free: ChannelConfig) -> bool;
+
+    /// A channel is refused.
+    fn refuses_channel(&mut self, taken: ChannelConfig) -> bool;
+
+    /// A mid is declared once. The first line is stopped and keeps its mid; the last one goes once, and may be declared again.
+    fn declares_lines(&mut self, first: Mid, last: Mid) -> Result<bool, AllocError>;
+
+    /// The fourth number is in use with its retransmissions, so that the sixth is given.
+    fn draws_source(&mut self, mid: Mid) -> Result<bool, AllocError>;
+
+    /// A stream is made where a row of media has its mid, and keeps what is written to its mark.
+    fn keeps_marks(&mut self, mid: Mid) -> Result<bool, AllocError>;
+
+    /// A stream is dropped by its source, and with its line.
+    fn drops_streams(&mut self, mid: Mid) -> Result<bool, AllocError>;
+
+    /// Feedback is sent, and a line that is not there sends no redundancy.
+    fn sends_feedback(&mut self, mid: Mid) -> bool;
+
+    /// A peer ends once.
+    fn ends(&mut self) -> bool;
 }

@@ -1,13 +1,12 @@
 //! Peers that are driven without session descriptions.
-use crate::ask_direct::{AskDirect, mid_of};
-use crate::ask_streams::AskStreams;
 use crate::direct::Direct;
-use crate::given::Given;
-use rtc_examples_cases::{gives, is_ok, is_true};
-use rtc_peer::{Association, DtlsInstance, IceAgent, IceCreds, Ids, MediaSession, Mid, Rtc, Ssrc};
+use rtc_examples_cases::{every, gives, is_ok};
+use rtc_peer::{
+    Association, Candidate, DtlsInstance, Fingerprint, IceAgent, IceCreds, Ids, MediaKind,
+    MediaSession, Mid, Rtc, SctpInitData, Ssrc,
+};
 use rtc_plain::PlainMark;
-use rtc_wire::ChannelId;
-use rtc_wire_drops::release;
+use rtc_wire::{ChannelConfig, ChannelId};
 use std::alloc::AllocError;
 
 fn has_ufrag(creds: Result<IceCreds, AllocError>, ufrag: &str) -> bool {
@@ -36,13 +35,6 @@ fn counts(mark: Option<&mut PlainMark>, count: u64) -> bool {
     }
 }
 
-fn source(ssrc: Option<u32>) -> Option<Ssrc> {
-    match ssrc {
-        Some(ssrc) => Some(Ssrc(ssrc)),
-        None => None,
-    }
-}
-
 impl<
     I: IceAgent,
     D: DtlsInstance,
@@ -50,117 +42,120 @@ impl<
     M: MediaSession<Rx = PlainMark, Tx = PlainMark>,
     N: Ids,
 > Direct for Rtc<I, D, S, M, N> {
-    fn does_directly(&mut self, mids: (Mid, Mid), ask: AskDirect) -> bool {
+    fn sets_parts(&mut self, own: IceCreds, other: IceCreds, announced: Fingerprint) -> bool {
         let mut api = self.direct_api();
-        match ask {
-            AskDirect::TakeControl => {
-                api.set_ice_controlling(true);
-                api.set_ice_lite(false);
-                true
-            }
-            AskDirect::HaveOwnCreds => has_ufrag(api.local_ice_credentials(), "own"),
-            AskDirect::KnowOwnCertificate => {
-                let own = api.local_dtls_fingerprint().hash_func.as_str() == "sha-256";
-                own & api.remote_dtls_fingerprint().is_none()
-                    & api.dtls_protocol_version().is_none()
-            }
-            AskDirect::StartDtls(active) => is_ok(api.start_dtls(active)),
-            AskDirect::StartSctp(client) => is_ok(api.start_sctp(client)),
-            AskDirect::HaveStream(stream) => api.channel_id_by_sctp_stream_id(stream).is_some(),
-            AskDirect::HaveChannel(number) => {
-                api.sctp_stream_id_by_channel_id(ChannelId::new(number))
-                    .is_some()
-            }
-            AskDirect::CloseChannel(number) => {
-                is_ok(api.close_data_channel(ChannelId::new(number)))
-            }
-            AskDirect::Declare(line, kind) => is_true(api.declare_media(mid_of(mids, line), kind)),
-            AskDirect::Remove(line) => api.remove_media(mid_of(mids, line)),
-            AskDirect::DrawSource(ssrc) => api.new_ssrc() == Ssrc(ssrc),
-            AskDirect::EnableFeedback => {
-                api.enable_twcc_feedback();
-                true
-            }
-            AskDirect::SendFeedback => {
-                is_ok(api.send_app_specific_feedback(Ssrc(1), Ssrc(2), b"\x05\x06"))
-            }
-            AskDirect::WishPicture => is_ok(api.send_pli_feedback(Ssrc(1), Ssrc(2))),
-            AskDirect::SendRedundancy(line) => api.set_red_send(mid_of(mids, line), true),
-        }
+        api.set_ice_controlling(true);
+        api.set_ice_lite(false);
+        api.set_local_ice_credentials(own);
+        api.set_remote_ice_credentials(other);
+        api.set_remote_fingerprint(announced);
+        let named = has_ufrag(api.local_ice_credentials(), "own");
+        let hashed = api.local_dtls_fingerprint().hash_func.as_str() == "sha-256";
+        let unknown = api.remote_dtls_fingerprint().is_none();
+        named & hashed & unknown & api.dtls_protocol_version().is_none()
     }
 
-    fn does_on_streams(&mut self, mids: (Mid, Mid), ask: AskStreams) -> bool {
-        let mut api = self.direct_api();
-        match ask {
-            AskStreams::Expect(line, ssrc, count) => {
-                match api.expect_stream_rx(Ssrc(ssrc), None, mid_of(mids, line), None) {
-                    Ok(made) => marks(made, count),
-                    Err(_) => false,
-                }
-            }
-            AskStreams::Declare(line, ssrc, rtx, count) => {
-                match api.declare_stream_tx(Ssrc(ssrc), source(rtx), mid_of(mids, line), None) {
-                    Ok(made) => marks(made, count),
-                    Err(_) => false,
-                }
-            }
-            AskStreams::MakeReceived(line, ssrc) => {
-                api.make_stream_rx(Ssrc(ssrc), None, mid_of(mids, line), None)
-                    .is_ok()
-            }
-            AskStreams::MakeSent(line, ssrc) => {
-                api.make_stream_tx(Ssrc(ssrc), None, mid_of(mids, line), None)
-                    .is_ok()
-            }
-            AskStreams::HaveReceived(line, ssrc, count) => {
-                let by_number = counts(api.stream_rx(Ssrc(ssrc)), count);
-                by_number & counts(api.stream_rx_by_mid(mid_of(mids, line), None), count)
-            }
-            AskStreams::HaveSent(line, ssrc, count) => {
-                let by_number = counts(api.stream_tx(Ssrc(ssrc)), count);
-                by_number & counts(api.stream_tx_by_mid(mid_of(mids, line), None), count)
-            }
-            AskStreams::Renumber(line, ssrc) => {
-                api.reset_stream_tx(mid_of(mids, line), None, Ssrc(ssrc), None)
-                    .is_some()
-            }
-            AskStreams::IsSent(ssrc) => api.stream_tx(Ssrc(ssrc)).is_some(),
-            AskStreams::DropReceived(ssrc) => api.remove_stream_rx(Ssrc(ssrc)),
-            AskStreams::DropSent(ssrc) => api.remove_stream_tx(Ssrc(ssrc)),
-        }
+    fn takes_address(&mut self, there: Candidate, unknown: &Candidate) -> bool {
+        let taken = is_ok(self.add_remote_candidate(there));
+        taken & !self.direct_api().invalidate_candidate(unknown)
     }
 
-    fn takes(&mut self, given: Given) -> bool {
-        match given {
-            Given::Remote(candidate) => is_ok(self.add_remote_candidate(candidate)),
-            Given::Withdrawn(candidate) => {
-                let known = self.direct_api().invalidate_candidate(&candidate);
-                release(candidate, known)
-            }
-            Given::OwnCreds(creds) => {
-                self.direct_api().set_local_ice_credentials(creds);
-                true
-            }
-            Given::OtherCreds(creds) => {
-                self.direct_api().set_remote_ice_credentials(creds);
-                true
-            }
-            Given::Announced(fingerprint) => {
-                self.direct_api().set_remote_fingerprint(fingerprint);
-                true
-            }
-            Given::Halves(client, halves) => {
-                is_ok(self.direct_api().start_sctp_with_snap(client, halves))
-            }
-            Given::Channel(config, number) => {
-                let made = self.direct_api().create_data_channel(config);
-                gives(made, &ChannelId::new(number))
-            }
-            Given::End => {
-                let alive = self.is_alive();
-                self.disconnect();
-                alive & !self.is_alive()
-            }
-        }
+    fn keeps_role(&mut self) -> bool {
+        let mut api = self.direct_api();
+        let first = is_ok(api.start_dtls(false));
+        first & is_ok(api.start_dtls(true))
+    }
+
+    fn refuses_half(&mut self, half: SctpInitData) -> bool {
+        !is_ok(self.direct_api().start_sctp_with_snap(true, half))
+    }
+
+    fn starts(&mut self, halves: SctpInitData) -> bool {
+        let mut api = self.direct_api();
+        let first = is_ok(api.start_sctp_with_snap(true, halves));
+        first & is_ok(api.start_sctp(false))
+    }
+
+    fn makes_channels(&mut self, settled: ChannelConfig, free: ChannelConfig) -> bool {
+        let mut api = self.direct_api();
+        let started = is_ok(api.start_sctp(true));
+        let first = gives(api.create_data_channel(settled), &ChannelId::new(0));
+        let second = gives(api.create_data_channel(free), &ChannelId::new(1));
+        let unused = api.channel_id_by_sctp_stream_id(4).is_none();
+        let without = api
+            .sctp_stream_id_by_channel_id(ChannelId::new(0))
+            .is_none();
+        let closed = is_ok(api.close_data_channel(ChannelId::new(0)));
+        started & first & second & unused & without & closed
+    }
+
+    fn refuses_channel(&mut self, taken: ChannelConfig) -> bool {
+        !is_ok(self.direct_api().create_data_channel(taken))
+    }
+
+    fn declares_lines(&mut self, first: Mid, last: Mid) -> Result<bool, AllocError> {
+        let mut api = self.direct_api();
+        let once = api.declare_media(first, MediaKind::Audio)?;
+        let twice = api.declare_media(first, MediaKind::Video)?;
+        let other = api.declare_media(last, MediaKind::Audio)?;
+        let stopped = api.remove_media(first);
+        let kept = api.declare_media(first, MediaKind::Audio)?;
+        let went = api.remove_media(last);
+        let gone = api.remove_media(last);
+        let again = api.declare_media(last, MediaKind::Video)?;
+        Ok(every(&[once, !twice, other, stopped, !kept, went, !gone, again]))
+    }
+
+    fn draws_source(&mut self, mid: Mid) -> Result<bool, AllocError> {
+        let mut api = self.direct_api();
+        let line = api.declare_media(mid, MediaKind::Audio)?;
+        let made = api
+            .declare_stream_tx(Ssrc(4), Some(Ssrc(5)), mid, None)?
+            .is_some();
+        Ok(line & made & (api.new_ssrc() == Ssrc(6)))
+    }
+
+    fn keeps_marks(&mut self, mid: Mid) -> Result<bool, AllocError> {
+        let mut api = self.direct_api();
+        let early = api.expect_stream_rx(Ssrc(7), None, mid, None)?.is_none();
+        let line = api.declare_media(mid, MediaKind::Video)?;
+        let expected = marks(api.expect_stream_rx(Ssrc(7), None, mid, None)?, 5);
+        let received = counts(api.stream_rx(Ssrc(7)), 5);
+        let of_line = counts(api.stream_rx_by_mid(mid, None), 5);
+        let declared = marks(api.declare_stream_tx(Ssrc(8), None, mid, None)?, 6);
+        let sent = counts(api.stream_tx(Ssrc(8)), 6) & counts(api.stream_tx_by_mid(mid, None), 6);
+        let same = api.reset_stream_tx(mid, None, Ssrc(8), None).is_none();
+        let renumbered = api.reset_stream_tx(mid, None, Ssrc(9), None).is_some();
+        let found = api.stream_tx(Ssrc(8)).is_none() & api.stream_tx(Ssrc(9)).is_some();
+        let further = api.make_stream_rx(Ssrc(10), None, mid, None).is_ok();
+        let last = api.make_stream_tx(Ssrc(11), None, mid, None).is_ok();
+        let kept = every(&[early, line, expected, received, of_line, declared, sent]);
+        Ok(kept & same & renumbered & found & further & last)
+    }
+
+    fn drops_streams(&mut self, mid: Mid) -> Result<bool, AllocError> {
+        let mut api = self.direct_api();
+        let line = api.declare_media(mid, MediaKind::Audio)?;
+        let expected = api.expect_stream_rx(Ssrc(7), None, mid, None)?.is_some();
+        let declared = api.declare_stream_tx(Ssrc(8), None, mid, None)?.is_some();
+        let dropped = api.remove_stream_rx(Ssrc(7));
+        let again = api.remove_stream_rx(Ssrc(7));
+        let stopped = api.remove_media(mid);
+        let sent = api.remove_stream_tx(Ssrc(8));
+        Ok(every(&[line, expected, declared, dropped, !again, stopped, !sent]))
+    }
+
+    fn sends_feedback(&mut self, mid: Mid) -> bool {
+        let mut api = self.direct_api();
+        api.enable_twcc_feedback();
+        let sent = is_ok(api.send_app_specific_feedback(Ssrc(1), Ssrc(2), b"\x05\x06"));
+        let wished = is_ok(api.send_pli_feedback(Ssrc(1), Ssrc(2)));
+        sent & wished & !api.set_red_send(mid, true)
+    }
+
+    fn ends(&mut self) -> bool {
+        let alive = self.is_alive();
+        self.disconnect();
+        alive & !self.is_alive()
     }
 }

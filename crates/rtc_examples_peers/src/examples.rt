@@ -3,7 +3,7 @@ use crate::direct::Direct;
 use crate::polled::Polled;
 use crate::signals::Signals;
 use crate::turn::Turn;
-use crate::{announced, answers, changes, connected, copies, direct_steps, files, offers, work};
+use crate::{announced, answers, changes, connected, copies, direct_examples, files, offers, work};
 use rtc_examples_cases::is_true;
 use rtc_peer::Mid;
 use std::alloc::Global;
@@ -22,8 +22,8 @@ pub fn ask<P: Signals + Polled + Direct>(
         "announced" => is_true(announced::does_refuse(alloc, left, right, name)),
         "changes" => changes::does_agree(alloc, mids, name),
         "connected" => connected::does_succeed(alloc, left, right, name),
-        "copy" => copies::are_copied(alloc, turns),
-        "direct" => direct_steps::does_agree(alloc, left, right, mids, name),
+        "copy" => is_true(copies::are_copied(alloc, turns)),
+        "direct" => direct_examples::does_agree(alloc, left, right, mids, name),
         "file" => is_true(files::does_come_over(alloc, left, right, name)),
         "offers" => offers::does_agree(alloc, left, right, name),
         "work" => is_true(work::does_come(alloc, left, right, name)),

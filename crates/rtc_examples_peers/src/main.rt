@@ -3,16 +3,14 @@
 //! that go over a data channel while datagrams are lost and repeated.
 //!
 //! Each line of the input names a subject and an example of it, and is printed again behind `agrees` or `differs`: `answer PATH` gives a
-//! fresh peer the offer `PATH.offer`, whose answer has the lines of `PATH.answer`; `copy PATH` copies what is read of that offer;
-//! `file SIZE SEED LOST TWICE` sends a file, and `work one C M B` and `work turn C M B` so many messages over channels, so that a tool
-//! that counts instructions sees what they cost.
+//! fresh peer the offer `PATH.offer`, whose answer has the lines of `PATH.answer`; `copy PATH` copies what is read of one;
+//! `file SIZE SEED LOST TWICE` sends a file, `work one C M B` and `work turn C M B` so many messages over channels, and `work idle C M 0`
+//! gives so many moments, so that a tool that counts instructions sees what they cost.
 #![tactic(auto)]
 
 mod announced;
 mod answers;
 mod ask;
-mod ask_direct;
-mod ask_streams;
 mod building;
 mod changes;
 mod codecs;
@@ -21,14 +19,12 @@ mod connected;
 mod copies;
 mod counting;
 mod direct;
+mod direct_examples;
 mod direct_of_parts;
-mod direct_steps;
 mod examples;
 mod exchanging;
 mod fault;
 mod files;
-mod gifts;
-mod given;
 mod hosts;
 mod layers;
 mod numbers;

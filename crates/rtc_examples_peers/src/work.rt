@@ -22,13 +22,15 @@ pub struct Work {
     pub bytes: u32,
     /// Whether the messages go over all channels in turn; all go over the last one else.
     pub in_turn: bool,
+    /// Whether moments are taken in place of messages.
+    pub is_idle: bool,
 }
 
 impl Work {
     // By the words of a line.
     fn read(line: &str) -> Work {
         let mut words = line.split(' ');
-        let in_turn = words.next() == Some("turn");
+        let how = words.next().unwrap_or("");
         let channels = number(words.next());
         let messages = number(words.next());
         let bytes = number(words.next());
@@ -36,7 +38,8 @@ impl Work {
             channels,
             messages,
             bytes,
-            in_turn,
+            in_turn: how == "turn",
+            is_idle: how == "idle",
         }
     }
 
@@ -68,11 +71,15 @@ fn begin<P: Polled>(left: &mut P, right: &mut P, wire: &mut Wire) {
     }
 }
 
-// Sends messages from left to right, each once the one before was read and acknowledged.
+// Sends messages from left to right, each once the one before was read and acknowledged, or gives both peers so many moments.
 fn send<P: Polled>(left: &mut P, right: &mut P, wire: &mut Wire, work: Work, message: &[u8]) {
     for number in 0..work.messages {
-        left.write(work.channel(number), true, message);
-        settle(left, right, wire);
+        if work.is_idle {
+            pass(left, right, wire, Span::from_nanos(0));
+        } else {
+            left.write(work.channel(number), true, message);
+            settle(left, right, wire);
+        }
     }
 }
 
@@ -89,13 +96,14 @@ fn all_have_length(messages: &[Bytes], length: usize) -> bool {
 fn is_done(wire: &Wire, work: Work) -> bool {
     let channels = work.channels as usize;
     let opened = (wire.left.opened == channels) & (wire.right.opened == channels);
-    let came = wire.right.messages.len() == work.messages as usize;
+    let messages = if work.is_idle { 0 } else { work.messages };
+    let came = wire.right.messages.len() == messages as usize;
     let whole = all_have_length(wire.right.messages.as_slice(), work.bytes as usize);
     opened & came & whole & wire.is_faultless()
 }
 
 /// Whether two peers that buffer as much as the longest message is open so many channels, and so many messages of so many bytes come
-/// over the last one, or over all in turn.
+/// over the last one, or over all in turn, or none while they are given as many moments.
 pub fn does_come<P: Signals + Polled>(
     alloc: Global,
     left: &mut P,

@@ -1,7 +1,7 @@
 //! The configuration of a peer, as examples ask it.
 use crate::config::{Config, Named};
 use rtc_config::RtcConfig;
-use rtc_sdp_values::{Extension, ExtensionMap, IceCreds, PayloadRow};
+use rtc_sdp_values::{Extension, PayloadRow};
 use std::alloc::AllocError;
 
 impl Config for RtcConfig {
@@ -26,21 +26,10 @@ impl Config for RtcConfig {
         }
     }
 
-    fn with_distances(self, distances: &[u32]) -> Result<RtcConfig, AllocError> {
-        self.set_red_distances(distances)
-    }
-
-    fn with_identity(self, creds: IceCreds, cert: Vec<u8>) -> RtcConfig {
-        self.set_local_ice_credentials(creds).set_dtls_cert(cert)
-    }
-
-    fn with_extensions(self, map: ExtensionMap) -> Result<RtcConfig, AllocError> {
-        let config = self.clear_extension_map().set_extension_map(map);
+    fn with_settings(self, distances: &[u32]) -> Result<RtcConfig, AllocError> {
+        let config = self.set_mtu((900, 1400));
+        let config = config.set_red_distances(distances)?;
         config.set_extension(4, Extension::AudioLevel)
-    }
-
-    fn with_short_datagrams(self) -> RtcConfig {
-        self.set_mtu((900, 1400))
     }
 
     fn datagram_sizes(&self) -> (usize, usize) {

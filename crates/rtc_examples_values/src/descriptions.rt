@@ -1,38 +1,8 @@
-//! Values of session descriptions: layers, extensions, and hashes of certificates.
-use rtc_examples_cases::{every, is_true};
-use rtc_sdp_values::{Extension, ExtensionMap, Fingerprint, Rid, Simulcast, SimulcastLayer};
-use rtc_wire::{Seq, TryCopy};
+//! Hashes of certificates.
+use rtc_examples_cases::every;
+use rtc_sdp_values::Fingerprint;
 use rtc_wire_text::push_hex;
 use std::alloc::{AllocError, Global};
-
-// Whether the standard extensions are copied.
-fn are_extensions_copied(alloc: Global) -> Result<bool, AllocError> {
-    let map = ExtensionMap::standard(alloc)?;
-    let copied = map.copy()?;
-    Ok(copied.lookup(4) == Some(Extension::RtpMid))
-}
-
-fn add_layer(layers: &mut Seq<SimulcastLayer>, alloc: Global, rid: Rid) -> Result<(), AllocError> {
-    layers.push(SimulcastLayer {
-        rid,
-        attributes: Seq::empty(alloc),
-    })
-}
-
-fn is_inverted(simulcast: &Simulcast) -> Result<bool, AllocError> {
-    let inverse = simulcast.invert()?;
-    Ok(inverse.send.is_empty() & (inverse.recv == simulcast.send))
-}
-
-// Whether the layers that are sent are received at the other end.
-fn are_layers_inverted(alloc: Global, rid: Rid) -> bool {
-    let mut simulcast = Simulcast {
-        send: Seq::empty(alloc),
-        recv: Seq::empty(alloc),
-    };
-    let added = add_layer(&mut simulcast.send, alloc, rid);
-    added.is_ok() & is_true(is_inverted(&simulcast))
-}
 
 fn push_hash(alloc: Global, name: &str, hex: &mut String) -> Result<(), AllocError> {
     match Fingerprint::of_certificate(alloc, b"abc", name)? {
@@ -63,12 +33,7 @@ fn hashes(alloc: Global) -> bool {
 /// Whether an example of session descriptions as values gives what is expected.
 pub fn does_agree(alloc: Global, example: &str) -> bool {
     match example {
-        "with extensions" => is_true(are_extensions_copied(alloc)),
         "with hashes of certificates" => hashes(alloc),
-        "with layers" => match Rid::read("h") {
-            Some(rid) => are_layers_inverted(alloc, rid),
-            None => false,
-        },
         _ => false,
     }
 }

@@ -1,5 +1,5 @@
-//! Runs stored examples of values: copies, datagrams, open messages, fields of text, values of session descriptions, records of a file,
-//! sources and sinks of bytes, signals, and configurations with what they leave of codecs, extensions and statistics.
+//! Runs stored examples of values: open messages, hashes of certificates, copies, records of a file, sources and sinks of bytes, and
+//! configurations with their codecs.
 //!
 //! Each line of the input names a subject and an example of it. It is printed again behind `agrees` or `differs`.
 #![tactic(auto)]
@@ -9,14 +9,9 @@ mod config;
 mod config_of_peers;
 mod configs;
 mod copies;
-mod datagrams;
 mod descriptions;
-mod fields;
-mod lines;
 mod messages;
-mod readiness;
 mod records;
-mod statistics;
 mod streams;
 
 use rtc_examples_cases::{Examples, run};
@@ -33,14 +28,9 @@ impl Examples for Values {
             "codecs" => codecs::does_agree(alloc, name),
             "configs" => configs::does_agree(alloc, name),
             "copies" => copies::does_agree(alloc, name),
-            "datagrams" => datagrams::does_agree(alloc, name),
             "descriptions" => descriptions::does_agree(alloc, name),
-            "fields" => fields::does_agree(alloc, name),
-            "lines" => lines::does_agree(alloc, name),
             "messages" => messages::does_agree(alloc, name),
-            "readiness" => readiness::does_agree(name),
             "records" => records::does_agree(alloc, name),
-            "statistics" => statistics::does_agree(alloc, name),
             "streams" => streams::does_agree(alloc, name),
             _ => false,
         }

@@ -1,7 +1,6 @@
 //! Open messages of data channels (RFC 8832, section 5.1), byte by byte.
-use crate::copies::is_copied;
-use rtc_examples_cases::{every, gives, is_refused, is_true, prints};
-use rtc_wire::{ChannelConfig, ChannelId, DcepError, DcepOpen, Reliability, Text};
+use rtc_examples_cases::{every, gives, is_refused, is_true};
+use rtc_wire::{ChannelConfig, DcepError, DcepOpen, Text};
 use std::alloc::Global;
 
 // The open message of a channel with the label `a` and nothing else.
@@ -61,45 +60,11 @@ fn refused(alloc: Global) -> bool {
     ])
 }
 
-// Whether a config and its message are copied.
-fn are_copied(config: &ChannelConfig) -> Result<bool, DcepError> {
-    let message = DcepOpen::from_config(config)?;
-    Ok(is_copied(&message) & is_copied(config))
-}
-
-// Whether configs, messages and ids are copied.
-fn copies(alloc: Global) -> bool {
-    let mut config = ChannelConfig::new(alloc);
-    config.reliability = Reliability::MaxRetransmits { retransmits: 3 };
-    config.negotiated = Some(8);
-    is_copied(&ChannelId::new(4)) & is_true(are_copied(&config))
-}
-
-// Whether each refusal prints its cause.
-fn printed(alloc: Global) -> bool {
-    every(&[
-        prints(
-            alloc,
-            &DcepError::DcepOpenTooSmall,
-            "DCEP open message too small",
-        ),
-        prints(
-            alloc,
-            &DcepError::DcepIncorrectMessageType,
-            "DCEP incorrect message type",
-        ),
-        prints(alloc, &DcepError::DcepBadUtf8, "DCEP bad UTF-8 string"),
-        prints(alloc, &DcepError::Alloc, "out of memory"),
-    ])
-}
-
 /// Whether an example of messages gives what is expected.
 pub fn does_agree(alloc: Global, example: &str) -> bool {
     match example {
-        "copied" => copies(alloc),
         "open a channel" => is_true(open(alloc)),
         "are refused" => refused(alloc),
-        "printed when refused" => printed(alloc),
         _ => false,
     }
 }

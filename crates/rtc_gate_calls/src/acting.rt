@@ -1,6 +1,7 @@
 //! Calls on a connection by its number.
 ghost use Rattle.std.specs.Prelude.{
   ◌≡◌,
+  ℕ,
   ◌^◌,
   ◌+◌,
   ◌<◌,
@@ -31,9 +32,9 @@ use rtc_wire_text::ShortToken;
 pub struct NotHere;
 
 // The frame that waited longest for the connection at a place.
-fn next_at(connections: &mut [Connection], place: usize, number: u32) -> Option<Bytes>
-    requires { IsAt connections.old place number }
-    ensures left { connections.new ≡ map (without_first number) connections.old }
+fn next_at(connections: &mut [Connection], place: usize) -> Option<Bytes>
+    requires { place < length connections.old }
+    ensures left { (number : ℕ) → IsAt connections.old place number → connections.new ≡ map (without_first number) connections.old }
     ensures frame { (connection : ConnectionState) → slice_get connections.old place ≡ Some connection → result
         ≡ slice_get connection.queue 0 }
 {
@@ -53,7 +54,7 @@ pub fn take_from(connections: &mut [Connection], conn: u32) -> Result<Option<Byt
     let Some(place) = place_of(connections, conn) else {
         return Err(NotHere);
     };
-    Ok(next_at(connections, place, conn))
+    Ok(next_at(connections, place))
 }
 
 // Takes the connection at a place out, and answers its name.

@@ -41,39 +41,34 @@ fn sort_kept(
     sort(alloc, connections, names, sender, bytes)
 }
 
-// Keeps a piece of the stream of the connection at a place.
-fn keep_at(
-    connections: &mut [Connection],
-    place: usize,
-    number: u32,
-    piece: &[u8],
-) -> Result<(), AllocError>
-    requires { IsAt connections.old place number }
-    ensures ok { OnOk result (connections.new ≡ map (connection_changed_at number (with_piece piece.now)) connections.old) }
+// Keeps a piece of the sender's stream.
+fn keep_at(connections: &mut [Connection], sender: &Sender, piece: &[u8]) -> Result<(), AllocError>
+    requires { IsAt connections.old sender.now.place sender.now.number }
+    ensures ok { OnOk result (connections.new ≡ map (connection_changed_at sender.now.number (with_piece piece.now)) connections.old) }
     ensures err { OnErr result (connections.new ≡ connections.old) }
 {
-    let connection = &mut connections[place];
+    let connection = &mut connections[sender.place];
     connection.keep(piece)?;
     Ok(())
 }
 
-// Cuts what is kept of the stream of the connection at a place.
-fn cut_at(connections: &mut [Connection], place: usize, number: u32, count: usize)
-    requires { IsAt connections.old place number }
-    ensures { connections.new ≡ map (connection_changed_at number (cut_to count)) connections.old }
+// Cuts what is kept of the sender's stream.
+fn cut_at(connections: &mut [Connection], sender: &Sender, count: usize)
+    requires { IsAt connections.old sender.now.place sender.now.number }
+    ensures { connections.new ≡ map (connection_changed_at sender.now.number (cut_to count)) connections.old }
 {
-    let connection = &mut connections[place];
+    let connection = &mut connections[sender.place];
     connection.forget(count);
 }
 
-// Lets the whole frames of the stream of the connection at a place go.
-fn advance_at(connections: &mut [Connection], place: usize, number: u32, size: usize, stuck: bool)
-    requires there { IsAt connections.old place number }
-    requires fits { IsSomeAnd (slice_get connections.old place) (λ connection. (size ≤ length connection.incoming.kept)
+// Lets the whole frames of the sender's stream go.
+fn advance_at(connections: &mut [Connection], sender: &Sender, size: usize, stuck: bool)
+    requires there { IsAt connections.old sender.now.place sender.now.number }
+    requires fits { IsSomeAnd (slice_get connections.old sender.now.place) (λ connection. (size ≤ length connection.incoming.kept)
         × (connection.incoming.done + size < 2 ^ 64)) }
-    ensures { connections.new ≡ map (connection_changed_at number (advanced size stuck)) connections.old }
+    ensures { connections.new ≡ map (connection_changed_at sender.now.number (advanced size stuck)) connections.old }
 {
-    let connection = &mut connections[place];
+    let connection = &mut connections[sender.place];
     connection.advance(size, stuck);
 }
 
@@ -95,16 +90,16 @@ fn feed_more(
 {
     let kept = connections[sender.place].kept().len();
     let done = connections[sender.place].done();
-    keep_at(connections, sender.place, sender.number, piece)?;
+    keep_at(connections, sender, piece)?;
     let Ok(sorted) = sort_kept(alloc, connections, names, sender) else {
-        cut_at(connections, sender.place, sender.number, kept);
+        cut_at(connections, sender, kept);
         return Err(GateError::Alloc);
     };
     let count = sorted.deliveries.len() as u32;
     let size = sorted.size;
     let stuck = sorted.stuck;
     deliver(connections, sorted.deliveries);
-    advance_at(connections, sender.place, sender.number, size, stuck);
+    advance_at(connections, sender, size, stuck);
     if stuck {
         Err(GateError::BadFrame {
             at: done + size as u64,

@@ -1,5 +1,6 @@
-use Rattle.std.proofs.Common.{◌^◌, ◌∙◌, ap, sym, Some}
+use Rattle.std.proofs.Common.{◌≡◌, ◌^◌, ◌∙◌, ap, sym, Some}
 use Rattle.rtc_gate_calls.specs.GateState.{ConnectionState}
+use Rattle.rtc_gate_calls.proofs.ConnectionLemmas.{place_within}
 use Rattle.rtc_gate_calls.proofs.GateLemmas.{nobody_left, found_at, one_found}
 use Rattle.rtc_gate_calls.proofs.acting.take_from.Goals as goal
 
@@ -15,3 +16,9 @@ pub returns-clause-here : goal.returns-clause-here
 returns-clause-here c =
     let f = found_at c.args.connections.now c.in-Some.place c.args.conn (2 ^ 32) c.requires c.in-Some.ensures.some in
     (f.0, f.2)
+
+pub next_at-requires : goal.next_at-requires
+next_at-requires c = place_within c.args.connections.now c.in-Some.place (λ d. d.number ≡ c.args.conn) c.in-Some.ensures.some
+
+pub returns-clause-left : goal.returns-clause-left
+returns-clause-left c = c.next_at.ensures.left c.args.conn (record { numbered = c.requires; there = c.in-Some.ensures.some })

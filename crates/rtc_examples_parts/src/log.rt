@@ -1,0 +1,35 @@
+//! What is told of streams.
+use std::alloc::Global;
+
+/// What was told, a line for each thing, and whether something failed that was to succeed, as want of memory.
+#[derive(Drop)]
+pub struct Log {
+    text: String,
+    failed: bool,
+}
+
+impl Log {
+    /// Nothing.
+    pub fn new(alloc: Global) -> Log {
+        Log {
+            text: String::new(alloc),
+            failed: false,
+        }
+    }
+
+    /// Notes that something was to be done, which was or was not.
+    pub fn need(&mut self, done: bool) {
+        self.failed = self.failed | !done;
+    }
+
+    /// Notes a line of three words.
+    pub fn add_line(&mut self, name: &str, word: &str, text: &str) {
+        let added = writeln!(self.text, "{name} {word}{text}");
+        self.need(added.is_ok());
+    }
+
+    /// Whether this text was noted, and nothing failed.
+    pub fn is(&self, text: &str) -> bool {
+        !self.failed & (self.text.as_str() == text)
+    }
+}
