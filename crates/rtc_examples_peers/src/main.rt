@@ -3,9 +3,10 @@
 //! that go over a data channel while datagrams are lost and repeated.
 //!
 //! Each line of the input names a subject and an example of it, and is printed again behind `agrees` or `differs`: `answer PATH` gives a
-//! fresh peer the offer `PATH.offer`, whose answer has the lines of `PATH.answer`; `copy PATH` copies what is read of one;
-//! `file SIZE SEED LOST TWICE` sends a file, `work one C M B` and `work turn C M B` so many messages over channels, and `work idle C M 0`
-//! gives so many moments, so that a tool that counts instructions sees what they cost.
+//! fresh peer the offer `PATH.offer`, whose answer has the lines of `PATH.answer`, as `codecs` and `starts` do with `PATH.text` and
+//! `PATH.told`; `copy PATH` copies what is read of an offer; `file SIZE SEED LOST TWICE` sends a file, `work one C M B` and
+//! `work turn C M B` so many messages over channels, and `work idle C M 0` gives so many moments, so that a tool that counts instructions
+//! sees what they cost.
 #![tactic(auto)]
 
 mod announced;

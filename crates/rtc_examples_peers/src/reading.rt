@@ -20,38 +20,31 @@ fn read_turn<R: Files + AllocGlobal>(
     Ok(())
 }
 
-// The offer beside the first one, which tells another chunk or none.
-fn other_offer(example: &str) -> &'static str {
-    if example == "keep the first chunk" {
-        "starts/other_chunk"
-    } else {
-        "starts/no_chunk"
+// The endings of the files of a subject: an offer, and what is told of its answer.
+fn endings(subject: &str) -> Option<(&'static str, &'static str)> {
+    match subject {
+        "answer" => Some(("offer", "answer")),
+        "copy" => Some(("offer", "answer")),
+        "codecs" => Some(("text", "told")),
+        "starts" => Some(("text", "told")),
+        _ => None,
     }
 }
 
-fn read_starts<R: Files + AllocGlobal>(
-    rt: &R,
-    turns: &mut Vec<Turn>,
-    example: &str,
-) -> io::Result<()> {
-    read_turn(rt, turns, "starts/first_chunk", ("text", "told"))?;
-    read_turn(rt, turns, other_offer(example), ("text", "told"))?;
-    read_turn(rt, turns, "starts/first_chunk", ("text", "told"))
-}
-
-/// The offers that the peer of an example is given in turn.
+/// Reads the offers that the peer of an example is given in turn, by their paths. It answers whether they are there, if there are to be any.
 pub fn read_turns<R: Files + AllocGlobal>(
     rt: &R,
+    turns: &mut Vec<Turn>,
     subject: &str,
-    name: &str,
-) -> io::Result<Vec<Turn>> {
-    let mut turns = Vec::new(rt.alloc());
-    match subject {
-        "answer" => read_turn(rt, &mut turns, name, ("offer", "answer"))?,
-        "copy" => read_turn(rt, &mut turns, name, ("offer", "answer"))?,
-        "codecs" => read_turn(rt, &mut turns, "h264_vp8_vp9", ("text", "told"))?,
-        "starts" => read_starts(rt, &mut turns, name)?,
-        _ => {}
+    paths: &str,
+) -> bool {
+    let Some(endings) = endings(subject) else {
+        return true;
+    };
+    for path in paths.split(' ') {
+        if read_turn(rt, turns, path, endings).is_err() {
+            return false;
+        }
     }
-    Ok(turns)
+    true
 }

@@ -25,17 +25,16 @@ fn agrees<R: Files + AllocGlobal, P: Signals + Polled + Direct>(
     let (Some(mid), Some(other)) = (Mid::read("a"), Mid::read("b")) else {
         return false;
     };
-    match read_turns(rt, subject, name) {
-        Ok(turns) => ask(
-            rt.alloc(),
-            left,
-            right,
-            (mid, other),
-            (subject, name),
-            turns.as_slice(),
-        ),
-        Err(_) => false,
-    }
+    let mut turns = Vec::new(rt.alloc());
+    let read = read_turns(rt, &mut turns, subject, name);
+    read & ask(
+        rt.alloc(),
+        left,
+        right,
+        (mid, other),
+        (subject, name),
+        turns.as_slice(),
+    )
 }
 
 // The same where there was memory for both peers.
