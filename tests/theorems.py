@@ -51,7 +51,7 @@ def definition(target, word):
 # The words of this repository that a file defines, or takes from another one: types that the code declares are left out.
 def words_known(target):
     text = read(target)
-    known = set(re.findall(r"\bpub (?:record )?(\w+) *[:({]", re.sub(r"^  pub .*$", "", text, flags=re.M)))
+    known = set(re.findall(r"\bpub (?:record )?(\w+) *[:({]", re.sub(r"^ +pub (?!record |data )\w+ *:.*$", "", text, flags=re.M)))
     for module, inside in re.findall(r"use Rattle\.rtc_\w+\.specs\.([\w.]+)\.\{([^}]*)\}", text):
         if not module.startswith("declared."):
             known |= set(filter(None, (part.strip() for part in inside.split(","))))
