@@ -25,7 +25,7 @@ pub trait Direct {
     fn makes_channels(&mut self, alloc: Global) -> bool;
 
     /// A mid is declared once. The first line is stopped and keeps its mid; the last one goes once, and may be declared again.
-    fn declares_lines(&mut self, first: Mid, last: Mid) -> Result<bool, AllocError>;
+    fn declares_lines(&mut self, first: Mid, last: Mid) -> bool;
 
     /// The fourth number is in use with its retransmissions, so that the sixth is given.
     fn draws_source(&mut self, mid: Mid) -> Result<bool, AllocError>;

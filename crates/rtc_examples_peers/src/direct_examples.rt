@@ -43,7 +43,7 @@ pub fn does_agree<P: Signals + Direct>(
         "feedback is sent" => left.sends_feedback(mids.0),
         "first role stays" => left.keeps_role(),
         "halves are told by descriptions" => tell_halves(alloc, left, right),
-        "lines are declared and removed" => is_true(left.declares_lines(mids.0, mids.1)),
+        "lines are declared and removed" => left.declares_lines(mids.0, mids.1),
         "parts are set" => is_true(left.takes_address(alloc)) & is_true(left.sets_parts(alloc)),
         "peer ends once" => left.ends(),
         _ => do_streams_agree(left, mids.0, example),

@@ -130,22 +130,22 @@ impl<
         every(&[started, first, !refused, second, unused, without, closed])
     }
 
-    fn declares_lines(&mut self, first: Mid, last: Mid) -> Result<bool, AllocError> {
+    fn declares_lines(&mut self, first: Mid, last: Mid) -> bool {
         let mut api = self.direct_api();
-        let once = api.declare_media(first, MediaKind::Audio)?;
-        let twice = api.declare_media(first, MediaKind::Video)?;
-        let other = api.declare_media(last, MediaKind::Audio)?;
+        let once = gives(api.declare_media(first, MediaKind::Audio), &true);
+        let twice = gives(api.declare_media(first, MediaKind::Video), &false);
+        let other = gives(api.declare_media(last, MediaKind::Audio), &true);
         let stopped = api.remove_media(first);
-        let kept = api.declare_media(first, MediaKind::Audio)?;
+        let kept = gives(api.declare_media(first, MediaKind::Audio), &false);
         let went = api.remove_media(last);
         let gone = api.remove_media(last);
-        let again = api.declare_media(last, MediaKind::Video)?;
-        Ok(every(&[once, !twice, other, stopped, !kept, went, !gone, again]))
+        let again = gives(api.declare_media(last, MediaKind::Video), &true);
+        every(&[once, twice, other, stopped, kept, went, !gone, again])
     }
 
     fn draws_source(&mut self, mid: Mid) -> Result<bool, AllocError> {
         let mut api = self.direct_api();
-        let line = api.declare_media(mid, MediaKind::Audio)?;
+        let line = gives(api.declare_media(mid, MediaKind::Audio), &true);
         let made = api
             .declare_stream_tx(Ssrc(4), Some(Ssrc(5)), mid, None)?
             .is_some();
@@ -155,7 +155,7 @@ impl<
     fn keeps_marks(&mut self, mid: Mid) -> Result<bool, AllocError> {
         let mut api = self.direct_api();
         let early = api.expect_stream_rx(Ssrc(7), None, mid, None)?.is_none();
-        let line = api.declare_media(mid, MediaKind::Video)?;
+        let line = gives(api.declare_media(mid, MediaKind::Video), &true);
         let expected = marks(api.expect_stream_rx(Ssrc(7), None, mid, None)?, 5);
         let received = counts(api.stream_rx(Ssrc(7)), 5);
         let of_line = counts(api.stream_rx_by_mid(mid, None), 5);
@@ -172,7 +172,7 @@ impl<
 
     fn drops_streams(&mut self, mid: Mid) -> Result<bool, AllocError> {
         let mut api = self.direct_api();
-        let line = api.declare_media(mid, MediaKind::Audio)?;
+        let line = gives(api.declare_media(mid, MediaKind::Audio), &true);
         let expected = api.expect_stream_rx(Ssrc(7), None, mid, None)?.is_some();
         let declared = api.declare_stream_tx(Ssrc(8), None, mid, None)?.is_some();
         let dropped = api.remove_stream_rx(Ssrc(7));
