@@ -1,19 +1,48 @@
 //! Peers that are driven without session descriptions.
 use crate::direct::Direct;
+use crate::hosts::candidate;
 use rtc_examples_cases::{every, gives, is_ok};
 use rtc_peer::{
-    Association, Candidate, DtlsInstance, Fingerprint, IceAgent, IceCreds, Ids, MediaKind,
-    MediaSession, Mid, Rtc, SctpInitData, Ssrc,
+    Association, DtlsInstance, Fingerprint, IceAgent, IceCreds, Ids, MediaKind, MediaSession, Mid,
+    Rtc, SctpInitData, Ssrc,
 };
-use rtc_plain::PlainMark;
-use rtc_wire::{ChannelConfig, ChannelId};
-use std::alloc::AllocError;
+use rtc_plain::{CountIds, PlainMark};
+use rtc_wire::{ChannelConfig, ChannelId, Text};
+use std::alloc::{AllocError, Global};
+
+fn creds(alloc: Global, ufrag: &str, pass: &str) -> Result<IceCreds, AllocError> {
+    let ufrag = Text::from_str(alloc, ufrag)?;
+    let pass = Text::from_str(alloc, pass)?;
+    Ok(IceCreds { ufrag, pass })
+}
 
 fn has_ufrag(creds: Result<IceCreds, AllocError>, ufrag: &str) -> bool {
     match creds {
         Ok(creds) => creds.ufrag.as_str() == ufrag,
         Err(_) => false,
     }
+}
+
+// The half of a start of this side, of the numbers 1 and 2.
+fn half(alloc: Global) -> Result<SctpInitData, AllocError> {
+    let mut halves = SctpInitData::new(alloc);
+    let mut ids = CountIds::starting(1);
+    halves.ensure_local_init_chunk(&mut ids)?;
+    Ok(halves)
+}
+
+// That and one of the other side.
+fn whole(alloc: Global) -> Result<SctpInitData, AllocError> {
+    let chunk = vec![in alloc; 1u8; 20]?;
+    let mut halves = half(alloc)?;
+    halves.set_remote_init_chunk(chunk);
+    Ok(halves)
+}
+
+fn channel(alloc: Global, stream: Option<u16>) -> ChannelConfig {
+    let mut config = ChannelConfig::new(alloc);
+    config.negotiated = stream;
+    config
 }
 
 // Whether there is a stream, which is marked.
@@ -42,22 +71,25 @@ impl<
     M: MediaSession<Rx = PlainMark, Tx = PlainMark>,
     N: Ids,
 > Direct for Rtc<I, D, S, M, N> {
-    fn sets_parts(&mut self, own: IceCreds, other: IceCreds, announced: Fingerprint) -> bool {
+    fn sets_parts(&mut self, alloc: Global) -> Result<bool, AllocError> {
         let mut api = self.direct_api();
         api.set_ice_controlling(true);
         api.set_ice_lite(false);
-        api.set_local_ice_credentials(own);
-        api.set_remote_ice_credentials(other);
-        api.set_remote_fingerprint(announced);
+        api.set_local_ice_credentials(creds(alloc, "own", "ownpassword")?);
+        api.set_remote_ice_credentials(creds(alloc, "other", "otherpassword")?);
+        if let Some(announced) = Fingerprint::of_certificate(alloc, b"abc", "sha-256")? {
+            api.set_remote_fingerprint(announced);
+        }
         let named = has_ufrag(api.local_ice_credentials(), "own");
         let hashed = api.local_dtls_fingerprint().hash_func.as_str() == "sha-256";
         let unknown = api.remote_dtls_fingerprint().is_none();
-        named & hashed & unknown & api.dtls_protocol_version().is_none()
+        Ok(named & hashed & unknown & api.dtls_protocol_version().is_none())
     }
 
-    fn takes_address(&mut self, there: Candidate, unknown: &Candidate) -> bool {
-        let taken = is_ok(self.add_remote_candidate(there));
-        taken & !self.direct_api().invalidate_candidate(unknown)
+    fn takes_address(&mut self, alloc: Global) -> Result<bool, AllocError> {
+        let taken = is_ok(self.add_remote_candidate(candidate(alloc, 2)?));
+        let unknown = candidate(alloc, 1)?;
+        Ok(taken & !self.direct_api().invalidate_candidate(&unknown))
     }
 
     fn keeps_role(&mut self) -> bool {
@@ -66,49 +98,54 @@ impl<
         first & is_ok(api.start_dtls(true))
     }
 
-    fn refuses_half(&mut self, half: SctpInitData) -> bool {
-        !is_ok(self.direct_api().start_sctp_with_snap(true, half))
+    fn refuses_half(&mut self, alloc: Global) -> Result<bool, AllocError> {
+        let half = half(alloc)?;
+        Ok(!is_ok(self.direct_api().start_sctp_with_snap(true, half)))
     }
 
-    fn starts(&mut self, halves: SctpInitData) -> bool {
+    fn starts(&mut self, alloc: Global) -> Result<bool, AllocError> {
+        let halves = whole(alloc)?;
         let mut api = self.direct_api();
         let first = is_ok(api.start_sctp_with_snap(true, halves));
-        first & is_ok(api.start_sctp(false))
+        Ok(first & is_ok(api.start_sctp(false)))
     }
 
-    fn makes_channels(&mut self, settled: ChannelConfig, free: ChannelConfig) -> bool {
+    fn makes_channels(&mut self, alloc: Global) -> bool {
         let mut api = self.direct_api();
         let started = is_ok(api.start_sctp(true));
-        let first = gives(api.create_data_channel(settled), &ChannelId::new(0));
-        let second = gives(api.create_data_channel(free), &ChannelId::new(1));
+        let first = gives(
+            api.create_data_channel(channel(alloc, Some(4))),
+            &ChannelId::new(0),
+        );
+        let refused = is_ok(api.create_data_channel(channel(alloc, Some(4))));
+        let second = gives(
+            api.create_data_channel(channel(alloc, None)),
+            &ChannelId::new(1),
+        );
         let unused = api.channel_id_by_sctp_stream_id(4).is_none();
         let without = api
             .sctp_stream_id_by_channel_id(ChannelId::new(0))
             .is_none();
         let closed = is_ok(api.close_data_channel(ChannelId::new(0)));
-        started & first & second & unused & without & closed
+        every(&[started, first, !refused, second, unused, without, closed])
     }
 
-    fn refuses_channel(&mut self, taken: ChannelConfig) -> bool {
-        !is_ok(self.direct_api().create_data_channel(taken))
-    }
-
-    fn declares_lines(&mut self, first: Mid, last: Mid) -> Result<bool, AllocError> {
+    fn declares_lines(&mut self, first: Mid, last: Mid) -> bool {
         let mut api = self.direct_api();
-        let once = api.declare_media(first, MediaKind::Audio)?;
-        let twice = api.declare_media(first, MediaKind::Video)?;
-        let other = api.declare_media(last, MediaKind::Audio)?;
+        let once = gives(api.declare_media(first, MediaKind::Audio), &true);
+        let twice = gives(api.declare_media(first, MediaKind::Video), &false);
+        let other = gives(api.declare_media(last, MediaKind::Audio), &true);
         let stopped = api.remove_media(first);
-        let kept = api.declare_media(first, MediaKind::Audio)?;
+        let kept = gives(api.declare_media(first, MediaKind::Audio), &false);
         let went = api.remove_media(last);
         let gone = api.remove_media(last);
-        let again = api.declare_media(last, MediaKind::Video)?;
-        Ok(every(&[once, !twice, other, stopped, !kept, went, !gone, again]))
+        let again = gives(api.declare_media(last, MediaKind::Video), &true);
+        every(&[once, twice, other, stopped, kept, went, !gone, again])
     }
 
     fn draws_source(&mut self, mid: Mid) -> Result<bool, AllocError> {
         let mut api = self.direct_api();
-        let line = api.declare_media(mid, MediaKind::Audio)?;
+        let line = gives(api.declare_media(mid, MediaKind::Audio), &true);
         let made = api
             .declare_stream_tx(Ssrc(4), Some(Ssrc(5)), mid, None)?
             .is_some();
@@ -118,7 +155,7 @@ impl<
     fn keeps_marks(&mut self, mid: Mid) -> Result<bool, AllocError> {
         let mut api = self.direct_api();
         let early = api.expect_stream_rx(Ssrc(7), None, mid, None)?.is_none();
-        let line = api.declare_media(mid, MediaKind::Video)?;
+        let line = gives(api.declare_media(mid, MediaKind::Video), &true);
         let expected = marks(api.expect_stream_rx(Ssrc(7), None, mid, None)?, 5);
         let received = counts(api.stream_rx(Ssrc(7)), 5);
         let of_line = counts(api.stream_rx_by_mid(mid, None), 5);
@@ -135,7 +172,7 @@ impl<
 
     fn drops_streams(&mut self, mid: Mid) -> Result<bool, AllocError> {
         let mut api = self.direct_api();
-        let line = api.declare_media(mid, MediaKind::Audio)?;
+        let line = gives(api.declare_media(mid, MediaKind::Audio), &true);
         let expected = api.expect_stream_rx(Ssrc(7), None, mid, None)?.is_some();
         let declared = api.declare_stream_tx(Ssrc(8), None, mid, None)?.is_some();
         let dropped = api.remove_stream_rx(Ssrc(7));
