@@ -18,17 +18,17 @@ left_unread read p r q cause reads is same = record { cause = cause; by_reading 
 
 module _ {I D S M E X T W N : Type 0} (m : Meanings I D S M E X T W N) where
   -- what a handle on which nothing is staged did, said of the peer
-  pub offer_by_handle : (old lent left q : Peer I D S M N) (offer : Sdp) (result : Result Sdp RtcError) → lent ≡ record old { staged = [] }
-      → AcceptsOffer m lent offer result left → q ≡ left → AcceptsOffer m (record old { staged = [] }) offer result q
+  pub offer_by_handle : (old lent left q : Peer I D S M N) (offer : Sdp) (result : Result Sdp RtcError) → lent ≡ record old { staged = []; undo = [] }
+      → AcceptsOffer m lent offer result left → q ≡ left → AcceptsOffer m (record old { staged = []; undo = [] }) offer result q
   offer_by_handle old lent left q offer result is h same =
       let from : Peer I D S M N → Type 0 = λ (x : Peer I D S M N). AcceptsOffer m x offer result left in
-      let to : Peer I D S M N → Type 0 = λ (x : Peer I D S M N). AcceptsOffer m (record old { staged = [] }) offer result x in
+      let to : Peer I D S M N → Type 0 = λ (x : Peer I D S M N). AcceptsOffer m (record old { staged = []; undo = [] }) offer result x in
       subst to (sym same) (subst from is h)
 
   pub answer_by_handle : (old lent left q : Peer I D S M N) (token : PendingOffer) (answer : Sdp) (result : Result (Unit {0}) RtcError)
-      → lent ≡ record old { staged = [] } → AcceptsAnswer m lent token answer result left → q ≡ left
-      → AcceptsAnswer m (record old { staged = [] }) token answer result q
+      → lent ≡ record old { staged = []; undo = [] } → AcceptsAnswer m lent token answer result left → q ≡ left
+      → AcceptsAnswer m (record old { staged = []; undo = [] }) token answer result q
   answer_by_handle old lent left q token answer result is h same =
       let from : Peer I D S M N → Type 0 = λ (x : Peer I D S M N). AcceptsAnswer m x token answer result left in
-      let to : Peer I D S M N → Type 0 = λ (x : Peer I D S M N). AcceptsAnswer m (record old { staged = [] }) token answer result x in
+      let to : Peer I D S M N → Type 0 = λ (x : Peer I D S M N). AcceptsAnswer m (record old { staged = []; undo = [] }) token answer result x in
       subst to (sym same) (subst from is h)

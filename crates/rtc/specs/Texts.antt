@@ -28,9 +28,9 @@ pub record LeavesUnread {A I D S M N : Type 0} (read : Result Sdp ℕ) (p : Peer
 module _ {I D S M E X T W N : Type 0} (m : Meanings I D S M E X T W N) where
   -- An offer is accepted as by a handle on which nothing is staged, and its answer is written; or it is refused.
   pub data AnswersOffer (offer : Sdp) (p : Peer I D S M N) (r : Result (List ℕ) RtcError) (q : Peer I D S M N) : Type 0 where
-    OfferRefused : (error : RtcError) → AcceptsOffer m (record p { staged = [] }) offer (Err error) q → r ≡ Err error
+    OfferRefused : (error : RtcError) → AcceptsOffer m (record p { staged = []; undo = [] }) offer (Err error) q → r ≡ Err error
         → AnswersOffer offer p r q
-    OfferAnswered : (answer : Sdp) → AcceptsOffer m (record p { staged = [] }) offer (Ok answer) q → WritesAnswer answer r
+    OfferAnswered : (answer : Sdp) → AcceptsOffer m (record p { staged = []; undo = [] }) offer (Ok answer) q → WritesAnswer answer r
         → AnswersOffer offer p r q
 
   -- The offer that was read of a text is answered.
@@ -42,5 +42,5 @@ module _ {I D S M E X T W N : Type 0} (m : Meanings I D S M E X T W N) where
   pub data AcceptsAnswerText (token : PendingOffer) (read : Result Sdp ℕ) (p : Peer I D S M N) (r : Result (Unit {0}) RtcError)
       (q : Peer I D S M N) : Type 0 where
     AnswerUnread : LeavesUnread read p r q → AcceptsAnswerText token read p r q
-    AnswerRead : (answer : Sdp) → ReadsSdp (Ok answer) read → AcceptsAnswer m (record p { staged = [] }) token answer r q
+    AnswerRead : (answer : Sdp) → ReadsSdp (Ok answer) read → AcceptsAnswer m (record p { staged = []; undo = [] }) token answer r q
         → AcceptsAnswerText token read p r q

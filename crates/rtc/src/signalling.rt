@@ -14,7 +14,7 @@ use std::alloc::Global;
 
 fn accept_offer<P: Parts>(peer: &mut Peer<P>, offer: SdpOffer) -> Result<SdpAnswer, RtcError>
     ensures accepts { AcceptsOffer (meanings P.Ice.ice P.Dtls.dtls P.Sctp.association P.Media.media P.Ids.ids)
-        (record peer.old.core { staged = [] }) offer.0 (sdp_of_answer result) peer.new.core }
+        (record peer.old.core { staged = []; undo = [] }) offer.0 (sdp_of_answer result) peer.new.core }
     ensures connection { peer.new.transport ≡ peer.old.transport }
 {
     peer.sdp_api().accept_offer(offer)
@@ -26,7 +26,7 @@ fn accept_answer<P: Parts>(
     answer: SdpAnswer,
 ) -> Result<(), RtcError>
     ensures accepts { AcceptsAnswer (meanings P.Ice.ice P.Dtls.dtls P.Sctp.association P.Media.media P.Ids.ids)
-        (record peer.old.core { staged = [] }) pending answer.0 result peer.new.core }
+        (record peer.old.core { staged = []; undo = [] }) pending answer.0 result peer.new.core }
     ensures connection { peer.new.transport ≡ peer.old.transport }
 {
     peer.sdp_api().accept_answer(pending, answer)

@@ -1,8 +1,9 @@
--- What the side that made an offer keeps until its answer comes.
+-- What the side that made an offer keeps until its answer comes, or until it rolls the offer back (RFC 8829, section 5.7).
 use Rattle.std.specs.Prelude.{ℕ, ◌+◌, List, [], ◌∷◌, Bool, true, false, not, Option, Some, None, filter, is_some}
 use Rattle.std.specs.List.{list_any}
 use Rattle.rtc_wire_text.specs.Fields.{first}
 use Rattle.rtc_wire.specs.declared.channel_config.ChannelConfig.{ChannelConfig}
+use Rattle.rtc_sdp_values.specs.declared.direction.Direction.{Direction as LineDirection}
 use Rattle.rtc_sdp_values.specs.declared.ice_creds.IceCreds.{IceCreds}
 use Rattle.rtc_sdp_values.specs.declared.line_row.LineRow.{LineRow}
 use Rattle.rtc_sdp_values.specs.declared.line_row.LineRow.TheVariants.{Media, App}
@@ -10,11 +11,13 @@ use Rattle.rtc_sdp_values.specs.Mids.{is_among}
 use Rattle.rtc_change.specs.declared.change.Change.{Change}
 use Rattle.rtc_change.specs.declared.change.Change.TheVariants.{AddMedia, AddApp, AddChannel, Direction, IceRestart}
 
--- the counter as the offer was applied, what the offer changed, and whether it had an `a=sctp-init`
+-- the counter as the offer was applied, what the offer changed, whether it had an `a=sctp-init`, and each row that was set or stopped for
+-- it, by its mid, with its direction and whether it was stopped before
 pub record PendingOffer : Type 0 where
   pub id : ℕ
   pub changes : List Change
   pub says_init : Bool
+  pub undo : List (List ℕ × LineDirection × Bool)
 
 -- the mid of the line that a change adds, if it adds one
 abbrev pub new_mid : Change → Option (List ℕ)

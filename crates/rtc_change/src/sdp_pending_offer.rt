@@ -2,16 +2,19 @@
 ghost use Rattle.std.specs.Prelude.{◌≡◌};
 
 use crate::Changes;
+use rtc_sdp_values::{Direction, Mid};
+use rtc_wire::Seq;
 use std::marker::Model;
 
-/// What the side that made an offer keeps until it accepts the answer.
+/// What the side that made an offer keeps until it accepts the answer, or rolls the offer back.
 ///
-/// Accepting the answer spends it, and it cannot be copied.
+/// Either spends it, and it cannot be copied.
 #[derive(Debug)]
 pub struct SdpPendingOffer {
     change_id: u64,
     changes: Changes,
     sctp_init: bool,
+    undo: Seq<(Mid, Direction, bool)>,
 }
 
 // Written out, so that the proof of what owns a token sees one call and not the drop of each field.
@@ -21,6 +24,7 @@ impl Drop for SdpPendingOffer {
             change_id: _change_id,
             changes: _changes,
             sctp_init: _sctp_init,
+            undo: _undo,
         } = self;
     }
 }
@@ -30,18 +34,30 @@ impl Model for SdpPendingOffer {
 
     ghost Value = { PendingOffer };
 
-    ghost view = { λ token. record { id = token.change_id; changes = token.changes.0; says_init = token.sctp_init } };
+    ghost view = { λ token. record {
+      id = token.change_id;
+      changes = token.changes.0;
+      says_init = token.sctp_init;
+      undo = token.undo;
+    } };
 }
 
 impl SdpPendingOffer {
-    /// The token of an offer: the counter as it was applied, its changes, and whether it had an `a=sctp-init`.
-    pub fn new(id: u64, changes: Changes, sctp_init: bool) -> SdpPendingOffer
-        ensures { result ≡ record { id = id; changes = changes.0; says_init = sctp_init } }
+    /// The token of an offer: the counter as it was applied, its changes, whether it had an `a=sctp-init`, and each row that was set
+    /// or stopped for it, by its mid, with its direction and whether it was stopped before.
+    pub fn new(
+        id: u64,
+        changes: Changes,
+        sctp_init: bool,
+        undo: Seq<(Mid, Direction, bool)>,
+    ) -> SdpPendingOffer
+        ensures { result ≡ record { id = id; changes = changes.0; says_init = sctp_init; undo = undo } }
     {
         SdpPendingOffer {
             change_id: id,
             changes,
             sctp_init,
+            undo,
         }
     }
 
@@ -64,6 +80,13 @@ impl SdpPendingOffer {
         self.sctp_init
     }
 
+    /// The rows that were set or stopped for its offer, as they were before: the mid of each, its direction, and whether it was stopped.
+    pub fn undo(&self) -> &[(Mid, Direction, bool)]
+        ensures { result.now ≡ self.now.undo }
+    {
+        self.undo.as_slice()
+    }
+
     /// The changes, without a copy. The token is spent.
     pub fn into_changes(self) -> Changes
         ensures { result.0 ≡ self.changes }
@@ -72,6 +95,7 @@ impl SdpPendingOffer {
             change_id: _change_id,
             changes,
             sctp_init: _sctp_init,
+            undo: _undo,
         } = self;
         changes
     }

@@ -150,16 +150,16 @@ module _ (given s : ℕ) (rows : List (ℕ × Option ℕ)) (kept : List Kept) (g
       by (Some id) full missed = absurd (grind arith)
 
   pub ensured_view : (grants' : BTreeMap ℕ Grant) (id : ℕ) → id ≡ given → is_ensured s held ≡ false → ((q : ℕ) → holds_at grants' q ≡ holds_at grants q)
-      → handler_view (given + 1) (rows ++ (id, Some s) ∷ []) (kept ++ record { negotiated = None; config = None } ∷ []) (holds_of grants') ≡ channel_ensured s held
+      → handler_view (given + 1) (rows ++ (id, Some s) ∷ []) (kept ++ record { negotiated = None; config = None; confirmed = false } ∷ []) (holds_of grants') ≡ channel_ensured s held
   ensured_view grants' id same none times =
       sym (by (is_ensured s held) none)
     where
-      made : handler_view (given + 1) (rows ++ (id, Some s) ∷ []) (kept ++ record { negotiated = None; config = None } ∷ []) (holds_of grants')
+      made : handler_view (given + 1) (rows ++ (id, Some s) ∷ []) (kept ++ record { negotiated = None; config = None; confirmed = false } ∷ []) (holds_of grants')
           ≡ record held { given = held.given + 1; rows = held.rows ++ opened_by_other held.given s ∷ [] }
-      made = rw (← is, holds_same grants grants' times, one_more rows kept (id, Some s) (record { negotiated = None; config = None }) handled.paired.same, same) refl
+      made = rw (← is, holds_same grants grants' times, one_more rows kept (id, Some s) (record { negotiated = None; config = None; confirmed = false }) handled.paired.same, same) refl
 
       by : (b : Bool) → b ≡ false → cond b held (record held { given = held.given + 1; rows = held.rows ++ opened_by_other held.given s ∷ [] })
-          ≡ handler_view (given + 1) (rows ++ (id, Some s) ∷ []) (kept ++ record { negotiated = None; config = None } ∷ []) (holds_of grants')
+          ≡ handler_view (given + 1) (rows ++ (id, Some s) ∷ []) (kept ++ record { negotiated = None; config = None; confirmed = false } ∷ []) (holds_of grants')
       by b missed = rw missed (sym made)
 
 pub on_err : {X Y : Type 0} {P : Type 0} (r : Result X Y) → P → OnErr r P

@@ -9,7 +9,7 @@ use Rattle.rtc_channels.specs.Holds.{channels_without}
 use Rattle.rtc_channels.proofs.KeptLemmas.{place_behind, some_same}
 
 abbrev pub channel_of : ℕ × Option ℕ → Kept → Channel
-channel_of row own = record { id = row.0; stream = row.1; negotiated = own.negotiated; config = own.config }
+channel_of row own = record { id = row.0; stream = row.1; negotiated = own.negotiated; config = own.config; confirmed = own.confirmed }
 
 pub given_at : (place id s : ℕ) (rows : List (ℕ × Option ℕ)) (kept : List Kept) (i : ℕ) → length rows ≡ length kept → place_of_channel place id rows ≡ Some (place + i)
     → channels_of (slice_set rows i (id, Some s)) kept ≡ rows_given id s (channels_of rows kept)

@@ -27,11 +27,12 @@ use Rattle.std.proofs.Common.{
   Some,
   None,
 }
-use Rattle.std.specs.Prelude.{is_some, slice_set}
+use Rattle.std.specs.Prelude.{◌||◌, not, is_some, slice_set}
 use Rattle.std.proofs.lemmas.Grind.{common_steps}
 use Rattle.rtc_wire.specs.declared.channel_config.ChannelConfig.{ChannelConfig}
 use Rattle.rtc_channels.specs.declared.kept.Kept.{Kept}
 use Rattle.rtc_channels.specs.Channels.{Channel, Channels, with_channel, AreRising, AreBelow, has_channel, numbered_stream, rows_confirmed}
+use Rattle.rtc_channels.specs.Holds.{is_unconfirmed}
 use Rattle.rtc_channels.specs.Kept.{channels_of, ArePaired, place_of_channel, kept_config}
 
 -- the rows are those of their channels
@@ -52,9 +53,20 @@ pub below_more : (bound more : ℕ) (channels : List Channel) → AreBelow bound
 below_more bound more [] below least = tt
 below_more bound more (channel ∷ channels) below least = (omega (arith, below.0), below_more bound more channels below.1 least)
 
+-- no channel has a number below those from which theirs rise
+none_unconfirmed : (id least : ℕ) (channels : List Channel) → AreRising least channels → id < least → is_unconfirmed id channels ≡ false
+none_unconfirmed id least [] rising above = refl
+none_unconfirmed id least (channel ∷ channels) rising above =
+    let apart : (channel.id == id) ≡ false = grind (arith, above, rising.0) in
+    rw apart (none_unconfirmed id (channel.id + 1) channels rising.1 (omega (arith, above, rising.0)))
+
+none_behind : (here behind : Bool) → behind ≡ false → (here || behind) ≡ here
+none_behind true behind none = refl
+none_behind false behind none = none
+
 -- one more channel, with a number above all
 pub one_more : (rows : List (ℕ × Option ℕ)) (kept : List Kept) (row : ℕ × Option ℕ) (own : Kept) → length rows ≡ length kept
-    → channels_of (rows ++ row ∷ []) (kept ++ own ∷ []) ≡ channels_of rows kept ++ record { id = row.0; stream = row.1; negotiated = own.negotiated; config = own.config } ∷ []
+    → channels_of (rows ++ row ∷ []) (kept ++ own ∷ []) ≡ channels_of rows kept ++ record { id = row.0; stream = row.1; negotiated = own.negotiated; config = own.config; confirmed = own.confirmed } ∷ []
 one_more [] [] row own same = refl
 one_more [] (first ∷ kept) row own same = absurd (omega (arith, same))
 one_more (first ∷ rows) [] row own same = absurd (omega (arith, same))
@@ -89,8 +101,8 @@ paired_more given rows kept row own paired is = record {
 -- the channels with one more are those that a config makes
 pub made : (held : Channels) (given : ℕ) (rows : List (ℕ × Option ℕ)) (kept : List Kept) (id : ℕ) (config : ChannelConfig)
     → (holds : List ℕ) → record { given = given; rows = channels_of rows kept; holds = holds } ≡ held → length rows ≡ length kept → id ≡ given
-    → record { given = given + 1; rows = channels_of (rows ++ (id, None) ∷ []) (kept ++ record { negotiated = config.negotiated; config = None } ∷ []); holds = holds } ≡ with_channel held config
-made held given rows kept id config holds is same next = rw (← is, next, one_more rows kept (given, None) (record { negotiated = config.negotiated; config = None }) same) refl
+    → record { given = given + 1; rows = channels_of (rows ++ (id, None) ∷ []) (kept ++ record { negotiated = config.negotiated; config = None; confirmed = false } ∷ []); holds = holds } ≡ with_channel held config
+made held given rows kept id config holds is same next = rw (← is, next, one_more rows kept (given, None) (record { negotiated = config.negotiated; config = None; confirmed = false }) same) refl
 
 -- a channel that is found has its place behind the first
 pub place_behind : (place id : ℕ) (rows : List (ℕ × Option ℕ)) (i : ℕ) → place_of_channel place id rows ≡ Some i → place ≤ i
@@ -105,8 +117,45 @@ place_below place id (row ∷ rows) i found = grind (arith, place_below (place +
 pub some_same : (one other : ℕ) → Some one ≡ Some other → one ≡ other
 some_same one other same = cc
 
+-- a channel that has no place is not there
+pub unconfirmed_missed : (place id : ℕ) (rows : List (ℕ × Option ℕ)) (kept : List Kept) → place_of_channel place id rows ≡ None
+    → is_unconfirmed id (channels_of rows kept) ≡ false
+unconfirmed_missed place id [] kept missed = refl
+unconfirmed_missed place id (row ∷ rows) [] missed = refl
+unconfirmed_missed place id (row ∷ rows) (own ∷ kept) missed = by (λ none. unconfirmed_missed (place + 1) id rows kept none) (row.0 == id) refl missed
+  where
+    by : (place_of_channel (place + 1) id rows ≡ None → is_unconfirmed id (channels_of rows kept) ≡ false)
+        → (here : Bool) → (row.0 == id) ≡ here → place_of_channel place id (row ∷ rows) ≡ None → is_unconfirmed id (channels_of (row ∷ rows) (own ∷ kept)) ≡ false
+    by rest true is missed = absurd (let e : Some place ≡ None = sym (rw is refl) ∙ missed in cc)
+    by rest false is missed = rw is (rest (sym (rw is refl) ∙ missed))
+
+-- whether a channel was confirmed is kept beside the row at its place
+pub unconfirmed_found : (place id least : ℕ) (rows : List (ℕ × Option ℕ)) (kept : List Kept) (own : Kept) (i : ℕ) → length rows ≡ length kept
+    → AreRising least (channels_of rows kept) → place_of_channel place id rows ≡ Some (place + i) → own ≡ get_or kept i own
+    → is_unconfirmed id (channels_of rows kept) ≡ not own.confirmed
+unconfirmed_found place id least [] kept own i same rising found at = absurd cc
+unconfirmed_found place id least (row ∷ rows) [] own i same rising found at = absurd (omega (arith, same))
+unconfirmed_found place id least (row ∷ rows) (first ∷ kept) own zero same rising found at = by (row.0 == id) refl found
+  where
+    by : (here : Bool) → (row.0 == id) ≡ here → place_of_channel place id (row ∷ rows) ≡ Some (place + 0)
+        → is_unconfirmed id (channels_of (row ∷ rows) (first ∷ kept)) ≡ not own.confirmed
+    by true is found =
+        let number : row.0 ≡ id = grind (arith, is) in
+        rw is (none_behind (not first.confirmed) (is_unconfirmed id (channels_of rows kept))
+        (none_unconfirmed id (row.0 + 1) (channels_of rows kept) rising.1 (omega (arith, number)))
+        ∙ ap (λ (k : Kept). not k.confirmed) (sym at))
+    by false is found = absurd (omega (arith, place_behind (place + 1) id rows (place + 0) (sym (rw is refl) ∙ found)))
+unconfirmed_found place id least (row ∷ rows) (first ∷ kept) own (suc i) same rising found at =
+    by (λ found. unconfirmed_found (place + 1) id (row.0 + 1) rows kept own i (omega (arith, same)) rising.1 found at) (row.0 == id) refl found
+  where
+    by : (place_of_channel (place + 1) id rows ≡ Some (place + 1 + i) → is_unconfirmed id (channels_of rows kept) ≡ not own.confirmed)
+        → (here : Bool) → (row.0 == id) ≡ here → place_of_channel place id (row ∷ rows) ≡ Some (place + suc i)
+        → is_unconfirmed id (channels_of (row ∷ rows) (first ∷ kept)) ≡ not own.confirmed
+    by rest true is found = absurd (omega (arith, some_same place (place + suc i) (sym (rw is refl) ∙ found)))
+    by rest false is found = rw is (rest ((sym (rw is refl) ∙ found) ∙ ap (λ n. Some n) (omega arith)))
+
 abbrev channel_of : ℕ × Option ℕ → Kept → Channel
-channel_of row own = record { id = row.0; stream = row.1; negotiated = own.negotiated; config = own.config }
+channel_of row own = record { id = row.0; stream = row.1; negotiated = own.negotiated; config = own.config; confirmed = own.confirmed }
 
 -- what is kept beside the row at a place, where that is the channel's
 abbrev AtPlace : ℕ → ChannelConfig → List (ℕ × Option ℕ) → List Kept → Kept → ℕ → Type 0

@@ -9,6 +9,7 @@ use Rattle.std.specs.Prelude.{
   not,
   ℕ,
   Bool,
+  false,
   List,
   [],
   ◌∷◌,
@@ -103,7 +104,7 @@ IsBare (Some channel) = channel.stream ≡ None
 
 -- the channel that is made for a stream which the other end opened: it has the next number
 abbrev pub opened_by_other : ℕ → ℕ → Channel
-opened_by_other id stream = record { id = id; stream = Some stream; negotiated = None; config = None }
+opened_by_other id stream = record { id = id; stream = Some stream; negotiated = None; config = None; confirmed = false }
 
 -- whether a channel has a stream, or no number is left for one
 abbrev pub is_ensured : ℕ → Channels → Bool

@@ -40,6 +40,8 @@ pub record Channel : Type 0 where
   pub negotiated : Option ℕ
   -- what it is to be opened with, once it is confirmed
   pub config : Option ChannelConfig
+  -- whether it was confirmed, also once it was opened
+  pub confirmed : Bool
 
 pub record Channels : Type 0 where
   -- how many numbers were given; the first is 0
@@ -83,7 +85,7 @@ is_bad_channel held config =
 
 -- the channel that is made of a config: it waits for a stream, and is not confirmed
 abbrev pub unconfirmed : ℕ → ChannelConfig → Channel
-unconfirmed id config = record { id = id; stream = None; negotiated = config.negotiated; config = None }
+unconfirmed id config = record { id = id; stream = None; negotiated = config.negotiated; config = None; confirmed = false }
 
 -- the channels with one more, numbered above all before
 abbrev pub with_channel : Channels → ChannelConfig → Channels
@@ -100,7 +102,7 @@ MakesChannel held config (Err Alloc) held' = held' ≡ held
 abbrev pub rows_confirmed : ℕ → ChannelConfig → List Channel → List Channel
 rows_confirmed id config [] = []
 rows_confirmed id config (channel ∷ rest) =
-    if has_id id channel then record channel { config = Some config } ∷ rest else channel ∷ rows_confirmed id config rest
+    if has_id id channel then record channel { config = Some config; confirmed = true } ∷ rest else channel ∷ rows_confirmed id config rest
 
 abbrev pub confirmed : ℕ → ChannelConfig → Channels → Channels
 confirmed id config held = record held { rows = rows_confirmed id config held.rows }

@@ -1,6 +1,8 @@
 -- The holds of streams. A stream of a channel that went while its reset was pending is not given again before that reset completes
 -- (RFC 8831, section 6.7). A stream may be held several times.
-use Rattle.std.specs.Prelude.{◌+◌, ◌==◌, nat_lt, ℕ, Bool, true, false, List, [], ◌∷◌, map, if◌then◌else◌, Option, Some, None}
+use Rattle.std.specs.Prelude.{◌+◌, ◌==◌, ◌&&◌, not, nat_lt, ℕ, Bool, true, false, List, [], ◌∷◌, map, if◌then◌else◌, Option, Some, None}
+use Rattle.std.specs.List.{list_any}
+use Rattle.rtc_wire.specs.declared.channel_config.ChannelConfig.{ChannelConfig}
 use Rattle.rtc_channels.specs.Channels.{Channel, Channels, has_id, numbered_stream, stream_of_channel}
 
 -- one hold more of a stream, in its place
@@ -46,3 +48,16 @@ removed_channel id pending held = record held {
   rows = channels_without id held.rows;
   holds = held_pending pending (stream_of_channel id (map numbered_stream held.rows)) held.holds;
 }
+
+-- whether a channel is there and was never confirmed
+abbrev pub is_unconfirmed : ℕ → List Channel → Bool
+is_unconfirmed id channels = list_any (λ channel. has_id id channel && not channel.confirmed) channels
+
+abbrev pub cancelled_if : Bool → ℕ → Channels → Channels
+cancelled_if true id held = removed_channel id false held
+cancelled_if false id held = held
+
+-- the channels without those of these that are still there and were never confirmed; their streams can be given again at once
+abbrev pub all_cancelled : List (ℕ × ChannelConfig) → Channels → Channels
+all_cancelled [] held = held
+all_cancelled (channel ∷ rest) held = all_cancelled rest (cancelled_if (is_unconfirmed channel.0 held.rows) channel.0 held)

@@ -1,5 +1,5 @@
 -- How a handler keeps channels: numbers with their streams, and beside them what else is kept of each.
-use Rattle.std.specs.Prelude.{◌≡◌, ◌+◌, ◌<◌, ◌≤◌, ◌==◌, slice_index_or, ℕ, List, [], ◌∷◌, length, if◌then◌else◌, Option, Some, None}
+use Rattle.std.specs.Prelude.{◌≡◌, ◌+◌, ◌<◌, ◌≤◌, ◌==◌, slice_index_or, ℕ, true, List, [], ◌∷◌, length, if◌then◌else◌, Option, Some, None}
 use Rattle.rtc_wire.specs.declared.channel_config.ChannelConfig.{ChannelConfig}
 use Rattle.rtc_channels.specs.declared.kept.Kept.{Kept}
 use Rattle.rtc_channels.specs.Channels.{Channel, AreRising, AreBelow}
@@ -9,7 +9,8 @@ abbrev pub channels_of : List (ℕ × Option ℕ) → List Kept → List Channel
 channels_of [] kept = []
 channels_of (row ∷ rows) [] = []
 channels_of (row ∷ rows) (own ∷ kept) =
-    record { id = row.0; stream = row.1; negotiated = own.negotiated; config = own.config } ∷ channels_of rows kept
+    record { id = row.0; stream = row.1; negotiated = own.negotiated; config = own.config; confirmed = own.confirmed }
+    ∷ channels_of rows kept
 
 -- as many of both, with rising numbers below those not given yet
 pub record ArePaired (given : ℕ) (rows : List (ℕ × Option ℕ)) (kept : List Kept) : Type 0 where
@@ -33,7 +34,7 @@ pub record IsLowerBound (id : ℕ) (rows : List (ℕ × Option ℕ)) (place : �
   pub behind : (k : ℕ) (d : ℕ × Option ℕ) → place ≤ k → k < length rows → id ≤ (slice_index_or rows k d).0
 
 abbrev pub kept_config : ChannelConfig → Kept → Kept
-kept_config config own = record own { config = Some config }
+kept_config config own = record own { config = Some config; confirmed = true }
 
 abbrev pub config_taken : Kept → Kept
 config_taken own = record own { config = None }

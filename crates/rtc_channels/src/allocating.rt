@@ -175,6 +175,7 @@ impl ChannelHandler {
         self.kept.push_reserved(Kept {
             negotiated: None,
             config: None,
+            confirmed: false,
         });
         self.given += 1;
         Ok(())

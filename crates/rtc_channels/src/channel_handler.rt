@@ -139,6 +139,7 @@ impl ChannelHandler {
         self.kept.push_reserved(Kept {
             negotiated: config.negotiated,
             config: None,
+            confirmed: false,
         });
         self.given += 1;
         Ok(id)

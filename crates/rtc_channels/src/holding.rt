@@ -1,6 +1,7 @@
 //! Holds of streams, and channels that go.
-ghost use Rattle.std.specs.Prelude.{◌≡◌};
+ghost use Rattle.std.specs.Prelude.{◌≡◌, true, false};
 ghost use Rattle.rtc_channels.specs.Holds.{hold_count, reset_completed, holds_lost, removed_channel};
+ghost use Rattle.rtc_channels.specs.Holds.{is_unconfirmed as IsUnconfirmed};
 
 use crate::ChannelHandler;
 use crate::grants::{count_holds, drop_hold, drop_holds, release};
@@ -43,5 +44,23 @@ impl ChannelHandler {
             Some(stream) => release(&mut self.grants, stream, reset_pending),
             None => {}
         }
+    }
+
+    /// Whether a channel is there and was never confirmed.
+    pub fn is_unconfirmed(&self, id: ChannelId) -> bool
+        ensures { result ≡ IsUnconfirmed id self.now.rows }
+    {
+        let Some(place) = find_place(self.rows.as_slice(), id) else {
+            return false;
+        };
+        !self.kept[place].confirmed
+    }
+
+    /// Removes a channel that was never confirmed. Its stream, if it has one, can be given again at once. Nothing is allocated.
+    pub fn cancel(&mut self, id: ChannelId)
+        requires { IsUnconfirmed id self.old.rows ≡ true }
+        ensures { self.new ≡ removed_channel id false self.old }
+    {
+        self.remove_channel(id, false);
     }
 }

@@ -10,6 +10,8 @@ use rtc_wire::{ChannelConfig, ChannelId};
 pub struct Kept {
     pub negotiated: Option<u16>,
     pub config: Option<ChannelConfig>,
+    /// Whether it was confirmed, also once it was opened.
+    pub confirmed: bool,
 }
 
 fn is_of_stream(stream: u16, own: Option<u16>) -> bool
@@ -34,6 +36,7 @@ impl Kept {
         ensures { self.new ≡ kept_config config self.old }
     {
         self.config = Some(config);
+        self.confirmed = true;
     }
 }
 

@@ -1,5 +1,5 @@
 -- What a peer is built from, and its defaults.
-use Rattle.std.specs.Prelude.{ℕ, ◌≤◌, ◌<◌, true, false, List, length, Option, Some, None, IfSome}
+use Rattle.std.specs.Prelude.{ℕ, ◌≤◌, ◌<◌, Bool, true, false, List, length, Option, Some, None, IfSome}
 use Rattle.rtc_sdp_values.specs.ExtensionMap.{standard_rows}
 use Rattle.rtc_sdp_values.specs.declared.extension_map.ExtensionMap.{ExtensionMap}
 use Rattle.rtc_sdp_values.specs.declared.codec_config.CodecConfig.{CodecConfig}
@@ -21,6 +21,8 @@ pub record PeerConfig : Type 0 where
   pub media : MediaSettings
   pub sctp : SctpSettings
   pub mtu : ℕ × ℕ
+  -- whether it gives way where two offers cross; None where no role is set
+  pub polite : Option Bool
 
 -- a certificate that is set has at most 1900 bytes
 abbrev pub IsShortCert : Option (List ℕ) → Type 0
@@ -87,4 +89,5 @@ default_config = record {
   media = default_media;
   sctp = default_sctp;
   mtu = (1150, 1280);
+  polite = None;
 }

@@ -197,6 +197,13 @@ impl RtcConfig {
         self.mtu.1
     }
 
+    /// The role of the peer where two offers cross, if one is set: whether it is the polite one.
+    pub fn polite(&self) -> Option<bool>
+        ensures { result ≡ self.now.polite }
+    {
+        self.polite
+    }
+
     /// How VP9 frames are cut into packets.
     pub fn vp9_packetizer_mode(&self) -> Vp9PacketizerMode
         ensures { result ≡ self.now.media.vp9 }

@@ -27,6 +27,7 @@ pub struct RtcConfig {
     pub(crate) media: MediaSettings,
     pub(crate) sctp: SctpSettings,
     pub(crate) mtu: (usize, usize),
+    pub(crate) polite: Option<bool>,
 }
 
 impl Model for RtcConfig {
@@ -43,6 +44,7 @@ impl Model for RtcConfig {
       media = config.media;
       sctp = config.sctp;
       mtu = config.mtu;
+      polite = config.polite;
     } };
 
     ghost invariant = { λ config. IsShortCert config.dtls.cert × AreMediaSettings config.media × IsMtu config.mtu };
@@ -61,6 +63,7 @@ impl Drop for RtcConfig {
             media: _media,
             sctp: _sctp,
             mtu: _mtu,
+            polite: _polite,
         } = self;
     }
 }
@@ -147,6 +150,7 @@ impl RtcConfig {
             media: default_media(),
             sctp: default_sctp(),
             mtu: (DATAGRAM_MTU_TARGET, DATAGRAM_MTU_WARN),
+            polite: None,
         })
     }
 
@@ -164,6 +168,7 @@ impl RtcConfig {
             media: _,
             sctp: _,
             mtu: _,
+            polite: _,
         } = self;
         (codecs, extensions)
     }
@@ -185,6 +190,7 @@ impl TryCopy for RtcConfig {
             media: self.media,
             sctp: self.sctp,
             mtu: self.mtu,
+            polite: self.polite,
         })
     }
 }

@@ -101,6 +101,15 @@ impl RtcConfig {
         self
     }
 
+    /// The role of the peer where two offers cross (RFC 3264, section 4): a polite one may roll its own offer back, an impolite one
+    /// refuses the other. None accepts any offer, and its own is superseded.
+    pub fn set_polite(mut self, role: Option<bool>) -> RtcConfig
+        ensures { result ≡ record self { polite = role } }
+    {
+        self.polite = role;
+        self
+    }
+
     /// The size that datagrams are kept to, and the one above which a datagram is worth a warning, both in bytes.
     pub fn set_mtu(mut self, sizes: (usize, usize)) -> RtcConfig
         requires least { 576 ≤ sizes.0 }

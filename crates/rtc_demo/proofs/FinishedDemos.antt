@@ -14,10 +14,11 @@ use Rattle.rtc_run_history.specs.Memory.{lacks_memory, outcome_lacks, tells_faul
 use Rattle.rtc_run_history.specs.Orderly.{Course, course_of, are_orderly, has_failed, can_connect, is_ok, negotiates, AreNumbersLeft}
 use Rattle.rtc_run_history.specs.PairState.{PairState, stances_of}
 use Rattle.rtc_run_history.specs.Past.{Entry, MadeSdp, steps_of, replies_of, reply_of, remote_sdp, holds_token, is_right, numbers_in, numbers_told, numbers_or}
+use Rattle.rtc_run_history.specs.Native.{go_forward, goes_forward}
 use Rattle.rtc_run_history.specs.Runs.{Went, EntersSoundly, Runs}
 use Rattle.rtc_run_history.specs.Sides.{same_side, side_of}
 use Rattle.rtc_run_history.specs.Sizes.{step_size, steps_size}
-use Rattle.rtc_run_history.specs.Sound.{IsSound, RepliesToOffer, RepliesToAnswer, asked_in}
+use Rattle.rtc_run_history.specs.Sound.{IsSound, RepliesToOffer, RepliesToAnswer, asked_in, is_glare_at}
 use Rattle.rtc_run_history.specs.SoundEntry.{IsSoundEntry}
 use Rattle.rtc_run_history.specs.Views.{Stances}
 use Rattle.rtc_run_history.specs.declared.outcome.Outcome.{Outcome}
@@ -25,7 +26,8 @@ use Rattle.rtc_run_history.specs.declared.outcome.Outcome.TheVariants.{Negotiate
 use Rattle.rtc_run_history.specs.declared.reply.Reply.{Reply}
 use Rattle.rtc_run_history.specs.declared.side.Side.{Side}
 use Rattle.rtc_run_history.specs.declared.step.Step.{Step}
-use Rattle.rtc_run_history.specs.declared.step.Step.TheVariants.{Negotiate, AcceptOffer, AcceptAnswer, Time, Datagram, Poll, Drain, Write, CloseChannel, Close}
+use Rattle.rtc_run_history.specs.declared.step.Step.TheVariants.{Negotiate, AcceptOffer, AcceptAnswer, Time, Datagram, Poll, Drain}
+use Rattle.rtc_run_history.specs.declared.step.Step.TheVariants.{Write, CloseChannel, Close, Rollback, ForeignOffer, ForeignAnswer, Raw}
 use Rattle.rtc_run_history.specs.declared.table.Table.{Table}
 use Rattle.rtc_run_laws.proofs.ChannelCounts.{steps_size-append, told_within}
 use Rattle.rtc_run_laws.proofs.OrderlyPasts.{next_of, follow_last}
@@ -47,6 +49,10 @@ accepts_answer (Drain at) = false
 accepts_answer (Write at channel binary bytes) = false
 accepts_answer (CloseChannel at channel) = false
 accepts_answer (Close at) = false
+accepts_answer (Rollback at token) = false
+accepts_answer (ForeignOffer at text) = false
+accepts_answer (ForeignAnswer at token text) = true
+accepts_answer (Raw at bytes now) = false
 
 -- how many steps do
 abbrev answers_in : List Step → ℕ
@@ -59,18 +65,21 @@ answers_in_both (step ∷ steps) more = omega (arith, answers_in_both steps more
 
 -- ---- a step that negotiates, and succeeded
 
-offer_unfinished : {E : Type 0} → (sdp : Signalled) (view : Held) (next : ℕ) (outcome : Outcome E) (after : List LineRow) → RepliesToOffer sdp view next outcome after → tells_finished outcome ≡ false
-offer_unfinished NotMade view next Finished after takes = absurd takes
-offer_unfinished (Unreadable line) view next Finished after takes = absurd takes
-offer_unfinished (Readable sdp) view next Finished after takes = absurd takes
-offer_unfinished sdp view next (Negotiated answers made) after takes = refl
-offer_unfinished sdp view next (Answered k) after takes = refl
-offer_unfinished sdp view next Done after takes = refl
-offer_unfinished sdp view next (Wrote taken) after takes = refl
-offer_unfinished sdp view next (Polled outputs end) after takes = refl
-offer_unfinished sdp view next (Refused error) after takes = refl
-offer_unfinished sdp view next NoSuch after takes = refl
-offer_unfinished sdp view next Alloc after takes = refl
+offer_unfinished : {E : Type 0} → (glare : Bool) (sdp : Signalled) (view : Held) (next : ℕ) (outcome : Outcome E) (after : List LineRow) → RepliesToOffer glare sdp view next outcome after → tells_finished outcome ≡ false
+offer_unfinished false NotMade view next Finished after takes = absurd takes
+offer_unfinished false (Unreadable line) view next Finished after takes = absurd takes
+offer_unfinished false (Readable sdp) view next Finished after takes = absurd takes
+offer_unfinished true NotMade view next Finished after takes = absurd takes
+offer_unfinished true (Unreadable line) view next Finished after takes = absurd takes
+offer_unfinished true (Readable sdp) view next Finished after takes = absurd takes
+offer_unfinished glare sdp view next (Negotiated answers made) after takes = refl
+offer_unfinished glare sdp view next (Answered k) after takes = refl
+offer_unfinished glare sdp view next Done after takes = refl
+offer_unfinished glare sdp view next (Wrote taken) after takes = refl
+offer_unfinished glare sdp view next (Polled outputs end) after takes = refl
+offer_unfinished glare sdp view next (Refused error) after takes = refl
+offer_unfinished glare sdp view next NoSuch after takes = refl
+offer_unfinished glare sdp view next Alloc after takes = refl
 
 -- an acceptance of an answer is answered by no other Ok
 answer_finished : {E : Type 0} → (held right : Bool) (asked : Asked) (sdp : Signalled) (view : Held) (outcome : Outcome E) (after : List LineRow) → RepliesToAnswer held right asked sdp view outcome after → is_ok outcome ≡ true → tells_finished outcome ≡ true
@@ -111,7 +120,7 @@ ok_finished fresh between past (Negotiate at ops apply) Alloc None made negotiat
 ok_finished fresh between past (Negotiate at ops apply) (Negotiated answers what) (Some table) made negotiating sound fine = refl
 ok_finished fresh between past (AcceptOffer at k) Alloc None made negotiating sound fine = absurd (cc)
 ok_finished fresh between past (AcceptOffer at k) outcome (Some table) made negotiating sound fine =
-    offer_unfinished (remote_sdp true at k past) _ _ outcome table.lines (offer_taking fresh between past at k outcome table made sound)
+    offer_unfinished (is_glare_at fresh at past) (remote_sdp true at k past) _ _ outcome table.lines (offer_taking fresh between past at k outcome table made sound)
 ok_finished fresh between past (AcceptAnswer at t a) Alloc None made negotiating sound fine = absurd (cc)
 ok_finished fresh between past (AcceptAnswer at t a) outcome (Some table) made negotiating sound fine =
     answer_finished (holds_token at t past) (is_right at t past) (asked_in at t past) (remote_sdp false at a past) _ outcome table.lines (answer_taking fresh between past at t a outcome table made sound) fine
@@ -122,6 +131,10 @@ ok_finished fresh between past (Drain at) outcome table made negotiating sound f
 ok_finished fresh between past (Write at channel binary bytes) outcome table made negotiating sound fine = absurd (cc)
 ok_finished fresh between past (CloseChannel at channel) outcome table made negotiating sound fine = absurd (cc)
 ok_finished fresh between past (Close at) outcome table made negotiating sound fine = absurd (cc)
+ok_finished fresh between past (Rollback at token) outcome table made negotiating sound fine = absurd (cc)
+ok_finished fresh between past (ForeignOffer at text) outcome table made negotiating sound fine = absurd (cc)
+ok_finished fresh between past (ForeignAnswer at token text) outcome table made negotiating sound fine = absurd (cc)
+ok_finished fresh between past (Raw at bytes now) outcome table made negotiating sound fine = absurd (cc)
 ok_finished fresh between past step outcome table made negotiating sound fine = absurd sound
 
 -- ---- pasts
@@ -200,6 +213,33 @@ demo_negotiates zero seed few = refl
 demo_negotiates (suc rounds) seed few =
     list_all-append negotiates (demo_steps rounds seed) (round_steps seed rounds)
     ∙ rw (demo_negotiates rounds seed (omega arith), round_negotiates (round_steps seed rounds) rounds (round_form seed rounds (omega arith))) refl
+
+-- a step that negotiates brings nothing foreign in, and rolls nothing back
+negotiating_forward : (step : Step) → negotiates step ≡ true → goes_forward step ≡ true
+negotiating_forward (Negotiate at ops apply) negotiating = refl
+negotiating_forward (AcceptOffer at offer) negotiating = refl
+negotiating_forward (AcceptAnswer at token answer) negotiating = refl
+negotiating_forward (Time at now) negotiating = absurd (cc)
+negotiating_forward (Datagram at packet now) negotiating = absurd (cc)
+negotiating_forward (Poll at) negotiating = absurd (cc)
+negotiating_forward (Drain at) negotiating = absurd (cc)
+negotiating_forward (Write at channel binary bytes) negotiating = absurd (cc)
+negotiating_forward (CloseChannel at channel) negotiating = absurd (cc)
+negotiating_forward (Close at) negotiating = absurd (cc)
+negotiating_forward (Rollback at token) negotiating = absurd (cc)
+negotiating_forward (ForeignOffer at text) negotiating = absurd (cc)
+negotiating_forward (ForeignAnswer at token text) negotiating = absurd (cc)
+negotiating_forward (Raw at bytes now) negotiating = absurd (cc)
+
+all_forward : (steps : List Step) → list_all negotiates steps ≡ true → go_forward steps ≡ true
+all_forward [] all = refl
+all_forward (step ∷ steps) all =
+    let both = and_parts (negotiates step) (list_all negotiates steps) all in
+    rw (negotiating_forward step both.0, all_forward steps both.1) refl
+
+-- so do the steps of a demo
+pub demo_forward : (rounds seed : ℕ) → rounds ≤ 100 → go_forward (demo_steps rounds seed) ≡ true
+demo_forward rounds seed few = all_forward (demo_steps rounds seed) (demo_negotiates rounds seed few)
 
 demo_answers : (rounds seed : ℕ) → rounds ≤ 100 → answers_in (demo_steps rounds seed) ≡ rounds
 demo_answers zero seed few = refl

@@ -54,8 +54,8 @@ ran_joined {E = E} alloc script start pair replies (Ok (kept, told)) (kept_is, t
       read_back = read;
       plain = λ drew. known ran drew;
       no_fault = plain_unfaulted start pair script.steps told ran;
-      channels = run_hands_out counting is_ice_message start pair script.steps told (program_new alloc _ _ start program) ran;
-      settles = run_settles_open counting is_ice_message start pair script.steps told (program_new alloc _ _ start program) ran;
+      channels = λ forward. run_hands_out counting is_ice_message start pair script.steps told (program_new alloc _ _ start program) forward ran;
+      settles = λ forward. run_settles_open counting is_ice_message start pair script.steps told (program_new alloc _ _ start program) forward ran;
     })
 ran_joined alloc script start pair replies (Err error) joined program formed runs read_back plain = tt
 

@@ -1,5 +1,5 @@
 -- What a script leaves that is performed on the pair of the program.
-use Rattle.std.specs.Prelude.{◌≡◌, ℕ, Bool, false, List, Option, Some}
+use Rattle.std.specs.Prelude.{◌≡◌, ℕ, Bool, true, false, List, Option, Some}
 use Rattle.std.specs.List.{list_any}
 use Rattle.std.specs.declared.alloc.Global.{Global}
 use Rattle.std.specs.Io.KnownBytes.{Appends}
@@ -10,6 +10,7 @@ use Rattle.rtc_run_history.specs.declared.step.Step.{Step}
 use Rattle.rtc_run_history.specs.Memory.{lacks_memory, tell_fault}
 use Rattle.rtc_run_history.specs.DrawnInRuns.{AllPlain, DrawsUnused}
 use Rattle.rtc_run_history.specs.Fresh.{ArePeersFormed}
+use Rattle.rtc_run_history.specs.Native.{go_forward}
 use Rattle.rtc_run_history.specs.Runs.{Runs}
 use Rattle.rtc_run_history.specs.Signalled.{AllReadBack}
 use Rattle.rtc_plain_ice.specs.Messages.{is_ice_message}
@@ -20,7 +21,7 @@ use Rattle.rtc_run_plain.specs.ProgramPair.{counting, plain_parts, PlainPairStat
 use Rattle.rtc_run_plain.specs.declared.peer_settings.PeerSettings.{PeerSettings}
 use Rattle.rtc_script_reports.specs.Report.{report}
 use Rattle.rtc_script.specs.declared.script.Script.{Script}
-use Rattle.rtc_script.specs.Settings.{sets_lite, sets_snap, buffer_set, interval_set, max_message_set}
+use Rattle.rtc_script.specs.Settings.{sets_lite, sets_snap, buffer_set, interval_set, max_message_set, role_set}
 use Rattle.rtc_script.specs.declared.setting.Setting.{Setting}
 
 -- whether a reply tells that memory ran out
@@ -35,6 +36,7 @@ peer_settings at settings = record {
   max_buffered = buffer_set at settings;
   max_message_size = max_message_set at settings;
   stats_interval = interval_set at settings;
+  polite = role_set at settings;
 }
 
 -- The pair of the program, as the settings of a script make it.
@@ -44,8 +46,9 @@ IsPairOf alloc script pair =
 
 -- A script was run on the program's pair, which is formed, with these replies, which left this pair, and each description that was made is
 -- read back, as it was written where each source was unused when it was drawn. No reply tells that a part failed: those in memory never
--- do. Channels hand out what the other side sent, and of those that were opened in-band each is announced at most once; where the run
--- leaves the pair settled, one that is open at a side, over a stream that both keep, is open at both, and was announced at both.
+-- do. Where no step brings in a text or bytes of anybody, and none rolls an offer back, channels hand out what the other side sent, and of
+-- those that were opened in-band each is announced at most once; where the run leaves the pair settled, one that is open at a side, over a
+-- stream that both keep, is open at both, and was announced at both.
 pub record RanScript (alloc : Global) (script : Script) (replies : List (Reply PlainMediaEvent)) (pair : PlainPairState) : Type 0 where
   pub start : PlainPairState
   pub program : IsPairOf alloc script start
@@ -54,8 +57,8 @@ pub record RanScript (alloc : Global) (script : Script) (replies : List (Reply P
   pub read_back : AllReadBack pair.sdps
   pub plain : DrawsUnused plain_parts is_ice_message start script.steps replies pair runs → AllPlain pair.sdps
   pub no_fault : tell_fault replies ≡ false
-  pub channels : HandsOut counting is_ice_message start script.steps replies pair runs
-  pub settles : SettlesOpen counting is_ice_message start script.steps replies pair runs
+  pub channels : go_forward script.steps ≡ true → HandsOut counting is_ice_message start script.steps replies pair runs
+  pub settles : go_forward script.steps ≡ true → SettlesOpen counting is_ice_message start script.steps replies pair runs
 
 -- This text is the report of a run of a script.
 pub record IsReport (alloc : Global) (script : Script) (text : List ℕ) : Type 0 where

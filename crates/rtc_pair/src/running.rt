@@ -34,6 +34,7 @@ fn settings_of(script: &Script, at: Side) -> PeerSettings
         max_buffered: side.max_buffered,
         max_message_size: side.max_message_size,
         stats_interval: side.stats_interval,
+        polite: side.polite,
     }
 }
 

@@ -29,9 +29,13 @@ pub use rtc_lines::{
 pub use rtc_part_association::Association;
 pub use rtc_part_dtls::{DtlsError, DtlsInstance, DtlsVersion};
 pub use rtc_part_ice::{IceAgent, IceConnectionState};
-pub use rtc_part_media::{MediaError, MediaSession, MediaSettings, NoStream, Vp9PacketizerMode};
+pub use rtc_part_media::{
+    MediaEgressStats, MediaError, MediaEvent, MediaIngressStats, MediaSession, MediaSettings,
+    NoStream, PeerStats, RawPacket, Vp9PacketizerMode,
+};
 pub use rtc_part_values::{Ids, Reason};
-pub use rtc_peer_core::RtcError;
+pub use rtc_peer_core::{Formats, RtcError};
 pub use rtc_peer_transport::{ChannelData, Event, Input, Output};
 pub use rtc_sctp::{ProtoError, SctpError, SctpInitData};
+pub use rtc_sdp_codecs::Codec;
 pub use sdp_api::SdpApi;

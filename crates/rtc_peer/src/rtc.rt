@@ -107,10 +107,11 @@ impl<I: IceAgent, D: DtlsInstance, S: Association, M: MediaSession, N: Ids> Rtc<
     /// A handle on the negotiation. What was staged before and not applied is dropped.
     pub fn sdp_api(&mut self) -> SdpApi<'_, I, D, S, M, N>
         ensures same_reference { result.rtc.ghost_name ≡ self.entry.ghost_name }
-        ensures peer { result.rtc.now.core ≡ record self.old.core { staged = [] } }
+        ensures peer { result.rtc.now.core ≡ record self.old.core { staged = []; undo = [] } }
         ensures connection { result.rtc.now.transport ≡ self.old.transport }
     {
         self.polled.core.staged.clear();
+        self.polled.core.undo.clear();
         SdpApi { rtc: self }
     }
 

@@ -3,6 +3,7 @@ ghost use Rattle.std.specs.Prelude.{◌≡◌, ◌≢◌, IsTrue, ◌↔◌, []}
 ghost use Rattle.rtc_peer_core.specs.Acceptances.{AcceptsOffer, AcceptsAnswer};
 ghost use Rattle.rtc_peer_core.specs.Calls.{AddsMedia, AddsChannel, StagesRestart, SetsDirection, StopsMedia, Applies};
 ghost use Rattle.rtc_peer_core.specs.Meanings.{meanings};
+ghost use Rattle.rtc_peer_core.specs.RollingBack.{RollsBack};
 ghost use Rattle.rtc_peer.specs.Described.{sdp_of_answer, sdp_of_offer};
 ghost use Rattle.rtc_peer.specs.Labelled.{labelled_config};
 ghost use Rattle.rtc_peer.specs.WantedLine.{wanted_line};
@@ -16,7 +17,7 @@ use rtc_part_ice::IceAgent;
 use rtc_part_media::MediaSession;
 use rtc_part_values::Ids;
 use rtc_peer_core::RtcError;
-use rtc_peer_negotiation::{accept_answer, accept_offer, apply_staged};
+use rtc_peer_negotiation::{accept_answer, accept_offer, apply_staged, roll_back};
 use rtc_peer_staging::{set_direction, stage_channel, stage_media, stage_restart, stop_media};
 use rtc_wire::{ChannelConfig, ChannelId, Text};
 use std::alloc::AllocError;
@@ -40,7 +41,8 @@ impl<'a, I: IceAgent, D: DtlsInstance, S: Association, M: MediaSession, N: Ids> 
 > {
     /// Accepts an offer of the other side, and answers it (RFC 8829, section 5.3).
     ///
-    /// An offer of this side that still awaits its answer is superseded, also where the offer is refused.
+    /// An offer of this side that still awaits its answer is superseded, also where the offer is refused. An impolite peer refuses the
+    /// offer first of all in that case, as glare (RFC 3264, section 4), which changes nothing and supersedes nothing.
     pub fn accept_offer(self, offer: SdpOffer) -> Result<SdpAnswer, RtcError>
         ensures accepts { AcceptsOffer (meanings I.ice D.dtls S.association M.media N.ids)
             self.entry.rtc.now.core offer.0 (sdp_of_answer result) self.exit.0.now.core }
@@ -62,6 +64,19 @@ impl<'a, I: IceAgent, D: DtlsInstance, S: Association, M: MediaSession, N: Ids> 
     {
         let rtc = &mut *self.rtc;
         accept_answer(&mut rtc.polled.core, pending, answer.0)
+    }
+
+    /// Rolls an offer of this side back (RFC 8829, section 5.7). The token is spent, also where it is refused. Nothing is allocated.
+    ///
+    /// The lines that were set or stopped for the offer are as they were before, and the channels that were added with it are gone.
+    /// What else the offer brought about stays: which side is controlling, and a chunk that was drawn for the start of the
+    /// association.
+    pub fn rollback(self, pending: SdpPendingOffer) -> Result<(), RtcError>
+        ensures rolls_back { RollsBack self.entry.rtc.now.core pending result self.exit.0.now.core }
+        ensures connection { self.exit.0.now.transport ≡ self.entry.rtc.now.transport }
+    {
+        let rtc = &mut *self.rtc;
+        roll_back(&mut rtc.polled.core, pending)
     }
 
     /// Whether something is staged.
@@ -123,7 +138,7 @@ impl<'a, I: IceAgent, D: DtlsInstance, S: Association, M: MediaSession, N: Ids> 
     /// Stages a data channel, and answers its number, which no channel of the peer had before (RFC 8831, section 6.4).
     ///
     /// The line of the data channels is staged with it where neither a row nor a staged line is one. A channel that was
-    /// staged and is not offered stays in the table, waits, and keeps its claim on a stream.
+    /// staged and is not offered stays in the table, waits, and keeps its claim on a stream; one whose offer is rolled back goes.
     pub fn add_channel_with_config(&mut self, config: ChannelConfig) -> Result<ChannelId, RtcError>
         ensures same_reference { self.new.rtc.ghost_name ≡ self.old.rtc.ghost_name }
         ensures adds { AddsChannel (meanings I.ice D.dtls S.association M.media N.ids)

@@ -28,7 +28,7 @@ module _ {S : Type 0} (m : AssociationMeaning S) where
   rows_of_confirmed p id config (channel ∷ rest) = by (has_id id channel) (rows_of_confirmed p id config rest)
     where
       by : (here : Bool) → map (channel_row m p) (rows_confirmed id config rest) ≡ map (channel_row m p) rest
-          → map (channel_row m p) (cond here (record channel { config = Some config } ∷ rest) (channel ∷ rows_confirmed id config rest))
+          → map (channel_row m p) (cond here (record channel { config = Some config; confirmed = true } ∷ rest) (channel ∷ rows_confirmed id config rest))
           ≡ map (channel_row m p) (channel ∷ rest)
       by true same = refl
       by false same = ap (λ (more : List ChannelRow). channel_row m p channel ∷ more) same

@@ -15,7 +15,7 @@ use Rattle.rtc_channels.specs.Channels.{all_confirmed}
 use Rattle.rtc_change.specs.PendingOffer.{PendingOffer, staged_restart}
 use Rattle.rtc_peer_rows.specs.ParsedLines.{parsed_lines}
 use Rattle.rtc_peer_core.specs.declared.rtc_error.RtcError.{RtcError}
-use Rattle.rtc_peer_core.specs.declared.rtc_error.RtcError.TheVariants.{RemoteSdp, Sdp as SdpRefused, Dtls, Sctp, Net, Media as MediaFailed, ChangesOutOfOrder, BadChannel, Alloc}
+use Rattle.rtc_peer_core.specs.declared.rtc_error.RtcError.TheVariants.{RemoteSdp, Sdp as SdpRefused, Dtls, Sctp, Net, Media as MediaFailed, ChangesOutOfOrder, BadChannel, Alloc, Glare}
 use Rattle.rtc_peer_core.specs.Acceptances.{counter_after}
 use Rattle.rtc_peer_core.specs.Calls.{raised, fitting_channels}
 use Rattle.rtc_peer_core.specs.Formed.{AreSdpCreds, IsSha256, HaveTokens, AddTokens, IsHostCandidate, AreFormedChanges, IsFormedUpdate, IsTakenLine, IsFormed}
@@ -78,17 +78,17 @@ broken_formed s restart counter t breaks tokens formed = record {
 
 refused_formed : (s : Stance) (asked : Option Asked) (sdp : Sdp) (why : Refusal) (t : Stance) → StanceRefuses s asked sdp why t
     → IsFormed s → IsFormed t
-refused_formed s asked sdp why t refuses formed = rw refuses.1 (counted_formed s (counter_after asked s.counter) s.channels s.rows formed)
+refused_formed s asked sdp why t refuses formed = rw refuses.1 (counted_formed s (counter_after asked s.counter) false s.undo s.channels s.rows formed)
 
 -- An offer whose mids are short tokens and whose lines can be taken is accepted or refused.
 pub offered_formed : (s : Stance) (offer : Sdp) (result : Result Sdp RtcError) (t : Stance) → StanceAcceptsOffer s offer result t
     → NameTokens (parsed_lines offer) → AllByRecursion IsTakenLine offer.lines → IsFormed s → IsFormed t
 offered_formed s offer (Ok answer) t accepts names taken formed =
     let media = told_formed s [] offer accepts.told t accepts.tells tt names taken formed in
-    rw accepts.rest (counted_formed (record (followed_by s accepts.restart offer true accepts.halves) { line = t.line }) (raised s.counter)
+    rw accepts.rest (counted_formed (record (followed_by s accepts.restart offer true accepts.halves) { line = t.line }) (raised s.counter) false s.undo
     s.channels s.rows (followed_formed s accepts.restart offer true accepts.halves t.line accepts.followed.tokens names media formed))
-offered_formed s offer (Err (RemoteSdp why)) t accepts names taken formed = refused_formed s None offer (RefusedSdp why) t accepts formed
-offered_formed s offer (Err (SdpRefused error)) t accepts names taken formed = refused_formed s None offer (RefusedText error) t accepts formed
+offered_formed s offer (Err (RemoteSdp why)) t accepts names taken formed = refused_formed s None offer (RefusedSdp why) t accepts.1 formed
+offered_formed s offer (Err (SdpRefused error)) t accepts names taken formed = refused_formed s None offer (RefusedText error) t accepts.1 formed
 offered_formed s offer (Err (Dtls Fault)) t accepts names taken formed =
     broken_formed s accepts.1.restart (raised s.counter) t accepts.1.breaks accepts.1.followed.tokens formed
 offered_formed s offer (Err (Dtls WouldBlock)) t accepts names taken formed = absurd accepts
@@ -99,6 +99,7 @@ offered_formed s offer (Err ChangesOutOfOrder) t accepts names taken formed = ab
 offered_formed s offer (Err (Net cause)) t accepts names taken formed = absurd accepts
 offered_formed s offer (Err (MediaFailed cause)) t accepts names taken formed = absurd accepts
 offered_formed s offer (Err BadChannel) t accepts names taken formed = absurd accepts
+offered_formed s offer (Err Glare) t accepts names taken formed = rw accepts.1 formed
 offered_formed s offer (Err Alloc) t accepts names taken formed =
     broken_formed s accepts.restart (raised s.counter) t accepts.breaks accepts.followed.tokens formed
 
@@ -109,13 +110,14 @@ pub answered_formed : (s : Stance) (token : PendingOffer) (answer : Sdp) (result
 answered_formed s token answer (Ok done) t accepts changes names taken formed =
     let media = told_formed s token.changes answer accepts.told t accepts.tells changes names taken formed in
     rw accepts.rest (counted_formed (record (followed_by s (staged_restart token.changes) answer false accepts.halves) { line = t.line })
-    s.counter
+    s.counter false s.undo
     (all_confirmed (fitting_channels token.changes) s.channels) s.rows
     (followed_formed s (staged_restart token.changes) answer false accepts.halves t.line (restart_words token.changes changes) names media
     formed))
 answered_formed s token answer (Err (Net cause)) t accepts changes names taken formed = absurd accepts
 answered_formed s token answer (Err (MediaFailed cause)) t accepts changes names taken formed = absurd accepts
 answered_formed s token answer (Err BadChannel) t accepts changes names taken formed = absurd accepts
+answered_formed s token answer (Err Glare) t accepts changes names taken formed = absurd accepts
 answered_formed s token answer (Err ChangesOutOfOrder) t accepts changes names taken formed = rw accepts.1 formed
 answered_formed s token answer (Err (RemoteSdp why)) t accepts changes names taken formed =
     refused_formed s _ answer (RefusedSdp why) t accepts.1 formed

@@ -18,13 +18,14 @@ use Rattle.rtc_change.proofs.AddedLemmas.{added_mids-append}
 use Rattle.rtc_peer_rows.specs.RowChanges.{RowChange, changed_of}
 use Rattle.rtc_peer_rows.proofs.RowChangeLemmas.{KeepsRow, AreAlike, changed_of_alike}
 use Rattle.rtc_peer_core.specs.declared.rtc_error.RtcError.{RtcError}
-use Rattle.rtc_peer_core.specs.declared.rtc_error.RtcError.TheVariants.{RemoteSdp, Sdp as SdpRefused, Dtls, Sctp, Net, Media as MediaFailed, ChangesOutOfOrder, BadChannel, Alloc}
+use Rattle.rtc_peer_core.specs.declared.rtc_error.RtcError.TheVariants.{RemoteSdp, Sdp as SdpRefused, Dtls, Sctp, Net, Media as MediaFailed, ChangesOutOfOrder, BadChannel, Alloc, Glare}
 use Rattle.rtc_peer_core.specs.Calls.{Wanted, raised, fitting_channels}
 use Rattle.rtc_peer_core.specs.Formed.{HaveTokens, AddTokens, AreFormedChanges, IsFormedChange, IsFormedSimulcast, IsFormed}
 use Rattle.rtc_peer_core.specs.LineUpdates.{media_of_change}
 use Rattle.rtc_peer_core.specs.Staging.{lacks_app, is_kept_by_restart}
 use Rattle.rtc_peer_core.specs.SdpHalves.{offered_snap}
 use Rattle.rtc_peer_core.specs.Stance.{Stance}
+use Rattle.rtc_peer_core.specs.Undo.{RowBefore}
 use Rattle.rtc_peer_core.proofs.Alls.{all-append}
 use Rattle.rtc_peer_core.proofs.StanceCalls.{StanceAddsMedia, StanceChangesLine, StanceAddsChannel, StanceStagesRestart, StanceApplies, IsAppFor, stance_alone}
 
@@ -45,9 +46,9 @@ lent_formed s snap formed = record {
   media = formed.media;
 }
 
--- with another counter, and other channels with their rows
-pub counted_formed : (s : Stance) (counter : ℕ) (channels : Channels) (rows : List ChannelRow) → IsFormed s → IsFormed (record s { counter = counter; channels = channels; rows = rows })
-counted_formed s counter channels rows formed = record {
+-- with another counter, an offer outstanding or not, other rows noted, and other channels with their rows
+pub counted_formed : (s : Stance) (counter : ℕ) (outstanding : Bool) (undo : List RowBefore) (channels : Channels) (rows : List ChannelRow) → IsFormed s → IsFormed (record s { counter = counter; outstanding = outstanding; undo = undo; channels = channels; rows = rows })
+counted_formed s counter outstanding undo channels rows formed = record {
   session = formed.session;
   creds = formed.creds;
   candidates = formed.candidates;
@@ -109,7 +110,7 @@ adds_channel_formed s config (Ok id) t adds formed =
     let more : List Change = adds.app ++ AddChannel id config ∷ [] in
     let tokens : AddTokens more = channel_tokens s needed adds.app id config adds.app_for in
     let changes : AreFormedChanges more = channel_changes s needed adds.app id config adds.app_for in
-    rw adds.rest (counted_formed (record s { staged = s.staged ++ more }) s.counter (with_channel s.channels config)
+    rw adds.rest (counted_formed (record s { staged = s.staged ++ more }) s.counter s.outstanding s.undo (with_channel s.channels config)
     (s.rows ++ record { id = id; stream = None; generation = 0; is_open = false } ∷ []) (staged_formed s more tokens changes formed))
 adds_channel_formed s config (Err BadChannel) t adds formed = rw adds.1 formed
 adds_channel_formed s config (Err Alloc) t adds formed = rw adds formed
@@ -120,9 +121,10 @@ adds_channel_formed s config (Err (Sctp error)) t adds formed = absurd adds
 adds_channel_formed s config (Err (Net cause)) t adds formed = absurd adds
 adds_channel_formed s config (Err (MediaFailed cause)) t adds formed = absurd adds
 adds_channel_formed s config (Err ChangesOutOfOrder) t adds formed = absurd adds
+adds_channel_formed s config (Err Glare) t adds formed = absurd adds
 
 -- rows that are alike have the same mids
-tokens_alike : (rows others : List LineRow) → AreAlike rows others → HaveTokens rows → HaveTokens others
+pub tokens_alike : (rows others : List LineRow) → AreAlike rows others → HaveTokens rows → HaveTokens others
 tokens_alike [] [] alike tokens = tt
 tokens_alike (row ∷ rows) (other ∷ others) alike tokens =
     (subst (λ (mid : List ℕ). is_short_token mid ≡ true) (sym alike.0.mid) tokens.0, tokens_alike rows others alike.1 tokens.1)
@@ -191,7 +193,7 @@ stages_restart_formed s keeps (Err error) t stages formed = rw stages formed
 alone_formed : (s : Stance) (changes : List Change) → IsFormed s → IsFormed (stance_alone changes s)
 alone_formed s [] formed = formed
 alone_formed s (change ∷ changes) formed =
-    counted_formed (record s { staged = [] }) (raised s.counter) (all_confirmed (fitting_channels (change ∷ changes)) s.channels)
+    counted_formed (record s { staged = [] }) (raised s.counter) false s.undo (all_confirmed (fitting_channels (change ∷ changes)) s.channels)
     s.rows (lent_formed s s.snap formed)
 
 pub applies_formed : (s : Stance) (result : Result (Option (Sdp × PendingOffer)) AllocError) (t : Stance) → StanceApplies s result t
@@ -199,7 +201,7 @@ pub applies_formed : (s : Stance) (result : Result (Option (Sdp × PendingOffer)
 applies_formed s (Ok None) t applies formed = rw applies.1 (alone_formed s s.staged formed)
 applies_formed s (Ok (Some made)) t applies formed =
     let snap : KeptHalves = offered_snap s applies.half in
-    rw applies.rest (counted_formed (record s { staged = []; snap = snap }) (raised s.counter) s.channels s.rows (lent_formed s snap formed))
+    rw applies.rest (counted_formed (record s { staged = []; snap = snap }) (raised s.counter) true [] s.channels s.rows (lent_formed s snap formed))
 applies_formed s (Err error) t applies formed = rw applies formed
 
 -- the changes of an offer are formed

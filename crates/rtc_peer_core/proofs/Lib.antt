@@ -4,6 +4,7 @@ pub mod DrawnMids
 pub mod BuiltPeers
 pub mod TokenTables
 pub mod StagedLemmas
+pub mod UndoLemmas
 pub mod ToldRows
 pub mod FormedNames
 pub mod FormedUpdates
@@ -22,5 +23,6 @@ pub mod StanceAcceptances
 pub mod FormedHeads
 pub mod FormedStances
 pub mod FormedAcceptances
+pub mod StanceRollbacks
 mod LimitFacts
 mod MediaFacts

@@ -23,6 +23,7 @@ use Rattle.rtc_peer_core.specs.declared.rtc_error.RtcError.TheVariants.{
   ChangesOutOfOrder,
   BadChannel,
   Alloc,
+  Glare,
 }
 use Rattle.rtc_peer_core.specs.Acceptances.{
   OfferAccepted,
@@ -64,6 +65,7 @@ accepted_offer_stands m laws p offer answer q shut h =
     let s : Stance = stance_of m p in
     let there : no_credentials (creds_of offer) ≡ None = (unrefused (held_by s) None offer h.passes).creds in
     record {
+      no_glare = h.no_glare;
       passes = h.passes;
       restart = followed_restart m p offer;
       followed = followed_stands m p offer;
@@ -75,6 +77,7 @@ accepted_offer_stands m laws p offer answer q shut h =
       rest = ap (stance_of m) h.rest
           ∙ parts_stand (record (followed_by s (followed_restart m p offer) offer true halves) {
             counter = raised p.counter;
+            outstanding = false;
             line = m.media.line q.media;
           }) _ _ _ _ _ _ _ _ _ _ _ _ _ _
           (followed_settings m.ice laws.ice p.ice q.ice _ _ _ _ h.ice_follows
@@ -88,6 +91,7 @@ accepted_offer_stands m laws p offer answer q shut h =
 faulted_offer_stands : {I D S M E X T W N : Type 0} (m : Meanings I D S M E X T W N) → PartsLaws m → (p : Peer I D S M N) (offer : Sdp)
     (q : Peer I D S M N) → OfferFaulted m p offer q → BreaksOffer (stance_of m p) offer (stance_of m q)
 faulted_offer_stands m laws p offer q h = record {
+  no_glare = h.no_glare;
   restart = followed_restart m p offer;
   followed = followed_stands m p offer;
   breaks = breaks_by (stance_of m p) (followed_restart m p offer) (raised p.counter) (m.ice.settings q.ice) q.dtls.local q.dtls.active
@@ -104,6 +108,7 @@ unstarted_offer_stands : {I D S M E X T W N : Type 0} (m : Meanings I D S M E X 
 unstarted_offer_stands m laws p offer q shut h =
     let halves : Option InitHalves = halves_for m p true true [] offer (answer_ids m p offer) in
     record {
+      no_glare = h.no_glare;
       restart = followed_restart m p offer;
       followed = followed_stands m p offer;
       breaks = breaks_by (stance_of m p) (followed_restart m p offer) (raised p.counter) (m.ice.settings q.ice) q.dtls.local q.dtls.active
@@ -124,30 +129,31 @@ stopped_offer_stands : {I D S M E X T W N : Type 0} (m : Meanings I D S M E X T 
 stopped_offer_stands m laws p offer q shut h =
     let halves : Option InitHalves = halves_for m p true true [] offer (answer_ids m p offer) in
     record {
+      no_glare = h.no_glare;
       restart = followed_restart m p offer;
       followed = followed_stands m p offer;
       breaks = breaks_by (stance_of m p) (followed_restart m p offer) (raised p.counter) (m.ice.settings q.ice) q.dtls.local q.dtls.active
           (channel_rows m.association q.sctp p.channels) q.sctp.local_max (m.association.started q.sctp.association) q.sctp.snap
           (m.media.line q.media) (stance_of m q)
-          (ap (stance_of m) h.rest) (stopped_local m (record p { counter = raised p.counter }) _ _ _ _ _ _ q h.stops)
-          (stopped_rows m laws (record p { counter = raised p.counter }) (is_offer None) offer halves q.sctp p.channels shut
-          (stopped_sctp m (record p { counter = raised p.counter }) _ _ _ _ _ _ q h.stops))
-          (stopped_size m (record p { counter = raised p.counter }) (is_offer None) offer halves q.sctp
-          (stopped_sctp m (record p { counter = raised p.counter }) _ _ _ _ _ _ q h.stops))
-          (stopped_start m laws (record p { counter = raised p.counter }) (is_offer None) offer halves q.sctp
-          (stopped_sctp m (record p { counter = raised p.counter }) _ _ _ _ _ _ q h.stops)).started
-          (stopped_start m laws (record p { counter = raised p.counter }) (is_offer None) offer halves q.sctp
-          (stopped_sctp m (record p { counter = raised p.counter }) _ _ _ _ _ _ q h.stops)).snap
-          (same_lines m p.media q.media (stopped_media m laws.media (record p { counter = raised p.counter }) _ _ _ _ _ _ q h.stops))
-          (stopped_ice m laws.ice (record p { counter = raised p.counter }) _ _ _ _ _ _ q h.stops);
+          (ap (stance_of m) h.rest) (stopped_local m (record p { counter = raised p.counter; outstanding = false }) _ _ _ _ _ _ q h.stops)
+          (stopped_rows m laws (record p { counter = raised p.counter; outstanding = false }) (is_offer None) offer halves q.sctp p.channels shut
+          (stopped_sctp m (record p { counter = raised p.counter; outstanding = false }) _ _ _ _ _ _ q h.stops))
+          (stopped_size m (record p { counter = raised p.counter; outstanding = false }) (is_offer None) offer halves q.sctp
+          (stopped_sctp m (record p { counter = raised p.counter; outstanding = false }) _ _ _ _ _ _ q h.stops))
+          (stopped_start m laws (record p { counter = raised p.counter; outstanding = false }) (is_offer None) offer halves q.sctp
+          (stopped_sctp m (record p { counter = raised p.counter; outstanding = false }) _ _ _ _ _ _ q h.stops)).started
+          (stopped_start m laws (record p { counter = raised p.counter; outstanding = false }) (is_offer None) offer halves q.sctp
+          (stopped_sctp m (record p { counter = raised p.counter; outstanding = false }) _ _ _ _ _ _ q h.stops)).snap
+          (same_lines m p.media q.media (stopped_media m laws.media (record p { counter = raised p.counter; outstanding = false }) _ _ _ _ _ _ q h.stops))
+          (stopped_ice m laws.ice (record p { counter = raised p.counter; outstanding = false }) _ _ _ _ _ _ q h.stops);
     }
 
 pub accepts_offer_stands : {I D S M E X T W N : Type 0} (m : Meanings I D S M E X T W N) → PartsLaws m → (p : Peer I D S M N) (offer : Sdp)
     (result : Result Sdp RtcError) (q : Peer I D S M N) → IsShutBefore m.association p.sctp → AcceptsOffer m p offer result q
     → StanceAcceptsOffer (stance_of m p) offer result (stance_of m q)
 accepts_offer_stands m laws p offer (Ok answer) q shut h = accepted_offer_stands m laws p offer answer q shut h
-accepts_offer_stands m laws p offer (Err (RemoteSdp why)) q shut h = refuses_stands m p None offer (RefusedSdp why) q h
-accepts_offer_stands m laws p offer (Err (SdpRefused error)) q shut h = refuses_stands m p None offer (RefusedText error) q h
+accepts_offer_stands m laws p offer (Err (RemoteSdp why)) q shut h = (h.0, refuses_stands m p None offer (RefusedSdp why) q h.1)
+accepts_offer_stands m laws p offer (Err (SdpRefused error)) q shut h = (h.0, refuses_stands m p None offer (RefusedText error) q h.1)
 accepts_offer_stands m laws p offer (Err (Dtls Fault)) q shut h = (h.passes, faulted_offer_stands m laws p offer q h)
 accepts_offer_stands m laws p offer (Err (Dtls WouldBlock)) q shut h = absurd h
 accepts_offer_stands m laws p offer (Err (Dtls DtlsAlloc)) q shut h = absurd h
@@ -157,6 +163,7 @@ accepts_offer_stands m laws p offer (Err (Net cause)) q shut h = absurd h
 accepts_offer_stands m laws p offer (Err (MediaFailed cause)) q shut h = absurd h
 accepts_offer_stands m laws p offer (Err BadChannel) q shut h = absurd h
 accepts_offer_stands m laws p offer (Err Alloc) q shut h = stopped_offer_stands m laws p offer q shut h
+accepts_offer_stands m laws p offer (Err Glare) q shut h = (h.0, ap (stance_of m) h.1)
 
 accepted_answer_stands : {I D S M E X T W N : Type 0} (m : Meanings I D S M E X T W N) → PartsLaws m
     → (p : Peer I D S M N) (token : PendingOffer)
@@ -177,6 +184,7 @@ accepted_answer_stands m laws p token answer q shut h =
       joins = joins_stand m p false token.says_init token.changes answer p.ids;
       rest = ap (stance_of m) h.rest
           ∙ parts_stand (record (followed_by s (staged_restart token.changes) answer false halves) {
+            outstanding = false;
             channels = confirmed;
             line = m.media.line q.media;
           }) _ _ _ _ _ _ _ _ _ _ _ _ _ _
@@ -227,13 +235,13 @@ stopped_answer_stands m laws p token answer q shut h =
     breaks_by (stance_of m p) (staged_restart token.changes) p.counter (m.ice.settings q.ice) q.dtls.local q.dtls.active
     (channel_rows m.association q.sctp p.channels) q.sctp.local_max (m.association.started q.sctp.association) q.sctp.snap
     (m.media.line q.media) (stance_of m q)
-    (ap (stance_of m) h.rest) (stopped_local m p _ _ _ _ _ _ q h.stops)
-    (stopped_rows m laws p false answer halves q.sctp p.channels shut (stopped_sctp m p _ _ _ _ _ _ q h.stops))
-    (stopped_size m p false answer halves q.sctp (stopped_sctp m p _ _ _ _ _ _ q h.stops))
-    (stopped_start m laws p false answer halves q.sctp (stopped_sctp m p _ _ _ _ _ _ q h.stops)).started
-    (stopped_start m laws p false answer halves q.sctp (stopped_sctp m p _ _ _ _ _ _ q h.stops)).snap
-    (same_lines m p.media q.media (stopped_media m laws.media p _ _ _ _ _ _ q h.stops))
-    (stopped_ice m laws.ice p _ _ _ _ _ _ q h.stops)
+    (ap (stance_of m) h.rest) (stopped_local m (record p { outstanding = false }) _ _ _ _ _ _ q h.stops)
+    (stopped_rows m laws (record p { outstanding = false }) false answer halves q.sctp p.channels shut (stopped_sctp m (record p { outstanding = false }) _ _ _ _ _ _ q h.stops))
+    (stopped_size m (record p { outstanding = false }) false answer halves q.sctp (stopped_sctp m (record p { outstanding = false }) _ _ _ _ _ _ q h.stops))
+    (stopped_start m laws (record p { outstanding = false }) false answer halves q.sctp (stopped_sctp m (record p { outstanding = false }) _ _ _ _ _ _ q h.stops)).started
+    (stopped_start m laws (record p { outstanding = false }) false answer halves q.sctp (stopped_sctp m (record p { outstanding = false }) _ _ _ _ _ _ q h.stops)).snap
+    (same_lines m p.media q.media (stopped_media m laws.media (record p { outstanding = false }) _ _ _ _ _ _ q h.stops))
+    (stopped_ice m laws.ice (record p { outstanding = false }) _ _ _ _ _ _ q h.stops)
 
 pub accepts_answer_stands : {I D S M E X T W N : Type 0} (m : Meanings I D S M E X T W N) → PartsLaws m
     → (p : Peer I D S M N) (token : PendingOffer)
@@ -244,6 +252,7 @@ accepts_answer_stands m laws p token answer (Ok done) q shut h = accepted_answer
 accepts_answer_stands m laws p token answer (Err (Net cause)) q shut h = absurd h
 accepts_answer_stands m laws p token answer (Err (MediaFailed cause)) q shut h = absurd h
 accepts_answer_stands m laws p token answer (Err BadChannel) q shut h = absurd h
+accepts_answer_stands m laws p token answer (Err Glare) q shut h = absurd h
 accepts_answer_stands m laws p token answer (Err ChangesOutOfOrder) q shut h = (h.0, ap (stance_of m) h.1)
 accepts_answer_stands m laws p token answer (Err (RemoteSdp why)) q shut h =
     (h.0, refuses_stands m p (Some (asked_by p.lines token)) answer (RefusedSdp why) q h.1)

@@ -66,9 +66,10 @@ use Rattle.rtc_peer_core.specs.declared.rtc_error.RtcError.TheVariants.{
   ChangesOutOfOrder,
   BadChannel,
   Alloc,
+  Glare,
 }
 use Rattle.rtc_peer_core.specs.Acceptances.{counter_after}
-use Rattle.rtc_peer_core.specs.Calls.{Wanted, raised, fitting_channels}
+use Rattle.rtc_peer_core.specs.Calls.{Wanted, raised, fitting_channels, noted_of}
 use Rattle.rtc_peer_core.specs.Formed.{
   AreSdpCreds,
   IsFormedSimulcast,
@@ -78,6 +79,7 @@ use Rattle.rtc_peer_core.specs.Formed.{
   IsTakenLine,
   IsFormed,
 }
+use Rattle.rtc_peer_core.specs.Glare.{meets_glare}
 use Rattle.rtc_peer_core.specs.MadeSdp.{creds_in_use, candidates_in_use, offer_sdp, answer_sdp, role_after}
 use Rattle.rtc_peer_core.specs.Names.{is_held}
 use Rattle.rtc_peer_core.specs.PartMoves.{dropped_halves}
@@ -107,7 +109,11 @@ StanceAddsMedia s wanted (Err error) t = t ≡ s
 abbrev pub StanceChangesLine : RowChange → Direction → Stance → List ℕ → Result Bool AllocError → Stance → Type 0
 StanceChangesLine change to s mid (Ok true) t =
     (is_changed change (row_of s.lines mid) ≡ true)
-    × (t ≡ record s { lines = changed_of change mid s.lines; staged = s.staged ++ SetDirection mid to ∷ [] })
+    × (t ≡ record s {
+      lines = changed_of change mid s.lines;
+      staged = s.staged ++ SetDirection mid to ∷ [];
+      undo = noted_of (row_of s.lines mid) s.undo;
+    })
 StanceChangesLine change to s mid (Ok false) t = (is_changed change (row_of s.lines mid) ≡ false) × (t ≡ s)
 StanceChangesLine change to s mid (Err error) t = t ≡ s
 
@@ -145,6 +151,7 @@ StanceAddsChannel s config (Err (Sctp error)) t = ⊥
 StanceAddsChannel s config (Err (Net cause)) t = ⊥
 StanceAddsChannel s config (Err (MediaFailed cause)) t = ⊥
 StanceAddsChannel s config (Err ChangesOutOfOrder) t = ⊥
+StanceAddsChannel s config (Err Glare) t = ⊥
 
 abbrev pub StanceStagesRestart : Stance → Bool → Result IceCreds AllocError → Stance → Type 0
 StanceStagesRestart s keeps (Ok creds) t = AreSdpCreds creds × (t ≡ record s { staged = with_restart creds keeps s.staged })
@@ -155,6 +162,7 @@ stance_alone [] s = s
 stance_alone (change ∷ changes) s = record s {
   staged = [];
   counter = raised s.counter;
+  outstanding = false;
   channels = all_confirmed (fitting_channels (change ∷ changes)) s.channels;
 }
 
@@ -168,8 +176,8 @@ pub record StandsApplied (s : Stance) (made : Sdp × PendingOffer) (t : Stance) 
   pub half : List ℕ
   pub reads : IsReadBack half
   pub offered : made.0 ≡ offer_sdp s (offer_init s half)
-  pub token : made.1 ≡ record { id = s.counter; changes = s.staged; says_init = is_some (sdp_sctp_init made.0) }
-  pub rest : t ≡ record s { staged = []; counter = raised s.counter; snap = offered_snap s half }
+  pub token : made.1 ≡ record { id = s.counter; changes = s.staged; says_init = is_some (sdp_sctp_init made.0); undo = s.undo }
+  pub rest : t ≡ record s { staged = []; undo = []; counter = raised s.counter; outstanding = true; snap = offered_snap s half }
 
 abbrev pub StanceApplies : Stance → Result (Option (Sdp × PendingOffer)) AllocError → Stance → Type 0
 StanceApplies s (Ok None) t = (do_offer s.staged ≡ false) × (t ≡ stance_alone s.staged s)
@@ -178,7 +186,11 @@ StanceApplies s (Err error) t = t ≡ s
 
 abbrev pub StanceRefuses : Stance → Option Asked → Sdp → Refusal → Stance → Type 0
 StanceRefuses s asked sdp why t =
-    (verdict (held_by s) asked sdp ≡ Some why) × (t ≡ record s { counter = counter_after asked s.counter })
+    (verdict (held_by s) asked sdp ≡ Some why) × (t ≡ record s { counter = counter_after asked s.counter; outstanding = false })
+
+-- an offer that does not collide with one of this side is refused
+abbrev pub StanceRefusesOffer : Stance → Sdp → Refusal → Stance → Type 0
+StanceRefusesOffer s offer why t = (meets_glare s.polite s.outstanding ≡ false) × StanceRefuses s None offer why t
 
 -- the restart by which an offer is followed is there exactly where the offer restarts, and keeps the candidates
 pub record IsFollowed (s : Stance) (offer : Sdp) (restart : Option (IceCreds × Bool)) : Type 0 where
@@ -230,9 +242,10 @@ pub record Breaks (s : Stance) (restart : Option (IceCreds × Bool)) (counter : 
   pub lite : t.ice.lite ≡ s.ice.lite
   pub local : (t.ice.local ≡ s.ice.local) ⊎ (t.ice.local ≡ creds_in_use restart s.ice)
   pub candidates : (t.ice.candidates ≡ s.ice.candidates) ⊎ (t.ice.candidates ≡ candidates_in_use restart s.ice)
-  pub rest : t ≡ record s { counter = counter; ice = t.ice; role = t.role }
+  pub rest : t ≡ record s { counter = counter; outstanding = false; ice = t.ice; role = t.role }
 
 pub record StandsOffer (s : Stance) (offer answer : Sdp) (t : Stance) : Type 0 where
+  pub no_glare : meets_glare s.polite s.outstanding ≡ false
   pub passes : verdict (held_by s) None offer ≡ None
   pub restart : Option (IceCreds × Bool)
   pub followed : IsFollowed s offer restart
@@ -241,17 +254,19 @@ pub record StandsOffer (s : Stance) (offer answer : Sdp) (t : Stance) : Type 0 w
   pub halves : Option InitHalves
   pub joins : Joins s true offer halves
   pub answered : answer ≡ answer_sdp s restart told (answer_init s.inited s.snap halves) offer
-  pub rest : t ≡ record (followed_by s restart offer true halves) { counter = raised s.counter; line = t.line }
+  pub rest : t
+      ≡ record (followed_by s restart offer true halves) { counter = raised s.counter; outstanding = false; line = t.line }
 
 pub record BreaksOffer (s : Stance) (offer : Sdp) (t : Stance) : Type 0 where
+  pub no_glare : meets_glare s.polite s.outstanding ≡ false
   pub restart : Option (IceCreds × Bool)
   pub followed : IsFollowed s offer restart
   pub breaks : Breaks s restart (raised s.counter) t
 
 abbrev pub StanceAcceptsOffer : Stance → Sdp → Result Sdp RtcError → Stance → Type 0
 StanceAcceptsOffer s offer (Ok answer) t = StandsOffer s offer answer t
-StanceAcceptsOffer s offer (Err (RemoteSdp why)) t = StanceRefuses s None offer (RefusedSdp why) t
-StanceAcceptsOffer s offer (Err (SdpRefused error)) t = StanceRefuses s None offer (RefusedText error) t
+StanceAcceptsOffer s offer (Err (RemoteSdp why)) t = StanceRefusesOffer s offer (RefusedSdp why) t
+StanceAcceptsOffer s offer (Err (SdpRefused error)) t = StanceRefusesOffer s offer (RefusedText error) t
 StanceAcceptsOffer s offer (Err (Dtls Fault)) t = (verdict (held_by s) None offer ≡ None) × BreaksOffer s offer t
 StanceAcceptsOffer s offer (Err (Dtls WouldBlock)) t = ⊥
 StanceAcceptsOffer s offer (Err (Dtls DtlsAlloc)) t = ⊥
@@ -262,6 +277,7 @@ StanceAcceptsOffer s offer (Err (Net cause)) t = ⊥
 StanceAcceptsOffer s offer (Err (MediaFailed cause)) t = ⊥
 StanceAcceptsOffer s offer (Err BadChannel) t = ⊥
 StanceAcceptsOffer s offer (Err Alloc) t = BreaksOffer s offer t
+StanceAcceptsOffer s offer (Err Glare) t = (meets_glare s.polite s.outstanding ≡ true) × (t ≡ s)
 
 pub record StandsAnswer (s : Stance) (token : PendingOffer) (answer : Sdp) (t : Stance) : Type 0 where
   pub right : s.counter ≡ raised token.id
@@ -271,6 +287,7 @@ pub record StandsAnswer (s : Stance) (token : PendingOffer) (answer : Sdp) (t : 
   pub halves : Option InitHalves
   pub joins : Joins s token.says_init answer halves
   pub rest : t ≡ record (followed_by s (staged_restart token.changes) answer false halves) {
+    outstanding = false;
     channels = all_confirmed (fitting_channels token.changes) s.channels;
     line = t.line;
   }
@@ -280,6 +297,7 @@ StanceAcceptsAnswer s token answer (Ok done) t = StandsAnswer s token answer t
 StanceAcceptsAnswer s token answer (Err (Net cause)) t = ⊥
 StanceAcceptsAnswer s token answer (Err (MediaFailed cause)) t = ⊥
 StanceAcceptsAnswer s token answer (Err BadChannel) t = ⊥
+StanceAcceptsAnswer s token answer (Err Glare) t = ⊥
 StanceAcceptsAnswer s token answer (Err ChangesOutOfOrder) t = (s.counter ≢ raised token.id) × (t ≡ s)
 StanceAcceptsAnswer s token answer (Err (RemoteSdp why)) t =
     (s.counter ≡ raised token.id) × StanceRefuses s (Some (asked_by s.lines token)) answer (RefusedSdp why) t

@@ -28,6 +28,7 @@ use Rattle.rtc_peer_core.specs.declared.rtc_error.RtcError.TheVariants.{
   ChangesOutOfOrder,
   BadChannel,
   Alloc,
+  Glare,
 }
 use Rattle.rtc_peer_core.specs.Calls.{Wanted, raised, needs_app, after_channels_alone, staged_mid, staged_media, app_changes, AddsMedia}
 use Rattle.rtc_peer_core.specs.Calls.{ChangesLine, AddsChannel, StagesRestart, LacksOffer, Applies, halves_pending, half_drawn}
@@ -120,6 +121,7 @@ adds_channel_stands m laws p config (Err (Sctp error)) q h = absurd h
 adds_channel_stands m laws p config (Err (Net cause)) q h = absurd h
 adds_channel_stands m laws p config (Err (MediaFailed cause)) q h = absurd h
 adds_channel_stands m laws p config (Err ChangesOutOfOrder) q h = absurd h
+adds_channel_stands m laws p config (Err Glare) q h = absurd h
 
 pub stages_restart_stands : {I D S M E X T W N : Type 0} (m : Meanings I D S M E X T W N) → PartsLaws m
     → (p : Peer I D S M N) (keeps : Bool)
@@ -134,6 +136,7 @@ alone_stands m p [] = refl
 alone_stands m p (change ∷ changes) = ap (λ (rows : List ChannelRow). record (stance_of m p) {
   staged = [];
   counter = raised p.counter;
+  outstanding = false;
   channels = all_confirmed (fitting_channels (change ∷ changes)) p.channels;
   rows = rows;
 }) (confirmed_rows m.association p.sctp (fitting_channels (change ∷ changes)) p.channels)
@@ -166,7 +169,9 @@ applies_stands m laws p (Ok (Some made)) q h = record {
   rest = ap (stance_of m) h.4
       ∙ parts_stand (record (stance_of m p) {
         staged = [];
+        undo = [];
         counter = raised p.counter;
+        outstanding = true;
         snap = offered_snap (stance_of m p) (half_drawn m p);
       }) _ _ _ _ _ _ _ _ _ _ _ _ _ _
       (control_settings m.ice laws.ice p.ice q.ice _ h.3) refl refl

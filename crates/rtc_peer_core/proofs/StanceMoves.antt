@@ -76,6 +76,7 @@ pub breaks_by : (s : Stance) (restart : Option (IceCreds × Bool)) (counter : �
     (rows : List ChannelRow) (most : ℕ) (inited : Bool) (snap : KeptHalves) (line : List ℕ → Option MediaUpdate) (t : Stance)
     → t ≡ record s {
       counter = counter;
+      outstanding = false;
       ice = ice;
       own_fingerprint = own;
       role = role;

@@ -45,8 +45,10 @@ use Rattle.rtc_peer_core.specs.declared.rtc_error.RtcError.TheVariants.{
   ChangesOutOfOrder,
   BadChannel,
   Alloc,
+  Glare,
 }
 use Rattle.rtc_peer_core.specs.Calls.{raised, control_for, fitting_channels}
+use Rattle.rtc_peer_core.specs.Glare.{meets_glare}
 use Rattle.rtc_peer_core.specs.MadeSdp.{answer_sdp, role_for}
 use Rattle.rtc_peer_core.specs.Meanings.{Meanings}
 use Rattle.rtc_peer_core.specs.PartMoves.{StartsDtls}
@@ -93,9 +95,13 @@ abbrev pub counter_after : Option Asked → ℕ → ℕ
 counter_after None counter = raised counter
 counter_after (Some asked) counter = counter
 
--- the peer after a refusal
+-- the peer after a refusal: no offer of its own awaits an answer any more
 abbrev pub after_refusal : {I D S M N : Type 0} → Option Asked → Refusal → Peer I D S M N → Peer I D S M N
-after_refusal asked why p = record p { counter = counter_after asked p.counter; phase = refused_phase why p.phase }
+after_refusal asked why p = record p {
+  counter = counter_after asked p.counter;
+  outstanding = false;
+  phase = refused_phase why p.phase;
+}
 
 module _ {I D S M E X T W N : Type 0} (m : Meanings I D S M E X T W N) where
   -- An offer or an answer is refused, for the first cause that holds.
@@ -104,6 +110,7 @@ module _ {I D S M E X T W N : Type 0} (m : Meanings I D S M E X T W N) where
 
   -- an offer is accepted, and answered
   pub record OfferAccepted (p : Peer I D S M N) (offer answer : Sdp) (q : Peer I D S M N) : Type 0 where
+    pub no_glare : meets_glare p.polite p.outstanding ≡ false
     pub passes : verdict (held_by (stance_of m p)) None offer ≡ None
     pub answered : answer
         ≡ answer_sdp (stance_of m p) (followed_restart m p offer) (updates_for m p true [] offer (answer_ids m p offer))
@@ -114,6 +121,7 @@ module _ {I D S M E X T W N : Type 0} (m : Meanings I D S M E X T W N) where
     pub media_updated : UpdatesMedia m p.media (updates_for m p true [] offer (answer_ids m p offer)) q.media
     pub rest : q ≡ record p {
       counter = raised p.counter;
+      outstanding = false;
       lines = table_after p.lines (parsed_lines offer) true;
       fingerprint = option_or p.fingerprint (sdp_fingerprint offer);
       ids = ids_after_halves m p true true [] offer (answer_ids m p offer);
@@ -125,12 +133,14 @@ module _ {I D S M E X T W N : Type 0} (m : Meanings I D S M E X T W N) where
 
   -- the DTLS part failed as it was started: rows, association and fingerprint stay, and the updates stay prepared
   pub record OfferFaulted (p : Peer I D S M N) (offer : Sdp) (q : Peer I D S M N) : Type 0 where
+    pub no_glare : meets_glare p.polite p.outstanding ≡ false
     pub passes : verdict (held_by (stance_of m p)) None offer ≡ None
     pub ice_follows : FollowsOffer m p offer q
     pub dtls_fails : StartsDtls m.dtls p.dtls p.dtls.active (role_for (sdp_setup offer)) p.greatest (Err Fault) q.dtls
     pub media_prepared : m.media.prepared p.media (updates_for m p true [] offer (answer_ids m p offer)) (Ok tt) q.media
     pub rest : q ≡ record p {
       counter = raised p.counter;
+      outstanding = false;
       ids = ids_after_halves m p true true [] offer (answer_ids m p offer);
       ice = q.ice;
       dtls = q.dtls;
@@ -139,6 +149,7 @@ module _ {I D S M E X T W N : Type 0} (m : Meanings I D S M E X T W N) where
 
   -- the association failed as it was started, behind the DTLS part: rows and fingerprint stay, and the updates stay prepared
   pub record OfferUnstarted (p : Peer I D S M N) (offer : Sdp) (q : Peer I D S M N) : Type 0 where
+    pub no_glare : meets_glare p.polite p.outstanding ≡ false
     pub passes : verdict (held_by (stance_of m p)) None offer ≡ None
     pub ice_follows : FollowsOffer m p offer q
     pub dtls_starts : StartsDtls m.dtls p.dtls p.dtls.active (role_for (sdp_setup offer)) p.greatest (Ok tt) q.dtls
@@ -147,6 +158,7 @@ module _ {I D S M E X T W N : Type 0} (m : Meanings I D S M E X T W N) where
     pub media_prepared : m.media.prepared p.media (updates_for m p true [] offer (answer_ids m p offer)) (Ok tt) q.media
     pub rest : q ≡ record p {
       counter = raised p.counter;
+      outstanding = false;
       ids = ids_after_halves m p true true [] offer (answer_ids m p offer);
       ice = q.ice;
       dtls = q.dtls;
@@ -156,10 +168,12 @@ module _ {I D S M E X T W N : Type 0} (m : Meanings I D S M E X T W N) where
 
   -- there was no memory: the acceptance stopped at the place that is stated, and rows, channels and fingerprint stay wherever that is
   pub record OfferStopped (p : Peer I D S M N) (offer : Sdp) (q : Peer I D S M N) : Type 0 where
-    pub stops : StopsAccepting m (record p { counter = raised p.counter }) None [] offer (followed_restart m p offer)
+    pub no_glare : meets_glare p.polite p.outstanding ≡ false
+    pub stops : StopsAccepting m (record p { counter = raised p.counter; outstanding = false }) None [] offer (followed_restart m p offer)
         (control_for p.dtls.active offer.ice_lite) (answer_ids m p offer) q
     pub rest : q ≡ record p {
       counter = raised p.counter;
+      outstanding = false;
       ids = q.ids;
       ice = q.ice;
       dtls = q.dtls;
@@ -167,11 +181,16 @@ module _ {I D S M E X T W N : Type 0} (m : Meanings I D S M E X T W N) where
       media = q.media;
     }
 
-  -- A peer accepts an offer, or refuses it.
+  -- An offer that does not collide with one of the peer's own is refused, for the first cause that holds.
+  abbrev pub RefusesOffer : Peer I D S M N → Sdp → Refusal → Peer I D S M N → Type 0
+  RefusesOffer p offer why q = (meets_glare p.polite p.outstanding ≡ false) × Refuses p None offer why q
+
+  -- A peer accepts an offer, or refuses it. One that collides with an offer of its own is refused first of all, where the peer is impolite,
+  -- and changes nothing (RFC 3264, section 4).
   abbrev pub AcceptsOffer : Peer I D S M N → Sdp → Result Sdp RtcError → Peer I D S M N → Type 0
   AcceptsOffer p offer (Ok answer) q = OfferAccepted p offer answer q
-  AcceptsOffer p offer (Err (RemoteSdp why)) q = Refuses p None offer (RefusedSdp why) q
-  AcceptsOffer p offer (Err (SdpRefused error)) q = Refuses p None offer (RefusedText error) q
+  AcceptsOffer p offer (Err (RemoteSdp why)) q = RefusesOffer p offer (RefusedSdp why) q
+  AcceptsOffer p offer (Err (SdpRefused error)) q = RefusesOffer p offer (RefusedText error) q
   AcceptsOffer p offer (Err (Dtls Fault)) q = OfferFaulted p offer q
   AcceptsOffer p offer (Err (Dtls WouldBlock)) q = ⊥
   AcceptsOffer p offer (Err (Dtls DtlsAlloc)) q = ⊥
@@ -181,6 +200,7 @@ module _ {I D S M E X T W N : Type 0} (m : Meanings I D S M E X T W N) where
   AcceptsOffer p offer (Err (MediaFailed cause)) q = ⊥
   AcceptsOffer p offer (Err BadChannel) q = ⊥
   AcceptsOffer p offer (Err Alloc) q = OfferStopped p offer q
+  AcceptsOffer p offer (Err Glare) q = (meets_glare p.polite p.outstanding ≡ true) × (q ≡ p)
 
   -- an answer is accepted; the channels that were staged with its offer and are still there are confirmed
   pub record AnswerAccepted (p : Peer I D S M N) (token : PendingOffer) (answer : Sdp) (q : Peer I D S M N) : Type 0 where
@@ -191,6 +211,7 @@ module _ {I D S M E X T W N : Type 0} (m : Meanings I D S M E X T W N) where
     pub sctp_starts : StartsBySdp m p false answer (halves_for m p false token.says_init token.changes answer p.ids) (Ok tt) q.sctp
     pub media_updated : UpdatesMedia m p.media (updates_for m p false token.changes answer p.ids) q.media
     pub rest : q ≡ record p {
+      outstanding = false;
       lines = table_after p.lines (parsed_lines answer) false;
       channels = all_confirmed (fitting_channels token.changes) p.channels;
       fingerprint = option_or p.fingerprint (sdp_fingerprint answer);
@@ -208,6 +229,7 @@ module _ {I D S M E X T W N : Type 0} (m : Meanings I D S M E X T W N) where
     pub dtls_fails : StartsDtls m.dtls p.dtls p.dtls.active (role_for (sdp_setup answer)) p.greatest (Err Fault) q.dtls
     pub media_prepared : m.media.prepared p.media (updates_for m p false token.changes answer p.ids) (Ok tt) q.media
     pub rest : q ≡ record p {
+      outstanding = false;
       ids = ids_after_halves m p false token.says_init token.changes answer p.ids;
       ice = q.ice;
       dtls = q.dtls;
@@ -223,6 +245,7 @@ module _ {I D S M E X T W N : Type 0} (m : Meanings I D S M E X T W N) where
         (Err (Proto AssociationFault)) q.sctp
     pub media_prepared : m.media.prepared p.media (updates_for m p false token.changes answer p.ids) (Ok tt) q.media
     pub rest : q ≡ record p {
+      outstanding = false;
       ids = ids_after_halves m p false token.says_init token.changes answer p.ids;
       ice = q.ice;
       dtls = q.dtls;
@@ -232,8 +255,9 @@ module _ {I D S M E X T W N : Type 0} (m : Meanings I D S M E X T W N) where
 
   pub record AnswerStopped (p : Peer I D S M N) (token : PendingOffer) (answer : Sdp) (q : Peer I D S M N) : Type 0 where
     pub right : p.counter ≡ raised token.id
-    pub stops : StopsAccepting m p (Some (asked_by p.lines token)) token.changes answer (staged_restart token.changes) None p.ids q
-    pub rest : q ≡ record p { ids = q.ids; ice = q.ice; dtls = q.dtls; sctp = q.sctp; media = q.media }
+    pub stops : StopsAccepting m (record p { outstanding = false }) (Some (asked_by p.lines token)) token.changes answer
+        (staged_restart token.changes) None p.ids q
+    pub rest : q ≡ record p { outstanding = false; ids = q.ids; ice = q.ice; dtls = q.dtls; sctp = q.sctp; media = q.media }
 
   -- A peer accepts an answer with the token of its offer, or refuses it.
   abbrev pub AcceptsAnswer : Peer I D S M N → PendingOffer → Sdp → Result (Unit {0}) RtcError → Peer I D S M N → Type 0
@@ -241,6 +265,7 @@ module _ {I D S M E X T W N : Type 0} (m : Meanings I D S M E X T W N) where
   AcceptsAnswer p token answer (Err (Net cause)) q = ⊥
   AcceptsAnswer p token answer (Err (MediaFailed cause)) q = ⊥
   AcceptsAnswer p token answer (Err BadChannel) q = ⊥
+  AcceptsAnswer p token answer (Err Glare) q = ⊥
   AcceptsAnswer p token answer (Err ChangesOutOfOrder) q = (p.counter ≢ raised token.id) × (q ≡ p)
   AcceptsAnswer p token answer (Err (RemoteSdp why)) q =
       (p.counter ≡ raised token.id) × Refuses p (Some (asked_by p.lines token)) answer (RefusedSdp why) q

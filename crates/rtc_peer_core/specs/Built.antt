@@ -45,16 +45,19 @@ module _ {N : Type 0} (draws : Draws N) where
   abbrev pub cert_drawn : PeerConfig → N → N
   cert_drawn config ids = after_cert config.dtls.cert (creds_drawn config ids)
 
--- a peer with no rows, no channels and no offer yet
-abbrev pub empty_peer : {I D S M N : Type 0} → Global → Formats → (session start : ℕ) → I → DtlsState D → SctpStreams S → M → N
-    → Peer I D S M N
-empty_peer alloc formats session start ice dtls sctp media ids = record {
+-- a peer with no rows, no channels and no offer yet, and this role where two offers cross
+abbrev pub empty_peer : {I D S M N : Type 0} → Global → Formats → Option Bool → (session start : ℕ) → I → DtlsState D → SctpStreams S
+    → M → N → Peer I D S M N
+empty_peer alloc formats polite session start ice dtls sctp media ids = record {
   alloc = alloc;
   formats = formats;
   lines = [];
   staged = [];
+  undo = [];
   channels = no_channels;
   counter = 0;
+  outstanding = false;
+  polite = polite;
   session_id = session;
   phase = Alive;
   fingerprint = None;
@@ -112,4 +115,5 @@ module _ {I D S M E X T W N : Type 0} (m : Meanings I D S M E X T W N) where
     pub by_settings : m.media.configured media config.media p.media
     pub streams : p.sctp ≡ streams_of_config config start p.sctp.association
     pub rest : p
-        ≡ empty_peer alloc (config_formats config) (m.ids.drawn ids) start p.ice p.dtls p.sctp p.media (cert_drawn m.ids config ids)
+        ≡ empty_peer alloc (config_formats config) config.polite (m.ids.drawn ids) start p.ice p.dtls p.sctp p.media
+        (cert_drawn m.ids config ids)

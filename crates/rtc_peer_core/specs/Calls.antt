@@ -2,7 +2,6 @@
 -- and the peer after.
 use Rattle.std.specs.Prelude.{
   ◌≡◌,
-  ◌≢◌,
   ◌+◌,
   ◌%◌,
   ◌^◌,
@@ -31,6 +30,7 @@ use Rattle.rtc_wire.specs.declared.channel_config.ChannelConfig.{ChannelConfig}
 use Rattle.rtc_sdp_values.specs.declared.direction.Direction.{Direction}
 use Rattle.rtc_sdp_values.specs.declared.direction.Direction.TheVariants.{Inactive}
 use Rattle.rtc_sdp_values.specs.declared.ice_creds.IceCreds.{IceCreds}
+use Rattle.rtc_sdp_values.specs.declared.line_row.LineRow.{LineRow}
 use Rattle.rtc_sdp_values.specs.declared.media_kind.MediaKind.{MediaKind}
 use Rattle.rtc_sdp_values.specs.declared.sdp.Sdp.{Sdp}
 use Rattle.rtc_sdp_values.specs.declared.simulcast.Simulcast.{Simulcast}
@@ -58,6 +58,7 @@ use Rattle.rtc_peer_core.specs.declared.rtc_error.RtcError.TheVariants.{
   ChangesOutOfOrder,
   BadChannel,
   Alloc,
+  Glare,
 }
 use Rattle.rtc_peer_core.specs.Creds.{drawn_creds}
 use Rattle.rtc_peer_core.specs.Meanings.{Meanings}
@@ -68,6 +69,7 @@ use Rattle.rtc_peer_core.specs.Names.{is_held, next_mid, kept_name, name_of, aft
 use Rattle.rtc_peer_core.specs.PartMoves.{TakesControl}
 use Rattle.rtc_peer_core.specs.Sources.{has_source, next_pairs, after_pairs, pair_count}
 use Rattle.rtc_peer_core.specs.Staging.{lacks_app, lacking_app, after_app, with_restart}
+use Rattle.rtc_peer_core.specs.Undo.{RowBefore, noted}
 
 -- the counter after one more offer
 abbrev pub raised : ℕ → ℕ
@@ -85,12 +87,21 @@ pub record Wanted : Type 0 where
 abbrev pub needs_app : {I D S M N : Type 0} → Peer I D S M N → Bool
 needs_app p = lacks_app p.lines p.staged
 
--- The row of a mid is changed at once; where it is changed, its new direction is staged.
+-- the rows that are noted once the row of a mid is set or stopped
+abbrev pub noted_of : Option LineRow → List RowBefore → List RowBefore
+noted_of None undo = undo
+noted_of (Some row) undo = noted row undo
+
+-- The row of a mid is changed at once; where it is changed, its new direction is staged, and the row noted as it was.
 abbrev pub ChangesLine : {I D S M N : Type 0} → RowChange → Direction → Peer I D S M N → List ℕ → Result Bool AllocError
     → Peer I D S M N → Type 0
 ChangesLine change to p mid (Ok true) q =
     (is_changed change (row_of p.lines mid) ≡ true)
-    × (q ≡ record p { lines = changed_of change mid p.lines; staged = p.staged ++ SetDirection mid to ∷ [] })
+    × (q ≡ record p {
+      lines = changed_of change mid p.lines;
+      staged = p.staged ++ SetDirection mid to ∷ [];
+      undo = noted_of (row_of p.lines mid) p.undo;
+    })
 ChangesLine change to p mid (Ok false) q = (is_changed change (row_of p.lines mid) ≡ false) × (q ≡ p)
 ChangesLine change to p mid (Err error) q = q ≡ p
 
@@ -117,6 +128,7 @@ after_channels_alone [] p = p
 after_channels_alone (change ∷ changes) p = record p {
   staged = [];
   counter = raised p.counter;
+  outstanding = false;
   channels = all_confirmed (fitting_channels (change ∷ changes)) p.channels;
 }
 
@@ -200,6 +212,7 @@ module _ {I D S M E X T W N : Type 0} (m : Meanings I D S M E X T W N) where
   AddsChannel p config (Err (Net cause)) q = ⊥
   AddsChannel p config (Err (MediaFailed cause)) q = ⊥
   AddsChannel p config (Err ChangesOutOfOrder) q = ⊥
+  AddsChannel p config (Err Glare) q = ⊥
 
   -- A restart of ICE is staged, in place of one that was; its credentials are drawn.
   abbrev pub StagesRestart : Peer I D S M N → Bool → Result IceCreds AllocError → Peer I D S M N → Type 0
@@ -236,11 +249,13 @@ module _ {I D S M E X T W N : Type 0} (m : Meanings I D S M E X T W N) where
   Applies p (Ok (Some made)) q =
       (do_offer p.staged ≡ true)
       × (made.0 ≡ offer_sdp (stance_of m p) (offer_init (stance_of m p) (half_drawn p)))
-      × (made.1 ≡ record { id = p.counter; changes = p.staged; says_init = is_some (sdp_sctp_init made.0) })
+      × (made.1 ≡ record { id = p.counter; changes = p.staged; says_init = is_some (sdp_sctp_init made.0); undo = p.undo })
       × TakesControl m.ice p.ice (control_for p.dtls.active (not (m.ice.settings p.ice).lite)) q.ice
       × (q ≡ record p {
         staged = [];
+        undo = [];
         counter = raised p.counter;
+        outstanding = true;
         ice = q.ice;
         sctp = record p.sctp { snap = offered_snap (stance_of m p) (half_drawn p) };
         ids = ids_after_offer p;

@@ -2,6 +2,8 @@ pub mod Formats
 pub mod Creds
 pub mod Meanings
 pub mod ChannelRows
+pub mod Undo
+pub mod UndoIndex
 pub mod Stance
 pub mod SdpHalves
 pub mod Names
@@ -14,7 +16,9 @@ pub mod PartMoves
 pub mod Calls
 pub mod SdpMoves
 pub mod StoppedAcceptances
+pub mod Glare
 pub mod Acceptances
+pub mod RollingBack
 pub mod Built
 pub mod Formed
 pub mod DrawnSources

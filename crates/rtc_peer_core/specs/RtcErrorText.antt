@@ -19,6 +19,7 @@ use Rattle.rtc_peer_core.specs.declared.rtc_error.RtcError.TheVariants.{
   ChangesOutOfOrder,
   BadChannel,
   Alloc,
+  Glare,
 }
 
 -- why a datagram is refused
@@ -37,3 +38,4 @@ rtc_error_text (Media error) = media_error_text error
 rtc_error_text ChangesOutOfOrder = codes "Changes made out of order"
 rtc_error_text BadChannel = codes "channel config refused"
 rtc_error_text Alloc = codes "out of memory"
+rtc_error_text Glare = codes "offer collides with a pending offer"

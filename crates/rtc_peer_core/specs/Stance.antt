@@ -14,6 +14,7 @@ use Rattle.rtc_peer_core.specs.declared.formats.Formats.{Formats}
 use Rattle.rtc_peer_core.specs.declared.peer.Peer.{Peer}
 use Rattle.rtc_peer_core.specs.ChannelRows.{channel_rows}
 use Rattle.rtc_peer_core.specs.Meanings.{Meanings}
+use Rattle.rtc_peer_core.specs.Undo.{RowBefore}
 
 pub record Stance : Type 0 where
   pub session : ℕ
@@ -21,10 +22,16 @@ pub record Stance : Type 0 where
   pub formats : Formats
   pub lines : List LineRow
   pub staged : List Change
+  -- the rows that these changes set or stopped, as they were before
+  pub undo : List RowBefore
   pub channels : Channels
   -- the rows that tell of them
   pub rows : List ChannelRow
   pub counter : ℕ
+  -- whether the counter was last raised by an offer of this side whose token was not handed in yet
+  pub outstanding : Bool
+  -- the role where two offers cross, if one is set: whether it is the polite one
+  pub polite : Option Bool
   -- whether the ICE agent is lite, the credentials of both sides, and the local candidates
   pub ice : IceSettings
   -- the fingerprint of this side's certificate, and that which the other side told first
@@ -46,9 +53,12 @@ stance_of m p = record {
   formats = p.formats;
   lines = p.lines;
   staged = p.staged;
+  undo = p.undo;
   channels = p.channels;
   rows = channel_rows m.association p.sctp p.channels;
   counter = p.counter;
+  outstanding = p.outstanding;
+  polite = p.polite;
   ice = m.ice.settings p.ice;
   own_fingerprint = p.dtls.local;
   fingerprint = p.fingerprint;

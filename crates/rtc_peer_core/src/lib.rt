@@ -11,6 +11,7 @@ mod sdp_head;
 mod sending;
 mod staged;
 mod told_row;
+mod undo;
 
 pub use drawing::count_lines;
 pub use formats::Formats;
@@ -22,3 +23,4 @@ pub use sdp_head::SdpHead;
 pub use sending::Sending;
 pub use staged::Staged;
 pub use told_row::ToldRow;
+pub use undo::Undo;

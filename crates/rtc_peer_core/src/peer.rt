@@ -1,5 +1,5 @@
 //! The state of a peer.
-use crate::{Formats, Phase, Staged};
+use crate::{Formats, Phase, Staged, Undo};
 use rtc_change::Lines;
 use rtc_channels::ChannelHandler;
 use rtc_part_dtls::Dtls;
@@ -16,9 +16,15 @@ pub struct Peer<I, D, S, M, N> {
     pub lines: Lines,
     /// What is staged and not yet applied.
     pub staged: Staged,
+    /// The rows that these changes set or stopped, as they were before.
+    pub undo: Undo,
     pub channels: ChannelHandler,
     /// How many offers were made or given, also those refused; it wraps.
     pub counter: u64,
+    /// Whether the counter was last raised by an offer of this side whose token was not handed in yet.
+    pub outstanding: bool,
+    /// The role where two offers cross, if one is set: whether it is the polite one.
+    pub polite: Option<bool>,
     /// The number of the session, of the `o=` line.
     pub session_id: u64,
     pub phase: Phase,
@@ -42,8 +48,11 @@ impl<I: Drop, D: Drop, S: Drop, M: Drop, N: Drop> Drop for Peer<I, D, S, M, N> {
             formats: _formats,
             lines: _lines,
             staged: _staged,
+            undo: _undo,
             channels: _channels,
             counter: _counter,
+            outstanding: _outstanding,
+            polite: _polite,
             session_id: _session_id,
             phase: _phase,
             fingerprint: _fingerprint,

@@ -32,12 +32,14 @@ pub enum RtcError {
     Sctp(SctpError),
     /// The media part failed.
     Media(MediaError),
-    /// An offer was made or given since the token was made, be it one that was refused.
+    /// An offer was made or given since the token was made, be it one that was refused for another cause than glare.
     ChangesOutOfOrder,
     /// No channel can be made of the config.
     BadChannel,
     /// There was too little memory, or a table would have 2^32 - 1 lines or more.
     Alloc,
+    /// The peer is impolite, and its own offer still awaits its answer (RFC 3264, section 4).
+    Glare,
 }
 
 // Written out, so that the proof of what owns a refusal sees one call and not the drop of each variant.
@@ -53,6 +55,7 @@ impl Drop for RtcError {
             RtcError::ChangesOutOfOrder => {}
             RtcError::BadChannel => {}
             RtcError::Alloc => {}
+            RtcError::Glare => {}
         }
     }
 }
@@ -84,6 +87,7 @@ impl fmt::Display for RtcError {
             RtcError::ChangesOutOfOrder => f.write_str("Changes made out of order"),
             RtcError::BadChannel => f.write_str("channel config refused"),
             RtcError::Alloc => f.write_str("out of memory"),
+            RtcError::Glare => f.write_str("offer collides with a pending offer"),
         }
     }
 }

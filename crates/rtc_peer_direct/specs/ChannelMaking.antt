@@ -16,6 +16,7 @@ use Rattle.rtc_peer_core.specs.declared.rtc_error.RtcError.TheVariants.{
   ChangesOutOfOrder,
   BadChannel,
   Alloc,
+  Glare,
 }
 use Rattle.rtc_peer_core.specs.PartMoves.{StartsWhere, remote_limit}
 use Rattle.rtc_peer_core.specs.RtcErrors.{error_of_sctp}
@@ -58,3 +59,4 @@ CreatesChannel config p (Err (Sctp error)) q = ⊥
 CreatesChannel config p (Err (Net cause)) q = ⊥
 CreatesChannel config p (Err (Media cause)) q = ⊥
 CreatesChannel config p (Err ChangesOutOfOrder) q = ⊥
+CreatesChannel config p (Err Glare) q = ⊥

@@ -24,11 +24,12 @@ use Rattle.rtc_sctp_laws.specs.StreamActs.{CallDid}
 use Rattle.rtc_sctp_laws.specs.StreamMessages.{pushed_packets}
 use Rattle.rtc_peer_core.specs.declared.peer.Peer.{Peer}
 use Rattle.rtc_peer_core.specs.declared.rtc_error.RtcError.{RtcError}
-use Rattle.rtc_peer_core.specs.declared.rtc_error.RtcError.TheVariants.{RemoteSdp, Sdp as SdpRefused, Dtls, Sctp, Net, Media as MediaFailed, ChangesOutOfOrder, BadChannel, Alloc}
+use Rattle.rtc_peer_core.specs.declared.rtc_error.RtcError.TheVariants.{RemoteSdp, Sdp as SdpRefused, Dtls, Sctp, Net, Media as MediaFailed, ChangesOutOfOrder, BadChannel, Alloc, Glare}
 use Rattle.rtc_peer_core.specs.Meanings.{Meanings}
 use Rattle.rtc_peer_core.specs.Calls.{raised, control_for}
 use Rattle.rtc_peer_core.specs.MadeSdp.{role_for, role_after}
 use Rattle.rtc_peer_core.specs.SdpMoves.{followed_restart, answer_ids, halves_for}
+use Rattle.rtc_peer_core.specs.RollingBack.{RollsBack}
 use Rattle.rtc_peer_core.specs.PartMoves.{needs_start, StartsSctp, remote_limit, StopsMoving, AtAgent, AtRole, AtStart}
 use Rattle.rtc_peer_core.specs.StoppedAcceptances.{StopsPreparing, BeforeSources, AmongDraws, AtUpdates, StopsAccepting, AtVerdict, AtPreparing, AtParts}
 use Rattle.rtc_peer_core.specs.Acceptances.{AcceptsOffer, AcceptsAnswer}
@@ -124,15 +125,15 @@ module _ {I D S M E X T W N : Type 0} (m : Meanings I D S M E X T W N) where
 
   stops_did : (p : PolledPeer I D S M N) (count : ℕ) (asked : Option Asked) (changes : List Change) (sdp : Sdp) (restart : Option (IceCreds × Bool))
       (control : Option Bool) (drawn : N) (c : Peer I D S M N)
-      → StopsAccepting m (record p.core { counter = count }) asked changes sdp restart control drawn c → NegotiationActs m p (with_core c p)
+      → StopsAccepting m (record p.core { counter = count; outstanding = false }) asked changes sdp restart control drawn c → NegotiationActs m p (with_core c p)
   stops_did p count asked changes sdp restart control drawn c (AtVerdict is) =
-      core_did p (record p.core { counter = count }) c is refl refl refl refl
+      core_did p (record p.core { counter = count; outstanding = false }) c is refl refl refl refl
   stops_did p count asked changes sdp restart control drawn c (AtPreparing passes stops) =
-      preparing_did p (record p.core { counter = count }) (is_offer asked) (may_take_init asked) changes sdp drawn c refl refl refl refl stops
+      preparing_did p (record p.core { counter = count; outstanding = false }) (is_offer asked) (may_take_init asked) changes sdp drawn c refl refl refl refl stops
   stops_did p count asked changes sdp restart control drawn c (AtParts passes ids prepared moving) =
       moving_did p c restart (creds_of sdp) (candidates_of sdp) control (role_for (sdp_setup sdp))
       (table_after p.core.lines (parsed_lines sdp) (is_offer asked)) (role_after p.core.dtls.active (sdp_setup sdp)) (remote_limit (max_message_size_of sdp))
-      (halves_for m (record p.core { counter = count }) (is_offer asked) (may_take_init asked) changes sdp drawn) (not (is_offer asked))
+      (halves_for m (record p.core { counter = count; outstanding = false }) (is_offer asked) (may_take_init asked) changes sdp drawn) (not (is_offer asked))
       (media_prepared m.media _ (Ok tt) p.core.media c.media prepared) moving
 
   pub offer_did : (p : PolledPeer I D S M N) (offer : Sdp) (r : Result Sdp RtcError) (c : Peer I D S M N) → AcceptsOffer m p.core offer r c
@@ -143,8 +144,8 @@ module _ {I D S M E X T W N : Type 0} (m : Meanings I D S M E X T W N) where
       (sctp_did (table_after p.core.lines (parsed_lines offer) true) (role_after p.core.dtls.active (sdp_setup offer)) p.core.greatest
       (remote_limit (max_message_size_of offer)) (halves_for m p.core true true [] offer (answer_ids m p.core offer)) false p.core.sctp (Ok tt) c.sctp h.sctp_starts)
       (media_updated m.media _ p.core.media h.media_updated.prepared c.media h.media_updated.by_prepare h.media_updated.by_commit)
-  offer_did p offer (Err (RemoteSdp why)) c h = core_did p _ c h.1 refl refl refl refl
-  offer_did p offer (Err (SdpRefused error)) c h = core_did p _ c h.1 refl refl refl refl
+  offer_did p offer (Err (RemoteSdp why)) c h = core_did p _ c h.1.1 refl refl refl refl
+  offer_did p offer (Err (SdpRefused error)) c h = core_did p _ c h.1.1 refl refl refl refl
   offer_did p offer (Err (Dtls Fault)) c h =
       parts_did p c (follows_told m.ice p.core.ice _ _ _ _ c.ice h.ice_follows)
       (starts_told m.dtls p.core.dtls.active (role_for (sdp_setup offer)) p.core.greatest (Err Fault) p.core.dtls c.dtls refl h.dtls_fails)
@@ -162,6 +163,7 @@ module _ {I D S M E X T W N : Type 0} (m : Meanings I D S M E X T W N) where
   offer_did p offer (Err (Net cause)) c h = absurd h
   offer_did p offer (Err (MediaFailed cause)) c h = absurd h
   offer_did p offer (Err BadChannel) c h = absurd h
+  offer_did p offer (Err Glare) c h = core_did p p.core c h.1 refl refl refl refl
   offer_did p offer (Err Alloc) c h =
       stops_did p (raised p.core.counter) None [] offer (followed_restart m p.core offer) (control_for p.core.dtls.active offer.ice_lite)
       (answer_ids m p.core offer) c h.stops
@@ -177,6 +179,7 @@ module _ {I D S M E X T W N : Type 0} (m : Meanings I D S M E X T W N) where
   answer_did p token answer (Err (Net cause)) c h = absurd h
   answer_did p token answer (Err (MediaFailed cause)) c h = absurd h
   answer_did p token answer (Err BadChannel) c h = absurd h
+  answer_did p token answer (Err Glare) c h = absurd h
   answer_did p token answer (Err ChangesOutOfOrder) c h = core_did p p.core c h.1 refl refl refl refl
   answer_did p token answer (Err (RemoteSdp why)) c h = core_did p _ c h.1.1 refl refl refl refl
   answer_did p token answer (Err (SdpRefused error)) c h = core_did p _ c h.1.1 refl refl refl refl
@@ -195,3 +198,18 @@ module _ {I D S M E X T W N : Type 0} (m : Meanings I D S M E X T W N) where
       (media_prepared m.media _ (Ok tt) p.core.media c.media h.1.media_prepared)
   answer_did p token answer (Err Alloc) c h =
       stops_did p p.core.counter (Some (asked_by p.core.lines token)) token.changes answer (staged_restart token.changes) None p.core.ids c h.stops
+
+  -- an offer that is rolled back leaves the parts
+  pub rollback_did : (p : PolledPeer I D S M N) (token : PendingOffer) (r : Result (Unit {0}) RtcError) (c : Peer I D S M N)
+      → RollsBack p.core token r c → NegotiationActs m p (with_core c p)
+  rollback_did p token (Ok done) c h = core_did p _ c h.1 refl refl refl refl
+  rollback_did p token (Err ChangesOutOfOrder) c h = core_did p p.core c h.1 refl refl refl refl
+  rollback_did p token (Err (RemoteSdp why)) c h = absurd h
+  rollback_did p token (Err (SdpRefused error)) c h = absurd h
+  rollback_did p token (Err (Dtls error)) c h = absurd h
+  rollback_did p token (Err (Sctp error)) c h = absurd h
+  rollback_did p token (Err (Net cause)) c h = absurd h
+  rollback_did p token (Err (MediaFailed cause)) c h = absurd h
+  rollback_did p token (Err BadChannel) c h = absurd h
+  rollback_did p token (Err Alloc) c h = absurd h
+  rollback_did p token (Err Glare) c h = absurd h

@@ -63,7 +63,7 @@ confirmed_streams id config [] = refl
 confirmed_streams id config (row ∷ rows) = by (has_id id row) (confirmed_streams id config rows)
   where
     by : (b : Bool) → map numbered_stream (rows_confirmed id config rows) ≡ map numbered_stream rows
-        → map numbered_stream (if b then record row { config = Some config } ∷ rows else row ∷ rows_confirmed id config rows) ≡ numbered_stream row ∷ map numbered_stream rows
+        → map numbered_stream (if b then record row { config = Some config; confirmed = true } ∷ rows else row ∷ rows_confirmed id config rows) ≡ numbered_stream row ∷ map numbered_stream rows
     by true e = refl
     by false e = ap (λ l. numbered_stream row ∷ l) e
 

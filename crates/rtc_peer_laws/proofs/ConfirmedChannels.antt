@@ -13,7 +13,7 @@ confirmed_same s id config [] = refl
 confirmed_same s id config (row ∷ rows) = by (has_id id row) (confirmed_same s id config rows)
   where
     by : (b : Bool) → over_rows s (rows_confirmed id config rows) ≡ over_rows s rows
-        → over_rows s (if b then record row { config = Some config } ∷ rows else row ∷ rows_confirmed id config rows) ≡ over_rows s (row ∷ rows)
+        → over_rows s (if b then record row { config = Some config; confirmed = true } ∷ rows else row ∷ rows_confirmed id config rows) ≡ over_rows s (row ∷ rows)
     by true rest = refl
     by false rest = ap (λ (o : Option ℕ). if is_of_stream s row.stream then Some row.id else o) rest
 

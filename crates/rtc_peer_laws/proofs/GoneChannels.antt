@@ -28,7 +28,7 @@ none_confirmed c id config [] h = tt
 none_confirmed c id config (row ∷ rows) h = by (has_id id row) (none_confirmed c id config rows h.1)
   where
     by : (b : Bool) → HasNoRow c (rows_confirmed id config rows)
-        → HasNoRow c (if b then record row { config = Some config } ∷ rows else row ∷ rows_confirmed id config rows)
+        → HasNoRow c (if b then record row { config = Some config; confirmed = true } ∷ rows else row ∷ rows_confirmed id config rows)
     by true rest = h
     by false rest = (h.0, rest)
 

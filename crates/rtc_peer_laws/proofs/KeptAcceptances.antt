@@ -43,7 +43,7 @@ use Rattle.rtc_peer_core.specs.declared.peer.Peer.{Peer}
 use Rattle.rtc_peer_core.specs.declared.phase.Phase.{Phase}
 use Rattle.rtc_peer_core.specs.declared.phase.Phase.TheVariants.{Closed}
 use Rattle.rtc_peer_core.specs.declared.rtc_error.RtcError.{RtcError}
-use Rattle.rtc_peer_core.specs.declared.rtc_error.RtcError.TheVariants.{RemoteSdp, Sdp as SdpRefused, Dtls, Sctp, Net, Media as MediaFailed, ChangesOutOfOrder, BadChannel, Alloc}
+use Rattle.rtc_peer_core.specs.declared.rtc_error.RtcError.TheVariants.{RemoteSdp, Sdp as SdpRefused, Dtls, Sctp, Net, Media as MediaFailed, ChangesOutOfOrder, BadChannel, Alloc, Glare}
 use Rattle.rtc_peer_core.specs.Meanings.{Meanings}
 use Rattle.rtc_peer_core.specs.Calls.{raised, control_for, fitting_channels}
 use Rattle.rtc_peer_core.specs.MadeSdp.{role_for, role_after}
@@ -130,15 +130,15 @@ module _ {I D S M E X T W N : Type 0} (m : Meanings I D S M E X T W N) where
       sctp_entries w rows client p.greatest max halves drops p.sctp (Err SctpAlloc) c.sctp started
 
   pub stops_entries : AssociationLaws m.association → (p : Peer I D S M N) (count : ℕ) (asked : Option Asked) (changes : List Change) (sdp : Sdp) (restart : Option (IceCreds × Bool))
-      (control : Option Bool) (drawn : N) (c : Peer I D S M N) → StopsAccepting m (record p { counter = count }) asked changes sdp restart control drawn c
+      (control : Option Bool) (drawn : N) (c : Peer I D S M N) → StopsAccepting m (record p { counter = count; outstanding = false }) asked changes sdp restart control drawn c
       → LeavesEntries p.sctp c.sctp
   stops_entries w p count asked changes sdp restart control drawn c (AtVerdict is) = leaves_same p.sctp c.sctp (ap (λ (x : Peer I D S M N). x.sctp) is)
   stops_entries w p count asked changes sdp restart control drawn c (AtPreparing passes stops) =
-      preparing_entries (record p { counter = count }) (is_offer asked) (may_take_init asked) changes sdp drawn c stops
+      preparing_entries (record p { counter = count; outstanding = false }) (is_offer asked) (may_take_init asked) changes sdp drawn c stops
   stops_entries w p count asked changes sdp restart control drawn c (AtParts passes ids prepared moving) =
       moving_entries w p c restart (creds_of sdp) (candidates_of sdp) control (role_for (sdp_setup sdp)) (table_after p.lines (parsed_lines sdp) (is_offer asked))
       (role_after p.dtls.active (sdp_setup sdp)) (remote_limit (max_message_size_of sdp))
-      (halves_for m (record p { counter = count }) (is_offer asked) (may_take_init asked) changes sdp drawn) (not (is_offer asked)) moving
+      (halves_for m (record p { counter = count; outstanding = false }) (is_offer asked) (may_take_init asked) changes sdp drawn) (not (is_offer asked)) moving
 
   -- acts on the association, where entries and channels stay
   acted_keeps : AssociationLaws m.association → (p : PolledPeer I D S M N) (c : Peer I D S M N) → NegotiationActs m p (with_core c p)
@@ -184,8 +184,8 @@ module _ {I D S M E X T W N : Type 0} (m : Meanings I D S M E X T W N) where
       (sctp_entries w (table_after p.core.lines (parsed_lines offer) true) (role_after p.core.dtls.active (sdp_setup offer)) p.core.greatest
       (remote_limit (max_message_size_of offer)) (halves_for m p.core true true [] offer (answer_ids m p.core offer)) false p.core.sctp (Ok tt) c.sctp h.sctp_starts) (ap (λ (x : Peer I D S M N). x.channels) h.rest)
       (λ k. ap (λ (x : Peer I D S M N). x.phase) h.rest ∙ k)
-  offer_by w p offer (Err (RemoteSdp why)) c did h = refused_keeps w p _ c did h.1 refl refl (λ k. stays_closed why p.core.phase k)
-  offer_by w p offer (Err (SdpRefused error)) c did h = refused_keeps w p _ c did h.1 refl refl (λ k. k)
+  offer_by w p offer (Err (RemoteSdp why)) c did h = refused_keeps w p _ c did h.1.1 refl refl (λ k. stays_closed why p.core.phase k)
+  offer_by w p offer (Err (SdpRefused error)) c did h = refused_keeps w p _ c did h.1.1 refl refl (λ k. k)
   offer_by w p offer (Err (Dtls Fault)) c did h = refused_keeps w p _ c did h.rest refl refl (λ k. k)
   offer_by w p offer (Err (Dtls WouldBlock)) c did h = absurd h
   offer_by w p offer (Err (Dtls DtlsAlloc)) c did h = absurd h
@@ -199,6 +199,7 @@ module _ {I D S M E X T W N : Type 0} (m : Meanings I D S M E X T W N) where
   offer_by w p offer (Err (Net cause)) c did h = absurd h
   offer_by w p offer (Err (MediaFailed cause)) c did h = absurd h
   offer_by w p offer (Err BadChannel) c did h = absurd h
+  offer_by w p offer (Err Glare) c did h = refused_keeps w p p.core c did h.1 refl refl (λ k. k)
   offer_by w p offer (Err Alloc) c did h =
       still_keeps w p c did
       (stops_entries w p.core (raised p.core.counter) None [] offer (followed_restart m p.core offer) (control_for p.core.dtls.active offer.ice_lite)
@@ -225,6 +226,7 @@ module _ {I D S M E X T W N : Type 0} (m : Meanings I D S M E X T W N) where
   answer_by w p token answer (Err (Net cause)) c did h = absurd h
   answer_by w p token answer (Err (MediaFailed cause)) c did h = absurd h
   answer_by w p token answer (Err BadChannel) c did h = absurd h
+  answer_by w p token answer (Err Glare) c did h = absurd h
   answer_by w p token answer (Err ChangesOutOfOrder) c did h = refused_keeps w p p.core c did h.1 refl refl (λ k. k)
   answer_by w p token answer (Err (RemoteSdp why)) c did h = refused_keeps w p _ c did h.1.1 refl refl (λ k. stays_closed why p.core.phase k)
   answer_by w p token answer (Err (SdpRefused error)) c did h = refused_keeps w p _ c did h.1.1 refl refl (λ k. k)

@@ -8,7 +8,7 @@ use Rattle.rtc_change.specs.declared.change.Change.{Change}
 use Rattle.rtc_channels.specs.Channels.{Channels, all_confirmed}
 use Rattle.rtc_peer_core.specs.declared.peer.Peer.{Peer}
 use Rattle.rtc_peer_core.specs.declared.rtc_error.RtcError.{RtcError}
-use Rattle.rtc_peer_core.specs.declared.rtc_error.RtcError.TheVariants.{RemoteSdp, Sdp as SdpRefused, Dtls, Sctp, Net, Media as MediaFailed, ChangesOutOfOrder, BadChannel, Alloc}
+use Rattle.rtc_peer_core.specs.declared.rtc_error.RtcError.TheVariants.{RemoteSdp, Sdp as SdpRefused, Dtls, Sctp, Net, Media as MediaFailed, ChangesOutOfOrder, BadChannel, Alloc, Glare}
 use Rattle.rtc_peer_core.specs.Calls.{AddsChannel, Applies, LacksOffer, after_channels_alone, fitting_channels, half_drawn}
 use Rattle.rtc_peer_core.specs.Meanings.{Meanings}
 use Rattle.rtc_peer_core.specs.SdpHalves.{draws_half, offered_snap}
@@ -75,6 +75,7 @@ module _ {I D S M E X T W N : Type 0} (m : Meanings I D S M E X T W N) where
   channel_added p config (Err (Net cause)) c h = absurd h
   channel_added p config (Err (MediaFailed cause)) c h = absurd h
   channel_added p config (Err ChangesOutOfOrder) c h = absurd h
+  channel_added p config (Err Glare) c h = absurd h
 
   alone_kept : (changes : List Change) (p : PolledPeer I D S M N) (c : Peer I D S M N) → c ≡ after_channels_alone changes p.core
       → CallKeepsStreams m p [] (with_core c p)

@@ -39,12 +39,14 @@ pub mod ApartChannels
 pub mod AllocatedChannels
 pub mod ConfirmedChannels
 pub mod GoneChannels
+pub mod CancelledChannels
 pub mod KeptCalls
 pub mod KeptPeers
 pub mod KeptInputs
 mod KeptStarts
 pub mod KeptAcceptances
 pub mod KeptStaging
+pub mod KeptRollbacks
 pub mod OpenedOnce
 pub mod JoinedLemmas
 pub mod ShownLemmas

@@ -32,3 +32,18 @@ pub record CallKeepsStreams {I D S M E X T W N : Type 0} (m : Meanings I D S M E
   pub given : p.core.channels.given ≤ q.core.channels.given
   pub fresh : (s : ℕ) (own : Option ℕ) → HasOpenInBand s own q.core.sctp.entries → HasOpenInBand s own p.core.sctp.entries
   pub changed : (q.core.phase ≡ Closed) ⊎ RowsChanged m.association p.core.channels p.core.sctp q.core.channels q.core.sctp
+
+-- A call that wrote these messages and read none: it keeps the use of each stream, a closed peer and an association that runs, and takes
+-- back no number that a channel was given. A channel that was live is so, or has gone with its row.
+pub record CallLeavesStreams {I D S M E X T W N : Type 0} (m : Meanings I D S M E X T W N) (p : PolledPeer I D S M N)
+    (wrote : List StreamMessage) (q : PolledPeer I D S M N) : Type 0 where
+  pub uses : GenerationLaws m.association → (s : ℕ) (written read : List StreamMessage) → IsUsedStream m s written read p
+      → IsUsedStream m s (written ++ wrote) read q
+  pub lives : (c s g : ℕ) → AreNumberedChannels p.core.channels → IsLiveChannel c s g p
+      → IsLiveChannel c s g q ⊎ IsGone c q.core.channels
+  pub numbers : AreNumberedChannels p.core.channels → AreNumberedChannels q.core.channels
+  pub gone : (c : ℕ) → IsGone c p.core.channels → IsGone c q.core.channels
+  pub closed : p.core.phase ≡ Closed → q.core.phase ≡ Closed
+  pub running : AreRunning m.association p.core.sctp → AreRunning m.association q.core.sctp
+  pub given : p.core.channels.given ≤ q.core.channels.given
+  pub fresh : (s : ℕ) (own : Option ℕ) → HasOpenInBand s own q.core.sctp.entries → HasOpenInBand s own p.core.sctp.entries

@@ -6,6 +6,7 @@ ghost use Rattle.rtc_change.specs.PendingOffer.{PendingOffer};
 ghost use Rattle.rtc_peer_core.specs.declared.peer.Peer.{Peer};
 ghost use Rattle.rtc_peer_core.specs.Acceptances.{AcceptsAnswer, AcceptsOffer};
 ghost use Rattle.rtc_peer_core.specs.Meanings.{meanings};
+ghost use Rattle.rtc_peer_core.specs.RollingBack.{RollsBack};
 ghost use Rattle.rtc_peer_transport.specs.declared.input.Input.{Input as Given};
 ghost use Rattle.rtc_peer_transport.specs.declared.polled_peer.PolledPeer.{PolledPeer as Polled};
 ghost use Rattle.rtc_peer_transport.specs.ChannelCalls.{ClosesDataChannel, SetsChannelThreshold, WritesChannel};
@@ -46,13 +47,16 @@ pub fn calls_act<I: IceAgent, D: DtlsInstance, S: Association, M: MediaSession, 
 {}
 
 /// So is each offer and each answer that is accepted, refused or stopped: no packet comes from outside and none goes, no message is
-/// written or read, and no moment is handed on but the greatest that was taken.
+/// written or read, and no moment is handed on but the greatest that was taken. So is an offer that is rolled back.
 pub fn acceptances_act<I: IceAgent, D: DtlsInstance, S: Association, M: MediaSession, N: Ids>()
     ensures offers { (p : Polled I D S M N) (core : Peer I D S M N) (offer : Description) (answer : _)
         → AcceptsOffer (meanings I.ice D.dtls S.association M.media N.ids) p.core offer answer core
         → NegotiationActs (meanings I.ice D.dtls S.association M.media N.ids) p (with_core core p) }
     ensures answers { (p : Polled I D S M N) (core : Peer I D S M N) (token : PendingOffer) (description : Description) (answer : _)
         → AcceptsAnswer (meanings I.ice D.dtls S.association M.media N.ids) p.core token description answer core
+        → NegotiationActs (meanings I.ice D.dtls S.association M.media N.ids) p (with_core core p) }
+    ensures rollbacks { (p : Polled I D S M N) (core : Peer I D S M N) (token : PendingOffer) (answer : _)
+        → RollsBack p.core token answer core
         → NegotiationActs (meanings I.ice D.dtls S.association M.media N.ids) p (with_core core p) }
 {}
 

@@ -14,8 +14,10 @@ ghost use Rattle.rtc_peer_transport.specs.ChannelCalls.{ClosesDataChannel, SetsC
 ghost use Rattle.rtc_peer_transport.specs.Closing.{ClosesPeer};
 ghost use Rattle.rtc_peer_polling.specs.Inputs.{HandlesInput};
 ghost use Rattle.rtc_peer_core.specs.Meanings.{meanings};
+ghost use Rattle.rtc_peer_core.specs.RollingBack.{RollsBack};
 ghost use Rattle.rtc_peer_laws.specs.Acts.{message_of_write, with_core};
-ghost use Rattle.rtc_peer_laws.specs.KeptChannels.{CallKeepsStreams};
+ghost use Rattle.rtc_peer_laws.specs.KeptChannels.{CallKeepsStreams, CallLeavesStreams};
+ghost use Rattle.rtc_sctp_laws.specs.StreamMessages.{StreamMessage};
 
 use rtc_part_association::Association;
 use rtc_part_dtls::DtlsInstance;
@@ -70,6 +72,8 @@ pub fn acceptances_keep_streams<
 
 /// So does a channel that is added, with its row behind the others; what is staged and applied; and every call that leaves the streams
 /// and the channels, as one that stages a line, or gives the agent a candidate. One call goes on behind another.
+///
+/// An offer that is rolled back does so too, but that a channel which was live may go with its row.
 pub fn stagings_keep_streams<
     I: IceAgent,
     D: DtlsInstance,
@@ -90,4 +94,10 @@ pub fn stagings_keep_streams<
         → CallKeepsStreams (meanings I.ice D.dtls S.association M.media N.ids) p [] between
         → CallKeepsStreams (meanings I.ice D.dtls S.association M.media N.ids) between [] q
         → CallKeepsStreams (meanings I.ice D.dtls S.association M.media N.ids) p [] q }
+    ensures rollbacks { (p : Polled I D S M N) (core : Peer I D S M N) (token : PendingOffer) (answer : _)
+        → RollsBack p.core token answer core
+        → CallLeavesStreams (meanings I.ice D.dtls S.association M.media N.ids) p [] (with_core core p) }
+    ensures leaves { (p q : Polled I D S M N) (wrote : List StreamMessage)
+        → CallKeepsStreams (meanings I.ice D.dtls S.association M.media N.ids) p wrote q
+        → CallLeavesStreams (meanings I.ice D.dtls S.association M.media N.ids) p wrote q }
 {}

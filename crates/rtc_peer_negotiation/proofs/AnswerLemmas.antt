@@ -28,6 +28,7 @@ use Rattle.rtc_peer_core.specs.declared.rtc_error.RtcError.TheVariants.{
   ChangesOutOfOrder,
   BadChannel,
   Alloc,
+  Glare,
 }
 use Rattle.rtc_peer_core.specs.Acceptances.{AcceptsAnswer, AnswerAccepted, AnswerStopped, refused_phase, halves_for, ids_after_halves}
 use Rattle.rtc_peer_core.specs.Calls.{raised, fitting_channels}
@@ -47,28 +48,32 @@ pub latest_raised : (latest : Bool) (counter number : ℕ) → latest ≡ (count
 latest_raised latest counter number is holds = grind (arith, is, holds)
 
 module _ {I D S M E X T W N : Type 0} (m : Meanings I D S M E X T W N) where
+  -- the peer whose token was handed in
+  abbrev pub cleared : Peer I D S M N → Peer I D S M N
+  cleared p = record p { outstanding = false }
+
   -- memory lacked, which leaves rows, channels and fingerprint wherever it stopped
   stopped_at : (p q : Peer I D S M N) (token : PendingOffer) (answer : Sdp) → p.counter ≡ raised token.id
-      → StopsAccepting m p (Some (asked_by p.lines token)) token.changes answer (staged_restart token.changes) None p.ids q
-      → q ≡ record p { ids = q.ids; ice = q.ice; dtls = q.dtls; sctp = q.sctp; media = q.media } → AnswerStopped m p token answer q
+      → StopsAccepting m (cleared p) (Some (asked_by p.lines token)) token.changes answer (staged_restart token.changes) None p.ids q
+      → q ≡ record (cleared p) { ids = q.ids; ice = q.ice; dtls = q.dtls; sctp = q.sctp; media = q.media } → AnswerStopped m p token answer q
   stopped_at p q token answer right stops rest = record { right = right; stops = stops; rest = rest }
 
   -- it lacked as the answer was judged
-  answer_unjudged : (p : Peer I D S M N) (token : PendingOffer) (answer : Sdp) → p.counter ≡ raised token.id → AnswerStopped m p token answer p
-  answer_unjudged p token answer right = stopped_at p p token answer right (AtVerdict refl) refl
+  answer_unjudged : (p : Peer I D S M N) (token : PendingOffer) (answer : Sdp) → p.counter ≡ raised token.id → AnswerStopped m p token answer (cleared p)
+  answer_unjudged p token answer right = stopped_at p (cleared p) token answer right (AtVerdict refl) refl
 
   -- it lacked as what the acceptance needs was prepared
   pub answer_unprepared : (p q : Peer I D S M N) (token : PendingOffer) (answer : Sdp) → p.counter ≡ raised token.id
-      → verdict (held_by (stance_of m p)) (Some (asked_by p.lines token)) answer ≡ None → StopsPreparing m p false token.says_init token.changes answer p.ids q
+      → verdict (held_by (stance_of m p)) (Some (asked_by p.lines token)) answer ≡ None → StopsPreparing m (cleared p) false token.says_init token.changes answer p.ids q
       → AnswerStopped m p token answer q
   answer_unprepared p q token answer right passes stops =
       stopped_at p q token answer right (AtPreparing passes stops)
-      (ap (λ (x : Peer I D S M N). record x { ice = q.ice; dtls = q.dtls; sctp = q.sctp }) (preparing_rest m p false token.says_init token.changes answer p.ids q stops))
+      (ap (λ (x : Peer I D S M N). record x { ice = q.ice; dtls = q.dtls; sctp = q.sctp }) (preparing_rest m (cleared p) false token.says_init token.changes answer p.ids q stops))
 
   -- the answer is refused as it is judged
   judged : (p : Peer I D S M N) (token : PendingOffer) (answer : Sdp) (refusal : Refusal) → p.counter ≡ raised token.id
       → PlansSdp (held_by (stance_of m p)) (Some (asked_by p.lines token)) answer (Err refusal)
-      → AcceptsAnswer m p token answer (Err (error_of_refusal refusal)) (record p { phase = refused_phase refusal p.phase })
+      → AcceptsAnswer m p token answer (Err (error_of_refusal refusal)) (record (cleared p) { phase = refused_phase refusal p.phase })
   judged p token answer (RefusedSdp why) right plans = (right, (plans, refl))
   judged p token answer (RefusedText SdpAlloc) right plans = answer_unjudged p token answer right
   judged p token answer (RefusedText (Parse line)) right plans = (right, (plans, refl))
@@ -77,7 +82,7 @@ module _ {I D S M E X T W N : Type 0} (m : Meanings I D S M E X T W N) where
 
   pub answer_refused : (p q : Peer I D S M N) (token : PendingOffer) (answer : Sdp) (refusal : Refusal) (error : RtcError) → p.counter ≡ raised token.id
       → PlansSdp (held_by (stance_of m p)) (Some (asked_by p.lines token)) answer (Err refusal) → error ≡ error_of_refusal refusal
-      → q ≡ record p { phase = refused_phase refusal p.phase } → AcceptsAnswer m p token answer (Err error) q
+      → q ≡ record (cleared p) { phase = refused_phase refusal p.phase } → AcceptsAnswer m p token answer (Err error) q
   answer_refused p q token answer refusal error right plans error_is rest =
       subst (λ (e : RtcError). AcceptsAnswer m p token answer (Err e) q) (sym error_is)
       (subst (λ (x : Peer I D S M N). AcceptsAnswer m p token answer (Err (error_of_refusal refusal)) x) (sym rest) (judged p token answer refusal right plans))
@@ -96,7 +101,7 @@ module _ {I D S M E X T W N : Type 0} (m : Meanings I D S M E X T W N) where
 
   -- what is made ready leaves the parts that follow it
   pub answer_moves : (p q : Peer I D S M N) (may : Bool) (changes : List Change) (answer : Sdp) (growth : Growth) (rows : List LineRow) (r : Result (Unit {0}) RtcError) (ice : I)
-      (dtls : DtlsState D) (sctp : SctpStreams S) → GrowsAnswer m p may changes answer (Ok growth) q → rows ≡ table_after p.lines (parsed_lines answer) false
+      (dtls : DtlsState D) (sctp : SctpStreams S) → GrowsAnswer m (cleared p) may changes answer (Ok growth) q → rows ≡ table_after p.lines (parsed_lines answer) false
       → MovesParts m.ice m.dtls m.association q.ice q.dtls q.sctp growth.following growth.starting answer rows q.greatest r ice dtls sctp
       → AnswerMoves p may changes answer r ice dtls sctp
   answer_moves p q may changes answer growth rows r ice dtls sctp grown rows_are moves =
@@ -107,7 +112,8 @@ module _ {I D S M E X T W N : Type 0} (m : Meanings I D S M E X T W N) where
 
   -- the peer once parts have moved
   moved : (p q : Peer I D S M N) (may : Bool) (changes : List Change) (answer : Sdp) (growth : Growth) (ice : I) (dtls : DtlsState D) (sctp : SctpStreams S)
-      → GrowsAnswer m p may changes answer (Ok growth) q → record q { ice = ice; dtls = dtls; sctp = sctp } ≡ record p {
+      → GrowsAnswer m (cleared p) may changes answer (Ok growth) q → record q { ice = ice; dtls = dtls; sctp = sctp } ≡ record p {
+        outstanding = false;
         ids = ids_after_halves m p false may changes answer p.ids;
         ice = ice;
         dtls = dtls;
@@ -118,7 +124,7 @@ module _ {I D S M E X T W N : Type 0} (m : Meanings I D S M E X T W N) where
 
   -- a part failed, or memory lacked
   fails_by : (p q : Peer I D S M N) (token : PendingOffer) (answer : Sdp) (growth : Growth) (error : RtcError) (ice : I) (dtls : DtlsState D)
-      (sctp : SctpStreams S) → p.counter ≡ raised token.id → GrowsAnswer m p token.says_init token.changes answer (Ok growth) q
+      (sctp : SctpStreams S) → p.counter ≡ raised token.id → GrowsAnswer m (cleared p) token.says_init token.changes answer (Ok growth) q
       → verdict (held_by (stance_of m p)) (Some (asked_by p.lines token)) answer ≡ None → AnswerMoves p token.says_init token.changes answer (Err error) ice dtls sctp
       → AcceptsAnswer m p token answer (Err error) (record q { ice = ice; dtls = dtls; sctp = sctp })
   fails_by p q token answer growth (Dtls Fault) ice dtls sctp right grown passes moves = record {
@@ -128,6 +134,7 @@ module _ {I D S M E X T W N : Type 0} (m : Meanings I D S M E X T W N) where
     dtls_fails = moves.1;
     media_prepared = grown.1;
     rest = moved p q token.says_init token.changes answer growth ice dtls sctp grown ∙ ap (λ (s : SctpStreams S). record p {
+      outstanding = false;
       ids = ids_after_halves m p false token.says_init token.changes answer p.ids;
       ice = ice;
       dtls = dtls;
@@ -159,9 +166,10 @@ module _ {I D S M E X T W N : Type 0} (m : Meanings I D S M E X T W N) where
   fails_by p q token answer growth (Net cause) ice dtls sctp right grown passes moves = absurd moves
   fails_by p q token answer growth (MediaFailed cause) ice dtls sctp right grown passes moves = absurd moves
   fails_by p q token answer growth BadChannel ice dtls sctp right grown passes moves = absurd moves
+  fails_by p q token answer growth Glare ice dtls sctp right grown passes moves = absurd moves
 
   pub answer_fails : (p q r : Peer I D S M N) (token : PendingOffer) (answer : Sdp) (growth : Growth) (error : RtcError) → p.counter ≡ raised token.id
-      → GrowsAnswer m p token.says_init token.changes answer (Ok growth) q
+      → GrowsAnswer m (cleared p) token.says_init token.changes answer (Ok growth) q
       → verdict (held_by (stance_of m p)) (Some (asked_by p.lines token)) answer ≡ None
       → AnswerMoves p token.says_init token.changes answer (Err error) r.ice r.dtls r.sctp
       → r ≡ record q { ice = r.ice; dtls = r.dtls; sctp = r.sctp } → AcceptsAnswer m p token answer (Err error) r
@@ -171,7 +179,7 @@ module _ {I D S M E X T W N : Type 0} (m : Meanings I D S M E X T W N) where
 
   -- the answer is accepted
   accepted_by : (p q : Peer I D S M N) (token : PendingOffer) (answer : Sdp) (growth : Growth) (ice : I) (dtls : DtlsState D) (sctp : SctpStreams S) (media : M)
-      (lines : List LineRow) (channels : Channels) → p.counter ≡ raised token.id → GrowsAnswer m p token.says_init token.changes answer (Ok growth) q
+      (lines : List LineRow) (channels : Channels) → p.counter ≡ raised token.id → GrowsAnswer m (cleared p) token.says_init token.changes answer (Ok growth) q
       → verdict (held_by (stance_of m p)) (Some (asked_by p.lines token)) answer ≡ None → AnswerMoves p token.says_init token.changes answer (Ok tt) ice dtls sctp
       → m.media.committed q.media media → lines ≡ table_after p.lines (parsed_lines answer) false → channels ≡ all_confirmed (fitting_channels token.changes) q.channels
       → AnswerAccepted m p token answer
@@ -199,7 +207,7 @@ module _ {I D S M E X T W N : Type 0} (m : Meanings I D S M E X T W N) where
       }
 
   pub answer_accepted : (p q r : Peer I D S M N) (token : PendingOffer) (answer : Sdp) (growth : Growth) (media : M) (lines : List LineRow) (channels : Channels)
-      → p.counter ≡ raised token.id → GrowsAnswer m p token.says_init token.changes answer (Ok growth) q
+      → p.counter ≡ raised token.id → GrowsAnswer m (cleared p) token.says_init token.changes answer (Ok growth) q
       → verdict (held_by (stance_of m p)) (Some (asked_by p.lines token)) answer ≡ None
       → AnswerMoves p token.says_init token.changes answer (Ok tt) r.ice r.dtls r.sctp → r ≡ record q { ice = r.ice; dtls = r.dtls; sctp = r.sctp }
       → m.media.committed r.media media → lines ≡ table_after p.lines (parsed_lines answer) false

@@ -24,6 +24,7 @@ use Rattle.rtc_peer_core.specs.declared.rtc_error.RtcError.TheVariants.{
   ChangesOutOfOrder,
   BadChannel,
   Alloc,
+  Glare,
 }
 use Rattle.rtc_peer_core.specs.MadeSdp.{role_for, role_after}
 use Rattle.rtc_peer_core.specs.PartMoves.{FollowsSdp, StartsDtls, StartsSctp, StopsMoving, remote_limit}
@@ -69,3 +70,4 @@ module _ {I D S : Type 0} (ice : IceMeaning I) (dtls : DtlsMeaning D) (associati
   MovesParts i d s following starting sdp rows now (Err (Net cause)) j e t = ⊥
   MovesParts i d s following starting sdp rows now (Err (MediaFailed cause)) j e t = ⊥
   MovesParts i d s following starting sdp rows now (Err BadChannel) j e t = ⊥
+  MovesParts i d s following starting sdp rows now (Err Glare) j e t = ⊥

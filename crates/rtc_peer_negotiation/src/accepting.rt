@@ -1,10 +1,11 @@
 //! Offers and answers of the other side.
-ghost use Rattle.std.specs.Prelude.{◌≡◌, ◌==◌, ◌≤◌, length, is_some, IfOk, None, Some, option_map, string_bytes};
+ghost use Rattle.std.specs.Prelude.{◌≡◌, ◌==◌, ◌≤◌, false, length, is_some, IfOk, None, Some, option_map, string_bytes};
 ghost use Rattle.std.specs.Option.{option_copied};
 ghost use Rattle.rtc_change.specs.Plans.{PlansSdp, asked_by};
 ghost use Rattle.rtc_peer_rows.specs.Table.{IsTable};
 ghost use Rattle.rtc_peer_core.specs.Acceptances.{AcceptsOffer, AcceptsAnswer, phase_after, refused_phase};
 ghost use Rattle.rtc_peer_core.specs.Calls.{raised};
+ghost use Rattle.rtc_peer_core.specs.Glare.{meets_glare};
 ghost use Rattle.rtc_peer_core.specs.Meanings.{meanings};
 ghost use Rattle.rtc_peer_core.specs.RtcErrors.{error_of_refusal};
 ghost use Rattle.rtc_peer_core.specs.Stance.{stance_of, held_by, kept_init as KeptInit};
@@ -154,14 +155,26 @@ fn refuse<I: IceAgent, D: DtlsInstance, S: Association, M: MediaSession, N: Ids>
     refusal_error(&mut peer.phase, refusal)
 }
 
+// Whether a peer of this role refuses any offer, given whether an offer of its own still awaits its answer.
+fn is_in_glare(polite: Option<bool>, outstanding: bool) -> bool
+    ensures { result ≡ meets_glare polite outstanding }
+{
+    match polite {
+        Some(polite) => !polite && outstanding,
+        None => false,
+    }
+}
+
 // Accepts an offer that the caller keeps, so that no way out drops it.
 fn accept_lent_offer<I: IceAgent, D: DtlsInstance, S: Association, M: MediaSession, N: Ids>(
     peer: &mut Peer<I, D, S, M, N>,
     offer: &Sdp,
 ) -> Result<Sdp, RtcError>
+    requires { meets_glare peer.old.polite peer.old.outstanding ≡ false }
     ensures { AcceptsOffer (meanings I.ice D.dtls S.association M.media N.ids) peer.old offer.now result peer.new }
 {
     peer.counter = peer.counter.wrapping_add(1);
+    peer.outstanding = false;
     let plan = match judge_offer(peer, offer) {
         Ok(plan) => plan,
         Err(refusal) => return Err(refuse(peer, refusal)),
@@ -193,8 +206,8 @@ fn accept_lent_offer<I: IceAgent, D: DtlsInstance, S: Association, M: MediaSessi
     Ok(answer)
 }
 
-// Whether a token is that of the latest offer, made or given.
-fn is_latest(counter: u64, token: &SdpPendingOffer) -> bool
+/// Whether a token is that of the latest offer, made or given.
+pub fn is_latest(counter: u64, token: &SdpPendingOffer) -> bool
     ensures { result ≡ (counter == raised token.now.id) }
 {
     counter == token.change_id().wrapping_add(1)
@@ -211,6 +224,7 @@ fn follow_answer<I: IceAgent, D: DtlsInstance, S: Association, M: MediaSession, 
     if !is_latest(peer.counter, token) {
         return Err(RtcError::ChangesOutOfOrder);
     }
+    peer.outstanding = false;
     let plan = match judge_answer(peer, token, answer) {
         Ok(plan) => plan,
         Err(refusal) => return Err(refuse(peer, refusal)),
@@ -241,13 +255,17 @@ fn follow_answer<I: IceAgent, D: DtlsInstance, S: Association, M: MediaSession, 
     Ok(())
 }
 
-/// Accepts an offer, and answers it; the token of an own offer is superseded, also where the offer is refused.
+/// Accepts an offer, and answers it; the token of an own offer is superseded, also where the offer is refused, but for glare.
 pub fn accept_offer<I: IceAgent, D: DtlsInstance, S: Association, M: MediaSession, N: Ids>(
     peer: &mut Peer<I, D, S, M, N>,
     offer: Sdp,
 ) -> Result<Sdp, RtcError>
     ensures { AcceptsOffer (meanings I.ice D.dtls S.association M.media N.ids) peer.old offer result peer.new }
 {
+    if is_in_glare(peer.polite, peer.outstanding) {
+        drop(offer);
+        return Err(RtcError::Glare);
+    }
     let answer = accept_lent_offer(peer, &offer);
     drop(offer);
     answer

@@ -55,6 +55,7 @@ fn apply_channels<I, D, S, M, N>(peer: &mut Peer<I, D, S, M, N>)
     let changes = peer.staged.take(peer.alloc);
     confirm_channels(&mut peer.channels, changes);
     peer.counter = peer.counter.wrapping_add(1);
+    peer.outstanding = false;
 }
 
 // What the offer of a peer tells of it.
@@ -194,7 +195,10 @@ pub fn apply_staged<I: IceAgent, D: DtlsInstance, S: Association, M: MediaSessio
     take_control(&mut peer.ice, control);
     let id = peer.counter;
     let changes = peer.staged.take(peer.alloc);
+    let undo = peer.undo.take(peer.alloc);
     peer.counter = id.wrapping_add(1);
+    peer.outstanding = true;
     let says_init = offer.sctp_init().is_some();
-    Ok(Some((offer, SdpPendingOffer::new(id, changes, says_init))))
+    let token = SdpPendingOffer::new(id, changes, says_init, undo);
+    Ok(Some((offer, token)))
 }

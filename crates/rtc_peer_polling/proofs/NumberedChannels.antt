@@ -1,6 +1,5 @@
 -- How channels keep their numbers, and how one more is given.
-use Rattle.std.proofs.Common.{◌≡◌, ◌∙◌, ◌<◌, ◌≤◌, ◌+◌, ◌++◌, ◌==◌, ℕ, Bool, true, false, cond, List, [], ◌∷◌, length, map, take}
-use Rattle.std.proofs.Common.{Option, Some, None, Result, Ok, Err, refl, sym, ap, subst, arith}
+use Rattle.std.proofs.Common.{◌≡◌, ◌∙◌, ◌<◌, ◌≤◌, ◌+◌, ◌++◌, ◌==◌, ℕ, Bool, true, false, cond, List, [], ◌∷◌, length, map, take, Option, Some, None, Result, Ok, Err, refl, sym, ap, subst, arith}
 use Rattle.std.specs.declared.alloc.AllocError.{AllocError}
 use Rattle.std.proofs.lemmas.List.{length-append}
 use Rattle.rtc_wire.specs.declared.channel_config.ChannelConfig.{ChannelConfig}
@@ -15,15 +14,16 @@ use Rattle.rtc_channels.specs.Openings.{OpensChannel, OpensAll, Following, Progr
 use Rattle.rtc_channels.proofs.KeptLemmas.{below_more, below_one_more, rising_more}
 use Rattle.rtc_channels.proofs.GivenLemmas.{below_given, below_without, rising_given, rising_without}
 use Rattle.rtc_channels.proofs.OpeningLemmas.{below_opened}
-use Rattle.rtc_peer_polling.specs.Numbers.{ChannelNumbers}
+use Rattle.rtc_peer_polling.specs.Numbers.{ChannelNumbers, AreUnconfirmed}
 use Rattle.rtc_peer_polling.specs.StreamStages.{channel_over}
 
--- no number was given, no row is new, and rows that rise still do
+-- no number was given, no row is new, no channel was confirmed, and rows that rise still do
 pub record Stays (held held' : Channels) : Type 0 where
   pub given : held'.given ≡ held.given
   pub rows : length held'.rows ≤ length held.rows
   pub below : (n : ℕ) → AreBelow n held.rows → AreBelow n held'.rows
   pub rising : (n : ℕ) → AreRising n held.rows → AreRising n held'.rows
+  pub unconfirmed : (n : ℕ) → AreUnconfirmed n held.rows → AreUnconfirmed n held'.rows
 
 pub stays_same : (held held' : Channels) → held' ≡ held → Stays held held'
 stays_same held held' same = record {
@@ -31,6 +31,7 @@ stays_same held held' same = record {
   rows = omega (arith, ap (λ (h : Channels). length h.rows) same);
   below = λ n below. subst (λ (h : Channels). AreBelow n h.rows) (sym same) below;
   rising = λ n rising. subst (λ (h : Channels). AreRising n h.rows) (sym same) rising;
+  unconfirmed = λ n none. subst (λ (h : Channels). AreUnconfirmed n h.rows) (sym same) none;
 }
 
 pub stays_self : (held : Channels) → Stays held held
@@ -42,20 +43,21 @@ stays_on a b c first rest = record {
   rows = omega (arith, first.rows, rest.rows);
   below = λ n below. rest.below n (first.below n below);
   rising = λ n rising. rest.rising n (first.rising n rising);
+  unconfirmed = λ n none. rest.unconfirmed n (first.unconfirmed n none);
 }
 
 -- with these rows, and whatever is held
 pub stays_rows : (held : Channels) (rows : List Channel) (holds : List ℕ) → length rows ≤ length held.rows
     → ((n : ℕ) → AreBelow n held.rows → AreBelow n rows) → ((n : ℕ) → AreRising n held.rows → AreRising n rows)
-    → Stays held (record held { rows = rows; holds = holds })
-stays_rows held rows holds few below rising = record { given = refl; rows = few; below = below; rising = rising }
+    → ((n : ℕ) → AreUnconfirmed n held.rows → AreUnconfirmed n rows) → Stays held (record held { rows = rows; holds = holds })
+stays_rows held rows holds few below rising unconfirmed =
+    record { given = refl; rows = few; below = below; rising = rising; unconfirmed = unconfirmed }
 
 -- what a call does that told this number
 abbrev pub NumbersWhen : Option ℕ → Channels → Channels → Type 0
 NumbersWhen None held held' = Stays held held'
 NumbersWhen (Some id) held held' = ChannelNumbers (Some id) held held'
 
--- bounds after the channels stayed
 below_stays : (a b : Channels) → Stays a b → AreBelow a.given a.rows → AreBelow b.given b.rows
 below_stays a b stays below = subst (λ n. AreBelow n b.rows) (sym stays.given) (stays.below a.given below)
 
@@ -70,6 +72,7 @@ numbers_on (Some id) a b c first rest = record {
   below = λ below. rest.below (below_stays a b first below);
   rising = λ below rising. rest.rising (below_stays a b first below) (first.rising 0 rising);
   told_below = λ below other told. rest.told_below (below_stays a b first below) other told;
+  unconfirmed = λ n none. rest.unconfirmed n (first.unconfirmed n none);
 }
 
 pub numbers_of : (told : Option ℕ) (a b : Channels) → NumbersWhen told a b → ChannelNumbers told a b
@@ -82,10 +85,9 @@ numbers_of None a b stays = record {
   below = λ below. below_stays a b stays below;
   rising = λ below rising. stays.rising 0 rising;
   told_below = λ below id told. cc (told);
+  unconfirmed = stays.unconfirmed;
 }
 numbers_of (Some id) a b numbers = numbers
-
--- ---- a channel that goes
 
 length_without : (id : ℕ) (rows : List Channel) → length (channels_without id rows) ≤ length rows
 length_without id [] = omega arith
@@ -96,10 +98,18 @@ length_without id (channel ∷ rest) = by (has_id id channel) (length_without id
     by true few = omega arith
     by false few = omega (arith, few)
 
+pub unconfirmed_without : (n id : ℕ) (rows : List Channel) → AreUnconfirmed n rows → AreUnconfirmed n (channels_without id rows)
+unconfirmed_without n id [] none = tt
+unconfirmed_without n id (channel ∷ rest) none = by (has_id id channel) (unconfirmed_without n id rest none.1)
+  where
+    by : (here : Bool) → AreUnconfirmed n (channels_without id rest) → AreUnconfirmed n (cond here rest (channel ∷ channels_without id rest))
+    by true others = none.1
+    by false others = (none.0, others)
+
 pub stays_removed : (id : ℕ) (pending : Bool) (held : Channels) → Stays held (removed_channel id pending held)
 stays_removed id pending held =
     stays_rows held (channels_without id held.rows) _ (length_without id held.rows) (λ n below. below_without n id held.rows below)
-    (λ n rising. rising_without n id held.rows rising)
+    (λ n rising. rising_without n id held.rows rising) (λ n none. unconfirmed_without n id held.rows none)
 
 -- ---- channels that are given streams, and opened
 
@@ -112,11 +122,21 @@ length_given id stream (channel ∷ rest) = by (has_id id channel) (length_given
     by true few = omega arith
     by false few = omega (arith, few)
 
+unconfirmed_given : (n id stream : ℕ) (rows : List Channel) → AreUnconfirmed n rows → AreUnconfirmed n (rows_given id stream rows)
+unconfirmed_given n id stream [] none = tt
+unconfirmed_given n id stream (channel ∷ rest) none = by (has_id id channel) (unconfirmed_given n id stream rest none.1)
+  where
+    by : (here : Bool) → AreUnconfirmed n (rows_given id stream rest)
+        → AreUnconfirmed n (cond here (record channel { stream = Some stream } ∷ rest) (channel ∷ rows_given id stream rest))
+    by true others = none
+    by false others = (none.0, others)
+
 stays_given : (id : ℕ) (stream : Option ℕ) (held : Channels) → Stays held (stream_given id stream held)
 stays_given id None held = stays_self held
 stays_given id (Some stream) held =
     stays_rows held (rows_given id stream held.rows) held.holds (length_given id stream held.rows)
     (λ n below. below_given n id stream held.rows below) (λ n rising. rising_given n id stream held.rows rising)
+    (λ n none. unconfirmed_given n id stream held.rows none)
 
 stays_allocated : (parity : ℕ) (rows : List Channel) (held : Channels) → Stays held (all_allocated parity rows held)
 stays_allocated parity [] held = stays_self held
@@ -143,6 +163,15 @@ rising_opened : (least id : ℕ) (rows : List Channel) → AreRising least rows 
 rising_opened least id [] rising = tt
 rising_opened least id (channel ∷ rest) rising = grind (arith, rising_opened (channel.id + 1) id rest rising.1)
 
+unconfirmed_opened : (n id : ℕ) (rows : List Channel) → AreUnconfirmed n rows → AreUnconfirmed n (rows_opened id rows)
+unconfirmed_opened n id [] none = tt
+unconfirmed_opened n id (channel ∷ rest) none = by (has_id id channel) (unconfirmed_opened n id rest none.1)
+  where
+    by : (here : Bool) → AreUnconfirmed n (rows_opened id rest)
+        → AreUnconfirmed n (cond here (record channel { config = None } ∷ rest) (channel ∷ rows_opened id rest))
+    by true others = none
+    by false others = (none.0, others)
+
 module _ {S : Type 0} (m : AssociationMeaning S) where
   opens_stays : (stream : Option ℕ) (config : Option ChannelConfig) (id : ℕ) (held : Channels) (p : SctpStreams S)
       (r : Result (Unit {0}) AllocError) (held' : Channels) (p' : SctpStreams S) → OpensChannel m stream config id held p r held' p'
@@ -150,7 +179,7 @@ module _ {S : Type 0} (m : AssociationMeaning S) where
   opens_stays (Some stream) (Some config) id held p r held' p' h =
       subst (Stays held) (sym h.1)
       (stays_rows held (rows_opened id held.rows) held.holds (length_opened id held.rows) (λ n below. below_opened n id held.rows below)
-      (λ n rising. rising_opened n id held.rows rising))
+      (λ n rising. rising_opened n id held.rows rising) (λ n none. unconfirmed_opened n id held.rows none))
   opens_stays (Some stream) None id held p r held' p' h = stays_same held held' h.1
   opens_stays None config id held p r held' p' h = stays_same held held' h.1
 
@@ -219,6 +248,11 @@ below_opened_by stream held below =
     below_one_more (held.given + 1) held.rows (opened_by_other held.given stream)
     (below_more held.given (held.given + 1) held.rows below (omega arith)) (omega arith)
 
+pub unconfirmed_more : (n : ℕ) (rows : List Channel) (channel : Channel) → channel.confirmed ≡ false → AreUnconfirmed n rows
+    → AreUnconfirmed n (rows ++ channel ∷ [])
+unconfirmed_more n [] channel fresh none = (λ here. fresh, tt)
+unconfirmed_more n (first ∷ rows) channel fresh none = (none.0, unconfirmed_more n rows channel fresh none.1)
+
 -- a stream that is open has a channel: the number told is its own
 pub opened_numbers : (stream id : ℕ) (held : Channels) → channel_over stream (channel_ensured stream held) ≡ Some id
     → ChannelNumbers (Some id) held (channel_ensured stream held)
@@ -236,6 +270,7 @@ opened_numbers stream id held found = by (is_ensured stream held) found
       rising = λ below rising. rising;
       told_below = λ below other told.
           let same : id ≡ other = cc (told) in subst (λ k. k < held.given) same (found_below held.given stream id held.rows is below);
+      unconfirmed = λ n none. none;
     }
     by false is = record {
       rises = omega arith;
@@ -249,6 +284,7 @@ opened_numbers stream id held found = by (is_ensured stream held) found
           let same : id ≡ other = cc (told) in
           subst (λ k. k < held.given + 1) same
           (found_below (held.given + 1) stream id (with_opened stream held).rows is (below_opened_by stream held below));
+      unconfirmed = λ n none. unconfirmed_more n held.rows (opened_by_other held.given stream) refl none;
     }
 
 -- and where none is told, no number was left

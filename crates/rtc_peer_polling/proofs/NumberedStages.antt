@@ -153,7 +153,7 @@ module _ {I D S M E X T W N : Type 0} (m : Meanings I D S M E X T W N) where
 
   -- other holds are no numbers
   held_stays : (p : PolledPeer I D S M N) (holds : List ℕ) → PeerStays p (with_channels (record p.core.channels { holds = holds }) p)
-  held_stays p holds = stays_rows p.core.channels p.core.channels.rows holds (omega arith) (λ n below. below) (λ n rising. rising)
+  held_stays p holds = stays_rows p.core.channels p.core.channels.rows holds (omega arith) (λ n below. below) (λ n rising. rising) (λ n none. none)
 
   lost_numbered : Numbered (LosesAssociation m)
   unfolding LosesAssociation

@@ -1,6 +1,6 @@
 -- What polls, inputs and closing do to the numbers of the channels (RFC 8831, section 6.4).
-use Rattle.std.specs.Prelude.{ℕ, ◌≡◌, ◌+◌, ◌<◌, ◌≤◌, length, Option, Some, None, Result, Ok, Err}
-use Rattle.rtc_channels.specs.Channels.{Channels, AreBelow, AreRising}
+use Rattle.std.specs.Prelude.{ℕ, ◌≡◌, ◌+◌, ◌<◌, ◌≤◌, true, false, List, [], ◌∷◌, length, Option, Some, None, Result, Ok, Err}
+use Rattle.rtc_channels.specs.Channels.{Channel, Channels, AreBelow, AreRising, has_id}
 use Rattle.rtc_peer_core.specs.declared.rtc_error.RtcError.{RtcError}
 use Rattle.rtc_peer_transport.specs.declared.event.Event.{Event}
 use Rattle.rtc_peer_transport.specs.declared.event.Event.TheVariants.{ChannelOpen}
@@ -13,8 +13,13 @@ number_told (Ok (outputs.Event (ChannelOpen id label))) = Some id
 number_told (Ok output) = None
 number_told (Err error) = None
 
+-- no channel of a number was confirmed
+abbrev pub AreUnconfirmed : ℕ → List Channel → Type 0
+AreUnconfirmed id [] = Unit {0}
+AreUnconfirmed id (channel ∷ rest) = (has_id id channel ≡ true → channel.confirmed ≡ false) × AreUnconfirmed id rest
+
 -- The numbers of channels before and after a call that told this one. A number is given, and a row is new, where it is told, if at
--- all, and each number that is told was given. Rows whose numbers rise, each below those not given yet, stay so.
+-- all, and each number that is told was given. Rows whose numbers rise, each below those not given yet, stay so. No channel is confirmed.
 pub record ChannelNumbers (told : Option ℕ) (held held' : Channels) : Type 0 where
   pub rises : held.given ≤ held'.given
   pub unless_told : told ≡ None → held'.given ≡ held.given
@@ -24,3 +29,4 @@ pub record ChannelNumbers (told : Option ℕ) (held held' : Channels) : Type 0 w
   pub below : AreBelow held.given held.rows → AreBelow held'.given held'.rows
   pub rising : AreBelow held.given held.rows → AreRising 0 held.rows → AreRising 0 held'.rows
   pub told_below : AreBelow held.given held.rows → (id : ℕ) → told ≡ Some id → id < held'.given
+  pub unconfirmed : (id : ℕ) → AreUnconfirmed id held.rows → AreUnconfirmed id held'.rows

@@ -10,7 +10,7 @@ use Rattle.rtc_sdp_values.specs.declared.direction.Direction.{Direction}
 use Rattle.rtc_sdp_values.specs.declared.line_row.LineRow.{LineRow}
 use Rattle.rtc_sdp_values.specs.declared.line_row.LineRow.TheVariants.{Media, App}
 use Rattle.rtc_peer_rows.specs.Table.{Rising, Distinct, OneApp, NoMore, IsTable, is_of, has_mid, row_of, is_app}
-use Rattle.rtc_peer_rows.specs.RowChanges.{RowChange, directed_row, stopped_row, row_after_change, changed_at, changed_of}
+use Rattle.rtc_peer_rows.specs.RowChanges.{RowChange, directed_row, stopped_row, restored_row, row_after_change, changed_at, changed_of}
 use Rattle.rtc_peer_rows.proofs.TableLemmas.{place_from}
 
 -- a row keeps its place and its mid, and whether it is that of the data channels
@@ -97,6 +97,10 @@ pub stopped_row_keeps : KeepsRow stopped_row
 stopped_row_keeps (Media place mid kind dir true remote_created) = record { place = refl; mid = refl; app = refl }
 stopped_row_keeps (Media place mid kind dir false remote_created) = record { place = refl; mid = refl; app = refl }
 stopped_row_keeps (App place mid) = record { place = refl; mid = refl; app = refl }
+
+pub restored_row_keeps : (to : Direction) (mark : Bool) → KeepsRow (restored_row to mark)
+restored_row_keeps to mark (Media place mid kind dir stopped remote_created) = record { place = refl; mid = refl; app = refl }
+restored_row_keeps to mark (App place mid) = record { place = refl; mid = refl; app = refl }
 
 pub changed_at_alike : (change : RowChange) → KeepsRow change → (place : ℕ) (rows : List LineRow) → AreAlike rows (changed_at change place rows)
 changed_at_alike change keeps place [] = tt

@@ -52,3 +52,18 @@ abbrev pub media_mid : Option LineRow → Option (List ℕ)
 media_mid None = None
 media_mid (Some (Media place mid kind dir stopped remote_created)) = Some mid
 media_mid (Some (App place mid)) = None
+
+-- a media row with a direction and a mark of being stopped, whatever it had
+abbrev pub restored_row : Direction → (stopped : Bool) → RowChange
+restored_row to mark (Media place mid kind dir stopped remote_created) = Some (Media place mid kind to mark remote_created)
+restored_row to mark (App place mid) = None
+
+-- a stopped row is inactive
+abbrev pub dir_restored : Direction → (stopped : Bool) → Direction
+dir_restored dir true = Inactive
+dir_restored dir false = dir
+
+-- the rows where each of these that is still there has again the direction and the mark that it had (RFC 8829, section 5.7)
+abbrev pub all_restored : List (List ℕ × Direction × Bool) → List LineRow → List LineRow
+all_restored [] rows = rows
+all_restored (was ∷ more) rows = all_restored more (changed_of (restored_row (dir_restored was.1 was.2) was.2) was.0 rows)

@@ -3,14 +3,15 @@ ghost use Rattle.std.specs.Prelude.{◌≡◌, ◌<◌, ◌-◌, ◌^◌, [], le
 ghost use Rattle.std.specs.Prelude.{MatchOption, None, Some, is_some, option_map, IsTrue, IsFalse};
 ghost use Rattle.std.specs.Option.{option_copied};
 ghost use Rattle.rtc_sdp_values.specs.LineRow.{row_place, row_mid};
-ghost use Rattle.rtc_peer_rows.specs.RowChanges.{directed_row, stopped_row, is_changed, changed_of};
+ghost use Rattle.rtc_sdp_values.specs.declared.direction.Direction.TheVariants.{Inactive};
+ghost use Rattle.rtc_peer_rows.specs.RowChanges.{directed_row, stopped_row, restored_row, is_changed, changed_of};
 ghost use Rattle.rtc_peer_rows.specs.DeclaredMedia.{Declares, media_place, rows_without};
 ghost use Rattle.rtc_peer_rows.specs.Table.{IsTable, row_of, app_of, has_mid};
 
 use crate::Plan;
 use crate::judging::{find_app, find_media, has_row};
 use crate::mid_index::{find_positions, find_served};
-use crate::row_changes::{direct_row, stop_row};
+use crate::row_changes::{direct_row, restore_row, stop_row};
 use rtc_sdp_values::{Direction, LineRow, MediaKind, Mid};
 use std::alloc::{AllocError, Global};
 use std::collections::BTreeMap;
@@ -154,6 +155,30 @@ impl Lines {
         };
         self.rows[stopped_row.place() as usize] = stopped_row;
         true
+    }
+
+    /// Gives the media row of a mid a direction and a mark of being stopped, as it had them before an offer that is rolled back
+    /// (RFC 8829, section 5.7). Nothing is allocated, and nothing happens where there is no such row.
+    pub fn restore(&mut self, mid: Mid, dir: Direction, stopped: bool)
+        requires { IsTrue stopped → dir ≡ Inactive }
+        ensures rows { self.new ≡ changed_of (restored_row dir stopped) mid self.old }
+        ensures count { length self.new ≡ length self.old }
+    {
+        self.expect_look_up();
+        self.restore_found(mid, dir, stopped);
+    }
+
+    fn restore_found(&mut self, mid: Mid, dir: Direction, stopped: bool)
+        ensures rows { self.new ≡ changed_of (restored_row dir stopped) mid self.old }
+        ensures count { length self.new ≡ length self.old }
+    {
+        let Some(row) = find_served(&self.positions, self.rows.as_slice(), mid) else {
+            return;
+        };
+        let Some(restored_row) = restore_row(row, dir, stopped) else {
+            return;
+        };
+        self.rows[restored_row.place() as usize] = restored_row;
     }
 
     /// Declares a media line behind the others: it sends and receives, and was created here.

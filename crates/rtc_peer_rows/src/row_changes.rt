@@ -1,6 +1,6 @@
 //! Rows whose direction is set, or that are stopped.
 ghost use Rattle.std.specs.Prelude.{◌≡◌, Option, Some, None, is_some};
-ghost use Rattle.rtc_peer_rows.specs.RowChanges.{directed_row, stopped_row};
+ghost use Rattle.rtc_peer_rows.specs.RowChanges.{directed_row, stopped_row, restored_row};
 
 use rtc_sdp_values::{Direction, LineRow};
 
@@ -60,6 +60,29 @@ pub fn stop_row(row: &LineRow) -> Option<LineRow>
                 })
             }
         }
+        LineRow::App { .. } => None,
+    }
+}
+
+/// The media row with a direction and a mark of being stopped; None where it carries no media.
+pub fn restore_row(row: &LineRow, to: Direction, mark: bool) -> Option<LineRow>
+    ensures { result ≡ restored_row to mark row.now }
+{
+    match row {
+        LineRow::Media {
+            place,
+            mid,
+            kind,
+            remote_created,
+            ..
+        } => Some(LineRow::Media {
+            place: *place,
+            mid: *mid,
+            kind: *kind,
+            dir: to,
+            stopped: mark,
+            remote_created: *remote_created,
+        }),
         LineRow::App { .. } => None,
     }
 }

@@ -79,7 +79,7 @@ pub record BuildSteps {I D S M E X T W N : Type 0} (m : Meanings I D S M E X T W
 
 pub peer_built : {I D S M E X T W N : Type 0} (m : Meanings I D S M E X T W N) (alloc : Global) (config : PeerConfig) (start : ℕ) (ice : I) (dtls : D) (association : S) (media : M)
     (ids : N) (timed lite_set ready : I) (versioned : D) (begun : DtlsState D) (sctp : SctpStreams S) (set : M) (p : Peer I D S M N)
-    → p ≡ empty_peer alloc (config_formats config) (m.ids.drawn ids) start ready begun sctp set (cert_drawn m.ids config ids)
+    → p ≡ empty_peer alloc (config_formats config) config.polite (m.ids.drawn ids) start ready begun sctp set (cert_drawn m.ids config ids)
     → BuildSteps m config start ice dtls association media ids timed lite_set ready versioned begun sctp set
     → Builds m alloc config start ice dtls association media ids p
 peer_built {I} {D} {S} {M} {E} {X} {T} {W} {N} m alloc config start ice dtls association media ids timed lite_set ready versioned begun sctp set p is h =

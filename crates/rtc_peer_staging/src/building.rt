@@ -15,7 +15,7 @@ use rtc_part_dtls::{Dtls, DtlsInstance};
 use rtc_part_ice::IceAgent;
 use rtc_part_media::MediaSession;
 use rtc_part_values::Ids;
-use rtc_peer_core::{Formats, Peer, Phase, Staged};
+use rtc_peer_core::{Formats, Peer, Phase, Staged, Undo};
 use rtc_peer_draws::make_creds;
 use rtc_sctp::RtcSctp;
 use rtc_sdp_values::IceCreds;
@@ -153,6 +153,7 @@ fn take_formats(config: RtcConfig) -> Formats
 fn empty_peer<I, D, S, M, N>(
     alloc: Global,
     formats: Formats,
+    polite: Option<bool>,
     session_id: u64,
     start: Moment,
     ice: I,
@@ -161,15 +162,18 @@ fn empty_peer<I, D, S, M, N>(
     media: M,
     ids: N,
 ) -> Peer<I, D, S, M, N>
-    ensures { result ≡ EmptyPeer alloc formats session_id start ice dtls sctp media ids }
+    ensures { result ≡ EmptyPeer alloc formats polite session_id start ice dtls sctp media ids }
 {
     Peer {
         alloc,
         formats,
         lines: Lines::new(alloc),
         staged: Staged::new(alloc),
+        undo: Undo::new(alloc),
         channels: ChannelHandler::new(alloc),
         counter: 0,
+        outstanding: false,
+        polite,
         session_id,
         phase: Phase::Alive,
         fingerprint: None,
@@ -219,8 +223,9 @@ pub fn build_peer<
     ice.set_local_credentials(creds);
     media.configure(config.media_settings());
     let sctp = make_streams(alloc, &config, start, association);
+    let polite = config.polite();
     let formats = take_formats(config);
     Ok(empty_peer(
-        alloc, formats, session_id, start, ice, dtls, sctp, media, ids,
+        alloc, formats, polite, session_id, start, ice, dtls, sctp, media, ids,
     ))
 }

@@ -1,11 +1,13 @@
 //! Lines whose direction is set, or that are stopped.
-ghost use Rattle.std.specs.Prelude.{◌≡◌};
+ghost use Rattle.std.specs.Prelude.{◌≡◌, ◌++◌, ◌∷◌, [], not, IfOk, OnOk, OnErr};
+ghost use Rattle.rtc_change.specs.declared.change.Change.TheVariants.{Direction as DirectionSet};
 ghost use Rattle.rtc_peer_rows.specs.RowChanges.{directed_row, stopped_row, is_changed};
 ghost use Rattle.rtc_peer_rows.specs.Table.{row_of};
-ghost use Rattle.rtc_peer_core.specs.Calls.{SetsDirection, StopsMedia};
+ghost use Rattle.rtc_peer_core.specs.Calls.{SetsDirection, StopsMedia, noted_of};
+ghost use Rattle.rtc_peer_core.specs.Undo.{has_undo_of};
 
 use rtc_change::{Lines, direct_row, stop_row};
-use rtc_peer_core::Peer;
+use rtc_peer_core::{Peer, Staged, Undo};
 use rtc_sdp_values::{Direction, Mid};
 use std::alloc::AllocError;
 
@@ -29,6 +31,43 @@ fn can_stop(lines: &Lines, mid: Mid) -> bool
     }
 }
 
+// Notes the row of a mid as it is, and answers whether it was not noted before.
+fn note_row(undo: &mut Undo, lines: &Lines, mid: Mid) -> Result<bool, AllocError>
+    ensures ok { OnOk result (undo.new ≡ noted_of (row_of lines.now mid) undo.old) }
+    ensures added { IfOk result (λ added. added ≡ not (has_undo_of (row_of lines.now mid) undo.old)) }
+    ensures err { OnErr result (undo.new ≡ undo.old) }
+{
+    match lines.find(mid) {
+        Some(row) => undo.note(row),
+        None => Ok(false),
+    }
+}
+
+// Stages the direction that the line of a mid is to have, and notes its row as it was. Both or none.
+fn stage_direction(
+    staged: &mut Staged,
+    undo: &mut Undo,
+    lines: &Lines,
+    mid: Mid,
+    dir: Direction,
+) -> Result<(), AllocError>
+    ensures staged { OnOk result (staged.new ≡ staged.old ++ DirectionSet mid dir ∷ []) }
+    ensures noted { OnOk result (undo.new ≡ noted_of (row_of lines.now mid) undo.old) }
+    ensures unstaged { OnErr result (staged.new ≡ staged.old) }
+    ensures unnoted { OnErr result (undo.new ≡ undo.old) }
+{
+    let is_new = note_row(undo, lines, mid)?;
+    match staged.push_direction(mid, dir) {
+        Ok(()) => Ok(()),
+        Err(error) => {
+            if is_new {
+                undo.forget_last();
+            }
+            Err(error)
+        }
+    }
+}
+
 /// Sets the direction of the live media line of a mid, and stages it; answers whether the line changed.
 pub fn set_direction<I, D, S, M, N>(
     peer: &mut Peer<I, D, S, M, N>,
@@ -41,7 +80,7 @@ pub fn set_direction<I, D, S, M, N>(
     if !can_direct(&peer.lines, mid, dir) {
         return Ok(false);
     }
-    peer.staged.push_direction(mid, dir)?;
+    stage_direction(&mut peer.staged, &mut peer.undo, &peer.lines, mid, dir)?;
     peer.lines.set_direction(mid, dir);
     Ok(true)
 }
@@ -57,7 +96,13 @@ pub fn stop_media<I, D, S, M, N>(
     if !can_stop(&peer.lines, mid) {
         return Ok(false);
     }
-    peer.staged.push_direction(mid, Direction::Inactive)?;
+    stage_direction(
+        &mut peer.staged,
+        &mut peer.undo,
+        &peer.lines,
+        mid,
+        Direction::Inactive,
+    )?;
     peer.lines.stop(mid);
     Ok(true)
 }

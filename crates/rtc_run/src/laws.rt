@@ -1,13 +1,17 @@
 //! Laws of sound replies, and of runs.
 ghost use Rattle.rtc_peer_core.specs.Meanings.{meanings};
 ghost use Rattle.rtc_run.specs.Completeness.{FaultlessAnswersPass, FaultlessOffersPass, FaultsAreCounted};
+ghost use Rattle.rtc_run.specs.Completeness.{ForeignAnswersPass, ForeignOffersPass};
 
 use rtc_peer::{Association, DtlsInstance, IceAgent, Ids, MediaSession};
 
-/// An offer or answer for which no cause of refusal holds is accepted, unless memory runs out, or the DTLS part or the association fails.
+/// An offer or answer for which no cause of refusal holds is accepted, also one that anybody wrote, unless memory runs out, or the DTLS
+/// part or the association fails.
 pub fn faultless_descriptions_pass<E>()
     ensures offers { FaultlessOffersPass E }
     ensures answers { FaultlessAnswersPass E }
+    ensures foreign_offers { ForeignOffersPass E }
+    ensures foreign_answers { ForeignAnswersPass E }
 {}
 
 /// No reply of a run tells a fault where no DTLS part, no association and no media part of its pair counted one.

@@ -123,6 +123,8 @@ impl<I: IceAgent, D: DtlsInstance, S: Association, M: MediaSession, N: Ids> Pair
                 &mut self.left,
                 &mut self.sdps,
                 &mut self.packets,
+                self.right_addr,
+                self.left_addr,
                 step,
             ),
             Side::Right => perform_step(
@@ -130,6 +132,8 @@ impl<I: IceAgent, D: DtlsInstance, S: Association, M: MediaSession, N: Ids> Pair
                 &mut self.right,
                 &mut self.sdps,
                 &mut self.packets,
+                self.left_addr,
+                self.right_addr,
                 step,
             ),
         }

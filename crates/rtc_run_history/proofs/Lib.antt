@@ -6,3 +6,4 @@ pub mod WorkedEntries
 pub mod LineFacts
 pub mod ChannelFacts
 pub mod RestartFacts
+mod GlareFacts

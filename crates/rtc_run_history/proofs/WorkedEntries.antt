@@ -63,9 +63,12 @@ plain at = record {
   formats = config_formats default_config;
   lines = [];
   staged = [];
+  undo = [];
   channels = no_channels;
   rows = [];
   counter = 0;
+  outstanding = false;
+  polite = None;
   ice = record { lite = false; local = worked_creds; remote = None; candidates = [] };
   own_fingerprint = worked_fingerprint;
   fingerprint = None;

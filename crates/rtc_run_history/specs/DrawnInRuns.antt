@@ -13,12 +13,12 @@ use Rattle.rtc_run_history.specs.declared.outcome.Outcome.TheVariants.{Answered,
 use Rattle.rtc_run_history.specs.declared.reply.Reply.{Reply}
 use Rattle.rtc_run_history.specs.declared.side.Side.{Side}
 use Rattle.rtc_run_history.specs.declared.step.Step.{Step}
-use Rattle.rtc_run_history.specs.declared.step.Step.TheVariants.{Negotiate, AcceptOffer, AcceptAnswer}
+use Rattle.rtc_run_history.specs.declared.step.Step.TheVariants.{Negotiate, AcceptOffer, AcceptAnswer, ForeignOffer, ForeignAnswer}
 use Rattle.rtc_run_history.specs.Past.{Entry}
 use Rattle.rtc_run_history.specs.PairState.{PairState, peer_at, kept_remote_sdp, held_token}
 use Rattle.rtc_run_history.specs.Performs.{lent}
 use Rattle.rtc_run_history.specs.Runs.{Went, EntersSoundly, Runs}
-use Rattle.rtc_run_history.specs.Signalled.{Signalled, NotMade, Unreadable, Readable}
+use Rattle.rtc_run_history.specs.Signalled.{Signalled, NotMade, Unreadable, Readable, foreign}
 
 -- each SDP that is kept is read back as it was written, its sources too
 abbrev pub AllPlain : List Kept → Type 0
@@ -60,6 +60,8 @@ module _ {I D S M E X T W N : Type 0} (m : Meanings I D S M E X T W N) where
   DrawsByStep (AcceptOffer at k) (Answered n) old new = AnswersByUnused (peer_at at old) (kept_remote_sdp true old.sdps at k)
   DrawsByStep (AcceptAnswer at t a) Finished old new =
       FinishesByUnused (peer_at at old) (held_token old.sdps at t) (kept_remote_sdp false old.sdps at a)
+  DrawsByStep (ForeignOffer at text) (Answered n) old new = AnswersByUnused (peer_at at old) (foreign text)
+  DrawsByStep (ForeignAnswer at t text) Finished old new = FinishesByUnused (peer_at at old) (held_token old.sdps at t) (foreign text)
   DrawsByStep step outcome old new = Unit {0}
 
   -- so was each source that a run drew

@@ -7,13 +7,14 @@ use Rattle.rtc_run_history.specs.declared.side.Side.{Side}
 use Rattle.rtc_run_history.specs.PairState.{PairState, peer_at, stances_of}
 use Rattle.rtc_run_history.specs.Views.{AreFormed}
 
--- There are no rows and no channels, nothing is staged, the counter is 0, and nothing is known of the other side. The association is not
--- started, and no half of a start by session descriptions is drawn (draft-hancke-tsvwg-snap).
+-- There are no rows and no channels, nothing is staged, the counter is 0, no offer awaits its answer, and nothing is known of the other
+-- side. The association is not started, and no half of a start by session descriptions is drawn (draft-hancke-tsvwg-snap).
 pub record IsJustBuilt (s : Stance) : Type 0 where
   pub lines : s.lines ≡ []
   pub staged : s.staged ≡ []
   pub channels : s.channels ≡ no_channels
   pub counter : s.counter ≡ 0
+  pub outstanding : s.outstanding ≡ false
   pub remote : s.ice.remote ≡ None
   pub fingerprint : s.fingerprint ≡ None
   pub uninited : s.inited ≡ false

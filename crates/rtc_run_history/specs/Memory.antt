@@ -8,7 +8,7 @@ use Rattle.rtc_sctp_values.specs.declared.sctp_error.SctpError.TheVariants as sc
 use Rattle.rtc_peer_core.specs.declared.rtc_error.RtcError.{RtcError}
 use Rattle.rtc_peer_core.specs.declared.rtc_error.RtcError.TheVariants.{Net, Media as MediaFailed}
 use Rattle.rtc_peer_core.specs.declared.rtc_error.RtcError.TheVariants.{RemoteSdp, Sdp, Dtls, Sctp, ChangesOutOfOrder, BadChannel}
-use Rattle.rtc_peer_core.specs.declared.rtc_error.RtcError.TheVariants.{Alloc as PeerAlloc}
+use Rattle.rtc_peer_core.specs.declared.rtc_error.RtcError.TheVariants.{Alloc as PeerAlloc, Glare}
 use Rattle.rtc_run_history.specs.declared.op_answer.OpAnswer.{OpAnswer}
 use Rattle.rtc_run_history.specs.declared.op_answer.OpAnswer.TheVariants.{Mid, Changed, NoLine, Channel, Creds}
 use Rattle.rtc_run_history.specs.declared.op_answer.OpAnswer.TheVariants.{BadChannel as NoChannel, Alloc as OpAlloc}
@@ -49,6 +49,7 @@ error_lacks (Net cause) = false
 error_lacks (MediaFailed cause) = false
 error_lacks BadChannel = false
 error_lacks PeerAlloc = true
+error_lacks Glare = false
 
 -- what ended polls tells that memory ran out: at the peer, or before the next poll
 abbrev pub end_lacks : PollEnd → Bool
@@ -119,6 +120,7 @@ is_fault_of (Net cause) part = false
 is_fault_of (MediaFailed cause) part = is_media_part part
 is_fault_of BadChannel part = false
 is_fault_of PeerAlloc part = false
+is_fault_of Glare part = false
 
 -- what ended polls tells that this part failed
 abbrev pub is_end_fault_of : PollEnd → CountedPart → Bool

@@ -12,7 +12,7 @@ use Rattle.rtc_run_history.specs.declared.side.Side.TheVariants.{Left, Right}
 use Rattle.rtc_run_history.specs.declared.op.Op.{Op}
 use Rattle.rtc_run_history.specs.declared.step.Step.{Step}
 use Rattle.rtc_run_history.specs.declared.step.Step.TheVariants.{Negotiate, AcceptOffer, AcceptAnswer, Time, Datagram, Poll, Drain}
-use Rattle.rtc_run_history.specs.declared.step.Step.TheVariants.{Write, CloseChannel, Close}
+use Rattle.rtc_run_history.specs.declared.step.Step.TheVariants.{Write, CloseChannel, Close, Rollback, ForeignOffer, ForeignAnswer, Raw}
 use Rattle.rtc_run_history.specs.declared.outcome.Outcome.{Outcome}
 use Rattle.rtc_run_history.specs.declared.outcome.Outcome.TheVariants.{Negotiated, Answered, Finished, Done, Wrote, Polled, Refused}
 use Rattle.rtc_run_history.specs.declared.outcome.Outcome.TheVariants.{NoSuch, Alloc}
@@ -109,7 +109,7 @@ after_answer at t a course (AwaitsEnd side n m said) =
     then Some (moved_on at course (course_rows_after false 0 (course_rows at course) said) course.sdps Idle)
     else None
 
--- the course after a step, if it is in order; inputs, polls and closes leave it
+-- the course after a step, if it is in order; inputs, polls and closes leave it, and neither a foreign text nor a roll-back is in order
 abbrev pub after_step : Course → Step → Option Course
 after_step course (Negotiate at ops apply) = after_ops apply at ops course (rows_after_ops ops (course_rows at course))
 after_step course (AcceptOffer at k) = after_offer at k course course.phase
@@ -121,6 +121,10 @@ after_step course (Drain at) = Some course
 after_step course (Write at channel binary bytes) = Some course
 after_step course (CloseChannel at channel) = Some course
 after_step course (Close at) = Some course
+after_step course (Rollback at token) = None
+after_step course (ForeignOffer at text) = None
+after_step course (ForeignAnswer at token text) = None
+after_step course (Raw at bytes now) = Some course
 
 abbrev pub follow : Option Course → List Step → Option Course
 follow course [] = course
@@ -154,7 +158,7 @@ is_ok (Refused error) = false
 is_ok NoSuch = false
 is_ok Alloc = false
 
--- whether a step negotiates
+-- whether a step negotiates round by round
 abbrev pub negotiates : Step → Bool
 negotiates (Negotiate at ops apply) = true
 negotiates (AcceptOffer at offer) = true
@@ -166,6 +170,10 @@ negotiates (Drain at) = false
 negotiates (Write at channel binary bytes) = false
 negotiates (CloseChannel at channel) = false
 negotiates (Close at) = false
+negotiates (Rollback at token) = false
+negotiates (ForeignOffer at text) = false
+negotiates (ForeignAnswer at token text) = false
+negotiates (Raw at bytes now) = false
 
 -- so many more channels can be numbered at each side: a peer gives 2^64 - 1 numbers
 abbrev pub AreNumbersLeft : {E : Type 0} → ℕ → List (Entry E) → Type 0

@@ -36,6 +36,11 @@ rtc_at Right pair = pair.right
 abbrev pub peer_at : {I D S M N : Type 0} → Side → PairState I D S M N → Peer I D S M N
 peer_at at pair = (rtc_at at pair).core
 
+-- the address of a side
+abbrev pub addr_at : {I D S M N : Type 0} → Side → PairState I D S M N → Addr
+addr_at Left pair = pair.left_addr
+addr_at Right pair = pair.right_addr
+
 -- what negotiation reads of both sides
 abbrev pub stances_of : {I D S M E X T W N : Type 0} → Meanings I D S M E X T W N → PairState I D S M N → Stances
 stances_of m pair at = stance_of m (peer_at at pair)

@@ -4,19 +4,14 @@ use Rattle.std.specs.Prelude.{Option, Some, None, slice_get}
 use Rattle.rtc_sdp_values.specs.Sdp.{is_application}
 use Rattle.rtc_sdp_values.specs.declared.line_row.LineRow.{LineRow}
 use Rattle.rtc_sdp_values.specs.declared.sdp.Sdp.{Sdp}
-use Rattle.rtc_sdp_values.specs.declared.sdp_error.SdpError.{SdpError}
-use Rattle.rtc_sdp_values.specs.declared.sdp_error.SdpError.TheVariants.{Parse, Inconsistent, Alloc as TextAlloc}
 use Rattle.rtc_peer_rows.specs.declared.parsed_line.ParsedLine.{ParsedLine}
 use Rattle.rtc_peer_rows.specs.ParsedLines.{parsed_lines}
 use Rattle.rtc_channels.specs.declared.channel_row.ChannelRow.{ChannelRow}
-use Rattle.rtc_peer_core.specs.declared.rtc_error.RtcError.{RtcError}
-use Rattle.rtc_peer_core.specs.declared.rtc_error.RtcError.TheVariants.{RemoteSdp, Sdp as SdpRefused, Dtls, Sctp, Net, Media}
-use Rattle.rtc_peer_core.specs.declared.rtc_error.RtcError.TheVariants.{ChangesOutOfOrder, BadChannel, Alloc as PeerAlloc}
 use Rattle.rtc_peer_transport.specs.declared.event.Event.TheVariants.{ChannelOpen}
 use Rattle.rtc_run_history.specs.declared.side.Side.{Side}
 use Rattle.rtc_run_history.specs.declared.step.Step.{Step}
 use Rattle.rtc_run_history.specs.declared.step.Step.TheVariants.{Negotiate, AcceptOffer, AcceptAnswer, Time, Datagram, Poll, Drain}
-use Rattle.rtc_run_history.specs.declared.step.Step.TheVariants.{Write, CloseChannel, Close}
+use Rattle.rtc_run_history.specs.declared.step.Step.TheVariants.{Write, CloseChannel, Close, Rollback, ForeignOffer, ForeignAnswer, Raw}
 use Rattle.rtc_run_history.specs.declared.op_answer.OpAnswer.{OpAnswer}
 use Rattle.rtc_run_history.specs.declared.made.Made.{Made}
 use Rattle.rtc_run_history.specs.declared.made.Made.TheVariants.{NotAsked, Nothing, Offer, Alloc as MadeAlloc}
@@ -29,6 +24,14 @@ use Rattle.rtc_run_history.specs.declared.table.Table.{Table}
 use Rattle.rtc_run_history.specs.declared.reply.Reply.{Reply}
 use Rattle.rtc_run_history.specs.Sides.{same_side, side_of}
 use Rattle.rtc_run_history.specs.Signalled.{Signalled, signalled_if}
+pub use Rattle.rtc_run_history.specs.Called.{
+  is_unread_for,
+  is_unread,
+  is_glare,
+  was_called,
+  supersedes,
+  was_rolled_back,
+}
 use Rattle.rtc_run_history.specs.Answers.{do_stage, do_restart, has_app_row, added, numbers_answered}
 
 -- an SDP, with the side that made it and whether it is an offer
@@ -102,36 +105,7 @@ sdp_for offer at (Some said) = if (if offer then said.offer else not said.offer)
 abbrev pub remote_sdp : {E : Type 0} → Bool → Side → ℕ → List (Entry E) → Signalled
 remote_sdp offer at k past = signalled_if (sdp_for offer at (slice_get (sdps past) k))
 
-abbrev pub is_unread_for : SdpError → Bool
-is_unread_for (Parse line) = true
-is_unread_for (Inconsistent why) = false
-is_unread_for TextAlloc = false
-
--- whether an error tells that what was written of an SDP could not be read
-abbrev pub is_unread : RtcError → Bool
-is_unread (RemoteSdp why) = false
-is_unread (SdpRefused error) = is_unread_for error
-is_unread (Dtls error) = false
-is_unread (Sctp error) = false
-is_unread ChangesOutOfOrder = false
-is_unread (Net cause) = false
-is_unread (Media cause) = false
-is_unread BadChannel = false
-is_unread PeerAlloc = false
-
--- whether a reply says that the peer's accept call was reached: what could not be read was refused before it
-abbrev pub was_called : {E : Type 0} → Outcome E → Bool
-was_called (Negotiated answers made) = false
-was_called (Answered k) = true
-was_called Finished = true
-was_called Done = false
-was_called (Wrote taken) = false
-was_called (Polled outputs end) = false
-was_called (Refused error) = not (is_unread error)
-was_called NoSuch = false
-was_called Alloc = false
-
--- a token is spent by the call that accepts or refuses an answer with it
+-- a token is spent by the call that accepts or refuses an answer with it, and by the call that rolls its offer back or refuses to
 abbrev pub spends : {E : Type 0} → ℕ → Step → Outcome E → Bool
 spends t (Negotiate at ops apply) outcome = false
 spends t (AcceptOffer at offer) outcome = false
@@ -143,6 +117,10 @@ spends t (Drain at) outcome = false
 spends t (Write at channel binary bytes) outcome = false
 spends t (CloseChannel at channel) outcome = false
 spends t (Close at) outcome = false
+spends t (Rollback at token) outcome = (token == t) && was_rolled_back outcome
+spends t (ForeignOffer at text) outcome = false
+spends t (ForeignAnswer at token text) outcome = (token == t) && was_called outcome
+spends t (Raw at bytes now) outcome = false
 
 abbrev pub is_spent : {E : Type 0} → ℕ → List (Entry E) → Bool
 is_spent t [] = false
@@ -174,10 +152,11 @@ applies (Refused error) = false
 applies NoSuch = false
 applies Alloc = false
 
--- whether a step applied staged changes of a side, or handed it an offer that could be read, which it accepted or refused
+-- whether a step applied staged changes of a side, or handed it an offer that could be read, which it accepted, or refused for another
+-- cause than glare
 abbrev pub moves : {E : Type 0} → Side → Step → Outcome E → Bool
 moves at (Negotiate side ops apply) outcome = same_side side at && applies outcome
-moves at (AcceptOffer side offer) outcome = same_side side at && was_called outcome
+moves at (AcceptOffer side offer) outcome = same_side side at && supersedes outcome
 moves at (AcceptAnswer side token answer) outcome = false
 moves at (Time side now) outcome = false
 moves at (Datagram side packet now) outcome = false
@@ -186,6 +165,10 @@ moves at (Drain side) outcome = false
 moves at (Write side channel binary bytes) outcome = false
 moves at (CloseChannel side channel) outcome = false
 moves at (Close side) outcome = false
+moves at (Rollback side token) outcome = false
+moves at (ForeignOffer side text) outcome = same_side side at && supersedes outcome
+moves at (ForeignAnswer side token text) outcome = false
+moves at (Raw side bytes now) outcome = false
 
 abbrev pub is_offer_numbered : ℕ → Made → Bool
 is_offer_numbered t NotAsked = false
@@ -205,7 +188,8 @@ makes t (Refused error) = false
 makes t NoSuch = false
 makes t Alloc = false
 
--- since the offer of this number, its side applied no staged changes, and was handed no offer that could be read
+-- since the offer of this number, its side applied no staged changes, and was handed no offer that could be read and that it did not refuse
+-- as glare
 abbrev pub is_right : {E : Type 0} → Side → ℕ → List (Entry E) → Bool
 is_right at t [] = false
 is_right at t (entry ∷ past) = makes t entry.outcome || (not (moves at entry.step entry.outcome) && is_right at t past)

@@ -2,21 +2,21 @@
 use Rattle.std.specs.Prelude.{◌≡◌, ◌+◌, ℕ, List, [], ◌∷◌, ◌++◌, map, drop, Bool, true, false, not, ◌&&◌, Option, Some}
 use Rattle.std.specs.Prelude.{None, Result, Ok, Err, length, alloc_error, slice_get}
 use Rattle.rtc_wire.specs.DatagramRecv.{kind_by, kind_said, bytes_lent}
+use Rattle.rtc_wire.specs.declared.addr.Addr.{Addr}
 use Rattle.rtc_wire.specs.declared.multiplex_kind.MultiplexKind.{MultiplexKind}
 use Rattle.rtc_wire.specs.declared.net_error.NetError.{NetError}
+use Rattle.rtc_wire.specs.declared.protocol.Protocol.TheVariants.{Udp}
 use Rattle.rtc_wire.specs.declared.receive.Receive.{Receive}
 use Rattle.rtc_wire.specs.declared.transmit.Transmit.{Transmit}
 use Rattle.rtc_sdp_values.specs.declared.direction.Direction.{Direction}
 use Rattle.rtc_sdp_values.specs.declared.line_row.LineRow.{LineRow}
 use Rattle.rtc_sdp_values.specs.declared.media_kind.MediaKind.{MediaKind}
 use Rattle.rtc_sdp_values.specs.declared.sdp.Sdp.{Sdp}
-use Rattle.rtc_sdp_values.specs.declared.sdp_error.SdpError.TheVariants.{Parse}
 use Rattle.rtc_change.specs.PendingOffer.{PendingOffer}
 use Rattle.rtc_peer_rows.specs.RowChanges.{media_mid}
 use Rattle.rtc_peer_core.specs.declared.peer.Peer.{Peer}
 use Rattle.rtc_peer_core.specs.declared.rtc_error.RtcError.{RtcError}
-use Rattle.rtc_peer_core.specs.declared.rtc_error.RtcError.TheVariants.{Sdp as SdpRefused, BadChannel, Net, Alloc as PeerAlloc}
-use Rattle.rtc_peer_core.specs.Acceptances.{AcceptsOffer, AcceptsAnswer}
+use Rattle.rtc_peer_core.specs.declared.rtc_error.RtcError.TheVariants.{BadChannel, Net, Alloc as PeerAlloc}
 use Rattle.rtc_peer_core.specs.Calls.{AddsMedia, SetsDirection, StopsMedia, AddsChannel, StagesRestart, Applies, Wanted}
 use Rattle.rtc_peer_core.specs.Meanings.{Meanings}
 use Rattle.rtc_peer_transport.specs.declared.input.Input.TheVariants as given
@@ -31,7 +31,7 @@ use Rattle.rtc_run_history.specs.declared.op.Op.{Op}
 use Rattle.rtc_run_history.specs.declared.op.Op.TheVariants.{AddMedia, SetDirection, StopMedia, AddChannel, IceRestart}
 use Rattle.rtc_run_history.specs.declared.step.Step.{Step}
 use Rattle.rtc_run_history.specs.declared.step.Step.TheVariants.{Negotiate, AcceptOffer, AcceptAnswer, Time, Datagram, Poll, Drain}
-use Rattle.rtc_run_history.specs.declared.step.Step.TheVariants.{Write, CloseChannel, Close}
+use Rattle.rtc_run_history.specs.declared.step.Step.TheVariants.{Write, CloseChannel, Close, Rollback, ForeignOffer, ForeignAnswer, Raw}
 use Rattle.rtc_run_history.specs.declared.op_answer.OpAnswer.{OpAnswer}
 use Rattle.rtc_run_history.specs.declared.op_answer.OpAnswer.TheVariants.{Mid, Changed, NoLine, Channel, Creds}
 use Rattle.rtc_run_history.specs.declared.op_answer.OpAnswer.TheVariants.{BadChannel as NoChannel, Alloc as OpAlloc}
@@ -43,23 +43,17 @@ use Rattle.rtc_run_history.specs.declared.sent_packet.SentPacket.{SentPacket}
 use Rattle.rtc_run_history.specs.declared.shown.Shown.{Shown}
 use Rattle.rtc_run_history.specs.declared.shown.Shown.TheVariants.{Timeout, Packet, Event}
 use Rattle.rtc_run_history.specs.declared.outcome.Outcome.{Outcome}
-use Rattle.rtc_run_history.specs.declared.outcome.Outcome.TheVariants.{Negotiated, Answered, Finished, Polled, Refused, NoSuch, Alloc}
+use Rattle.rtc_run_history.specs.declared.outcome.Outcome.TheVariants.{Negotiated, Polled, NoSuch, Alloc}
 use Rattle.rtc_run_history.specs.declared.table.Table.{Table}
 use Rattle.rtc_run_history.specs.CallReplies.{Shows, StepCalls, StepWrites, StepClosesChannel}
 use Rattle.rtc_run_history.specs.Memory.{answers_lack}
+pub use Rattle.rtc_run_history.specs.StepAcceptances.{lent, kept_answer, Stays, StepAcceptsOffer, StepAcceptsAnswer, StepRollsBack}
 use Rattle.rtc_run_history.specs.Sides.{side_of, other_side}
 use Rattle.rtc_run_history.specs.Sizes.{step_size}
 use Rattle.rtc_run_history.specs.Past.{Entry, MadeSdp}
 use Rattle.rtc_run_history.specs.declared.kept.Kept.{Kept}
-use Rattle.rtc_run_history.specs.Signalled.{Signalled, NotMade, Unreadable, Readable}
-use Rattle.rtc_run_history.specs.PairState.{PairState, rtc_at, made_sdp, kept_remote_sdp, remote_packet, held_token, spent}
-
--- the peer as `sdp_api` lends it: earlier staged changes are dropped
-abbrev pub lent : {I D S M N : Type 0} → Peer I D S M N → Peer I D S M N
-lent peer = record peer { staged = [] }
-
-abbrev pub kept_answer : Side → Sdp → Kept
-kept_answer at answer = record { at = at; offer = false; sdp = answer; token = None }
+use Rattle.rtc_run_history.specs.Signalled.{foreign}
+use Rattle.rtc_run_history.specs.PairState.{PairState, rtc_at, addr_at, made_sdp, kept_remote_sdp, remote_packet, held_token}
 
 abbrev pub kept_offer : Side → Sdp × PendingOffer → Kept
 kept_offer at made = record { at = at; offer = true; sdp = made.0; token = Some made.1 }
@@ -68,16 +62,15 @@ kept_offer at made = record { at = at; offer = true; sdp = made.0; token = Some 
 abbrev pub wanted : MediaKind → Direction → Wanted
 wanted kind dir = record { kind = kind; dir = dir; stream = None; track = None; simulcast = None }
 
--- the peer and the SDPs stay
-pub record Stays {I D S M N : Type 0} (old : Peer I D S M N) (sdps : List Kept) (new : Peer I D S M N) (sdps' : List Kept) : Type 0 where
-  pub peer : new ≡ old
-  pub sdps_kept : sdps' ≡ sdps
-
 -- the connection of a peer and the datagrams stay
 pub record LeavesConnection {I D S M N : Type 0} (old : PolledPeer I D S M N) (packets : List SentPacket) (new : PolledPeer I D S M N)
     (packets' : List SentPacket) : Type 0 where
   pub connection : new.transport ≡ old.transport
   pub packets_kept : packets' ≡ packets
+
+-- bytes of anybody as a UDP datagram from one address to another
+abbrev pub raw_datagram : (source destination : Addr) → List ℕ → Transmit
+raw_datagram source destination bytes = record { proto = Udp; source = source; destination = destination; contents = bytes }
 
 -- a datagram as the pair keeps it
 abbrev pub sent_packet : Side → Transmit → SentPacket
@@ -144,44 +137,6 @@ module _ {I D S M E X T W N : Type 0} (m : Meanings I D S M E X T W N) where
       × MakesOf (apply && not (answers_lack answers)) at p sdps made new sdps'
       × Shows m table new
   Negotiates at ops apply old sdps outcome table new sdps' = ⊥
-
-  -- A peer accepts or refuses an offer that the other side made, as it is read. One that cannot be read does not reach the peer.
-  abbrev pub StepAcceptsOffer : Side → Signalled → Peer I D S M N → List Kept → Outcome E → Option Table → Peer I D S M N → List Kept
-      → Type 0
-  StepAcceptsOffer at offer old sdps Alloc None new sdps' = Stays old sdps new sdps'
-  StepAcceptsOffer at NotMade old sdps NoSuch (Some table) new sdps' = Stays old sdps new sdps' × Shows m table old
-  StepAcceptsOffer at (Unreadable line) old sdps (Refused error) (Some table) new sdps' =
-      (error ≡ SdpRefused (Parse line)) × Stays old sdps new sdps' × Shows m table old
-  StepAcceptsOffer at (Readable sdp) old sdps (Answered k) (Some table) new sdps' =
-      (answer : Sdp)
-      × AcceptsOffer m (lent old) sdp (Ok answer) new
-      × (sdps' ≡ sdps ++ kept_answer at answer ∷ [])
-      × (k ≡ length sdps)
-      × Shows m table new
-  StepAcceptsOffer at (Readable sdp) old sdps (Refused error) (Some table) new sdps' =
-      AcceptsOffer m (lent old) sdp (Err error) new
-      × (sdps' ≡ sdps)
-      × Shows m table new
-  StepAcceptsOffer at offer old sdps outcome table new sdps' = ⊥
-
-  -- A peer accepts or refuses an answer that the other side made, as it is read; the token of its own offer is spent. One that cannot be
-  -- read does not reach the peer, and spends no token.
-  abbrev pub StepAcceptsAnswer : ℕ → Option PendingOffer → Signalled → Peer I D S M N → List Kept → Outcome E → Option Table
-      → Peer I D S M N → List Kept → Type 0
-  StepAcceptsAnswer t token answer old sdps Alloc None new sdps' = Stays old sdps new sdps'
-  StepAcceptsAnswer t None answer old sdps NoSuch (Some table) new sdps' = Stays old sdps new sdps' × Shows m table old
-  StepAcceptsAnswer t (Some token) NotMade old sdps NoSuch (Some table) new sdps' = Stays old sdps new sdps' × Shows m table old
-  StepAcceptsAnswer t (Some token) (Unreadable line) old sdps (Refused error) (Some table) new sdps' =
-      (error ≡ SdpRefused (Parse line)) × Stays old sdps new sdps' × Shows m table old
-  StepAcceptsAnswer t (Some token) (Readable sdp) old sdps Finished (Some table) new sdps' =
-      AcceptsAnswer m (lent old) token sdp (Ok tt) new
-      × (sdps' ≡ spent t sdps)
-      × Shows m table new
-  StepAcceptsAnswer t (Some token) (Readable sdp) old sdps (Refused error) (Some table) new sdps' =
-      AcceptsAnswer m (lent old) token sdp (Err error) new
-      × (sdps' ≡ spent t sdps)
-      × Shows m table new
-  StepAcceptsAnswer t token answer old sdps outcome table new sdps' = ⊥
 
   -- A datagram is refused where it is of no kind or has not the form of it, and the peer is not called; else it is handed to the peer.
   abbrev pub HandlesRead : Result MultiplexKind NetError → Transmit → ℕ → PolledPeer I D S M N → Result (Unit {0}) RtcError
@@ -251,37 +206,50 @@ module _ {I D S M E X T W N : Type 0} (m : Meanings I D S M E X T W N) where
       polls packets outputs end new packets' × Shows m table new.core
   StepPollsPeer polls old packets outcome table new packets' = ⊥
 
-  -- What the acting peer does, with the SDPs and the datagrams before and after: negotiation leaves its connection and the datagrams, and
-  -- all else the SDPs.
-  abbrev pub Acts : (List ℕ → Bool) → Step → PolledPeer I D S M N → List Kept → List SentPacket → Outcome E → Option Table
-      → PolledPeer I D S M N → List Kept → List SentPacket → Type 0
-  Acts stun (Negotiate at ops apply) old sdps packets outcome table new sdps' packets' =
+  -- What the acting peer does, given the addresses of the other side and of its own, with the SDPs and the datagrams before and after:
+  -- negotiation leaves its connection and the datagrams, and all else the SDPs.
+  abbrev pub Acts : (List ℕ → Bool) → (other own : Addr) → Step → PolledPeer I D S M N → List Kept → List SentPacket → Outcome E
+      → Option Table → PolledPeer I D S M N → List Kept → List SentPacket → Type 0
+  Acts stun other own (Negotiate at ops apply) old sdps packets outcome table new sdps' packets' =
       Negotiates at ops apply old.core sdps outcome table new.core sdps' × LeavesConnection old packets new packets'
-  Acts stun (AcceptOffer at offer) old sdps packets outcome table new sdps' packets' =
-      StepAcceptsOffer at (kept_remote_sdp true sdps at offer) old.core sdps outcome table new.core sdps'
+  Acts stun other own (AcceptOffer at offer) old sdps packets outcome table new sdps' packets' =
+      StepAcceptsOffer m at (kept_remote_sdp true sdps at offer) old.core sdps outcome table new.core sdps'
       × LeavesConnection old packets new packets'
-  Acts stun (AcceptAnswer at token answer) old sdps packets outcome table new sdps' packets' =
-      StepAcceptsAnswer token (held_token sdps at token) (kept_remote_sdp false sdps at answer) old.core sdps outcome table new.core sdps'
+  Acts stun other own (AcceptAnswer at token answer) old sdps packets outcome table new sdps' packets' =
+      StepAcceptsAnswer m token (held_token sdps at token) (kept_remote_sdp false sdps at answer) old.core sdps outcome table new.core sdps'
       × LeavesConnection old packets new packets'
-  Acts stun (Time at now) old sdps packets outcome table new sdps' packets' =
+  Acts stun other own (Time at now) old sdps packets outcome table new sdps' packets' =
       StepCalls m (HandlesInput m (given.Timeout now)) old outcome table new × (sdps' ≡ sdps) × (packets' ≡ packets)
-  Acts stun (Datagram at packet now) old sdps packets outcome table new sdps' packets' =
+  Acts stun other own (Datagram at packet now) old sdps packets outcome table new sdps' packets' =
       StepTakesDatagram stun (remote_packet packets at packet) now old outcome table new × (sdps' ≡ sdps) × (packets' ≡ packets)
-  Acts stun (Poll at) old sdps packets outcome table new sdps' packets' =
+  Acts stun other own (Poll at) old sdps packets outcome table new sdps' packets' =
       StepPollsPeer (PollsOnce at old) old packets outcome table new packets' × (sdps' ≡ sdps)
-  Acts stun (Drain at) old sdps packets outcome table new sdps' packets' =
+  Acts stun other own (Drain at) old sdps packets outcome table new sdps' packets' =
       StepPollsPeer (DrainsPeer at old) old packets outcome table new packets' × (sdps' ≡ sdps)
-  Acts stun (Write at channel binary bytes) old sdps packets outcome table new sdps' packets' =
+  Acts stun other own (Write at channel binary bytes) old sdps packets outcome table new sdps' packets' =
       StepWrites m (open_stream_under channel old) binary bytes old outcome table new × (sdps' ≡ sdps) × (packets' ≡ packets)
-  Acts stun (CloseChannel at channel) old sdps packets outcome table new sdps' packets' =
+  Acts stun other own (CloseChannel at channel) old sdps packets outcome table new sdps' packets' =
       StepClosesChannel m (open_stream_under channel old) channel old outcome table new × (sdps' ≡ sdps) × (packets' ≡ packets)
-  Acts stun (Close at) old sdps packets outcome table new sdps' packets' =
+  Acts stun other own (Close at) old sdps packets outcome table new sdps' packets' =
       StepCalls m (ClosesPeer m) old outcome table new × (sdps' ≡ sdps) × (packets' ≡ packets)
+  Acts stun other own (Rollback at token) old sdps packets outcome table new sdps' packets' =
+      StepRollsBack m token (held_token sdps at token) old.core sdps outcome table new.core sdps'
+      × LeavesConnection old packets new packets'
+  Acts stun other own (ForeignOffer at text) old sdps packets outcome table new sdps' packets' =
+      StepAcceptsOffer m at (foreign text) old.core sdps outcome table new.core sdps'
+      × LeavesConnection old packets new packets'
+  Acts stun other own (ForeignAnswer at token text) old sdps packets outcome table new sdps' packets' =
+      StepAcceptsAnswer m token (held_token sdps at token) (foreign text) old.core sdps outcome table new.core sdps'
+      × LeavesConnection old packets new packets'
+  Acts stun other own (Raw at bytes now) old sdps packets outcome table new sdps' packets' =
+      StepCalls m (HandlesRead (kind_by stun bytes) (raw_datagram other own bytes) now) old outcome table new
+      × (sdps' ≡ sdps)
+      × (packets' ≡ packets)
 
   -- A step: what the acting peer does. The other peer and both addresses stay as they were.
   pub record Performs (stun : List ℕ → Bool) (old : PairState I D S M N) (step : Step) (outcome : Outcome E) (table : Option Table)
       (new : PairState I D S M N) : Type 0 where
-    pub acts : Acts stun step
+    pub acts : Acts stun (addr_at (other_side (side_of step)) old) (addr_at (side_of step) old) step
         (rtc_at (side_of step) old) old.sdps old.packets outcome table (rtc_at (side_of step) new) new.sdps new.packets
     pub other : rtc_at (other_side (side_of step)) new ≡ rtc_at (other_side (side_of step)) old
     pub left_addr : new.left_addr ≡ old.left_addr

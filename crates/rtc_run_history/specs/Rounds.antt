@@ -7,7 +7,7 @@ use Rattle.rtc_run_history.specs.declared.op.Op.{Op}
 use Rattle.rtc_run_history.specs.declared.op.Op.TheVariants.{AddMedia, SetDirection, StopMedia, AddChannel, IceRestart}
 use Rattle.rtc_run_history.specs.declared.step.Step.{Step}
 use Rattle.rtc_run_history.specs.declared.step.Step.TheVariants.{Negotiate, AcceptOffer, AcceptAnswer, Time, Datagram, Poll, Drain}
-use Rattle.rtc_run_history.specs.declared.step.Step.TheVariants.{Write, CloseChannel, Close}
+use Rattle.rtc_run_history.specs.declared.step.Step.TheVariants.{Write, CloseChannel, Close, Rollback, ForeignOffer, ForeignAnswer, Raw}
 use Rattle.rtc_run_history.specs.declared.outcome.Outcome.{Outcome}
 use Rattle.rtc_run_history.specs.declared.outcome.Outcome.TheVariants.{Answered, Finished}
 use Rattle.rtc_run_history.specs.declared.table.Table.{Table}
@@ -66,6 +66,10 @@ sets_lines at (Drain side) = false
 sets_lines at (Write side channel binary bytes) = false
 sets_lines at (CloseChannel side channel) = false
 sets_lines at (Close side) = false
+sets_lines at (Rollback side token) = false
+sets_lines at (ForeignOffer side text) = false
+sets_lines at (ForeignAnswer side token text) = false
+sets_lines at (Raw side bytes now) = false
 
 -- whether a side set or stopped a line since it made the offer of a number
 abbrev pub has_set : {E : Type 0} → Side → ℕ → List (Entry E) → Bool

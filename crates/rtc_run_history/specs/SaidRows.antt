@@ -12,7 +12,7 @@ use Rattle.rtc_peer_rows.specs.ParsedLines.{parsed_lines}
 use Rattle.rtc_peer_core.specs.MadeSdp.{is_stopped, line_kind}
 use Rattle.rtc_run_history.specs.declared.side.Side.{Side}
 use Rattle.rtc_run_history.specs.declared.step.Step.{Step}
-use Rattle.rtc_run_history.specs.declared.step.Step.TheVariants.{Negotiate, AcceptOffer}
+use Rattle.rtc_run_history.specs.declared.step.Step.TheVariants.{Negotiate, AcceptOffer, ForeignOffer}
 use Rattle.rtc_run_history.specs.declared.made.Made.TheVariants.{Offer}
 use Rattle.rtc_run_history.specs.declared.outcome.Outcome.{Outcome}
 use Rattle.rtc_run_history.specs.declared.outcome.Outcome.TheVariants.{Negotiated, Answered}
@@ -41,4 +41,5 @@ abbrev pub MakesSdp : {E : Type 0} → Step → Outcome E → Option Table → L
 MakesSdp (Negotiate at ops apply) (Negotiated answers (Offer k)) (Some table) made =
     SaysRows at true (table.lines ++ added (new_app table.lines made) (length table.lines) ops answers) made
 MakesSdp (AcceptOffer at offer) (Answered k) (Some table) made = SaysRows at false table.lines made
+MakesSdp (ForeignOffer at text) (Answered k) (Some table) made = SaysRows at false table.lines made
 MakesSdp step outcome table made = made ≡ []

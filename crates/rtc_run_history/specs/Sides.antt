@@ -4,7 +4,7 @@ use Rattle.rtc_run_history.specs.declared.side.Side.{Side}
 use Rattle.rtc_run_history.specs.declared.side.Side.TheVariants.{Left, Right}
 use Rattle.rtc_run_history.specs.declared.step.Step.{Step}
 use Rattle.rtc_run_history.specs.declared.step.Step.TheVariants.{Negotiate, AcceptOffer, AcceptAnswer, Time, Datagram, Poll, Drain}
-use Rattle.rtc_run_history.specs.declared.step.Step.TheVariants.{Write, CloseChannel, Close}
+use Rattle.rtc_run_history.specs.declared.step.Step.TheVariants.{Write, CloseChannel, Close, Rollback, ForeignOffer, ForeignAnswer, Raw}
 
 abbrev pub same_side : Side → Side → Bool
 same_side Left Left = true
@@ -28,3 +28,7 @@ side_of (Drain at) = at
 side_of (Write at channel binary bytes) = at
 side_of (CloseChannel at channel) = at
 side_of (Close at) = at
+side_of (Rollback at token) = at
+side_of (ForeignOffer at text) = at
+side_of (ForeignAnswer at token text) = at
+side_of (Raw at bytes now) = at

@@ -1,5 +1,5 @@
 -- What signalling brings of a session description (SDP): its bytes. It is written where it is sent, and what was written is read where it
--- arrives.
+-- arrives. A foreign one is what anybody wrote.
 use Rattle.std.specs.Prelude.{◌≡◌, ℕ, List, All, Option, Some, None, Result, Ok, Err}
 use Rattle.rtc_sdp_values.specs.declared.sdp.Sdp.{Sdp}
 use Rattle.rtc_sdp_reader.specs.Reading.{reading}
@@ -24,6 +24,10 @@ signalled sdp = arrival (reading (written_sdp sdp))
 abbrev pub signalled_if : Option Sdp → Signalled
 signalled_if None = NotMade
 signalled_if (Some sdp) = signalled sdp
+
+-- what arrives of a text that anybody wrote
+unfoldable pub foreign : List ℕ → Signalled
+foreign text = arrival (reading text)
 
 -- what is read, where anything is
 abbrev pub sdp_read : Signalled → Option Sdp

@@ -16,27 +16,27 @@ use Rattle.rtc_change.specs.declared.refusal.Refusal.TheVariants.{RemoteSdp as R
 use Rattle.rtc_part_dtls.specs.declared.dtls_error.DtlsError.TheVariants.{Fault}
 use Rattle.rtc_sctp_values.specs.declared.proto_error.ProtoError.TheVariants.{Fault as AssociationFault}
 use Rattle.rtc_sctp_values.specs.declared.sctp_error.SctpError.TheVariants.{Proto}
+use Rattle.rtc_peer_core.specs.Glare.{meets_glare}
 use Rattle.rtc_peer_core.specs.Stance.{Stance, held_by}
-use Rattle.rtc_peer_core.specs.declared.rtc_error.RtcError.{RtcError}
-use Rattle.rtc_peer_core.specs.declared.rtc_error.RtcError.TheVariants.{RemoteSdp, Sdp as SdpRefused, Dtls, Sctp, Net, Media}
-use Rattle.rtc_peer_core.specs.declared.rtc_error.RtcError.TheVariants.{ChangesOutOfOrder, BadChannel as NoChannel, Alloc as PeerAlloc}
+use Rattle.rtc_peer_core.specs.declared.rtc_error.RtcError.TheVariants.{RemoteSdp, Sdp as SdpRefused, Dtls, Sctp}
+use Rattle.rtc_peer_core.specs.declared.rtc_error.RtcError.TheVariants.{ChangesOutOfOrder, Alloc as PeerAlloc, Glare}
 use Rattle.rtc_run_history.specs.declared.side.Side.{Side}
 use Rattle.rtc_run_history.specs.declared.op.Op.{Op}
 use Rattle.rtc_run_history.specs.declared.op.Op.TheVariants.{AddMedia, SetDirection, StopMedia, AddChannel, IceRestart}
 use Rattle.rtc_run_history.specs.declared.step.Step.{Step}
 use Rattle.rtc_run_history.specs.declared.step.Step.TheVariants.{Negotiate, AcceptOffer, AcceptAnswer, Time, Datagram, Poll, Drain}
-use Rattle.rtc_run_history.specs.declared.step.Step.TheVariants.{Write, CloseChannel, Close}
+use Rattle.rtc_run_history.specs.declared.step.Step.TheVariants.{Write, CloseChannel, Close, Rollback, ForeignOffer, ForeignAnswer, Raw}
 use Rattle.rtc_run_history.specs.declared.op_answer.OpAnswer.{OpAnswer}
 use Rattle.rtc_run_history.specs.declared.op_answer.OpAnswer.TheVariants.{Mid, Changed, NoLine, Channel, BadChannel, Creds}
 use Rattle.rtc_run_history.specs.declared.op_answer.OpAnswer.TheVariants.{Alloc as OpAlloc}
 use Rattle.rtc_run_history.specs.declared.made.Made.{Made}
 use Rattle.rtc_run_history.specs.declared.made.Made.TheVariants.{NotAsked, Nothing, Offer, Alloc as MadeAlloc}
 use Rattle.rtc_run_history.specs.declared.outcome.Outcome.{Outcome}
-use Rattle.rtc_run_history.specs.declared.outcome.Outcome.TheVariants.{Negotiated, Answered, Finished, Done, Wrote, Polled, Refused}
+use Rattle.rtc_run_history.specs.declared.outcome.Outcome.TheVariants.{Negotiated, Answered, Finished, Done, Refused}
 use Rattle.rtc_run_history.specs.declared.outcome.Outcome.TheVariants.{NoSuch, Alloc}
 use Rattle.rtc_run_history.specs.declared.table.Table.{Table}
-use Rattle.rtc_run_history.specs.Memory.{answers_lack, error_lacks}
-use Rattle.rtc_run_history.specs.Signalled.{Signalled, NotMade, Unreadable, Readable}
+use Rattle.rtc_run_history.specs.Memory.{answers_lack}
+use Rattle.rtc_run_history.specs.Signalled.{Signalled, NotMade, Unreadable, Readable, foreign}
 use Rattle.rtc_run_history.specs.Answers.{has_app_row, do_need_offer, with_numbered, rows_waiting}
 use Rattle.rtc_run_history.specs.Past.{
   Entry,
@@ -52,6 +52,9 @@ use Rattle.rtc_run_history.specs.Past.{
   added_by,
   restarts_by,
 }
+use Rattle.rtc_run_history.specs.Outstanding.{has_outstanding}
+pub use Rattle.rtc_run_history.specs.Replies.{is_handled, is_heard, is_polled, is_of_streams, is_written, is_channel_closed}
+use Rattle.rtc_run_history.specs.Undone.{table_shown, table_undone}
 use Rattle.rtc_run_history.specs.Views.{Stances, init_told_by, view_in}
 
 -- no media row stands at a place
@@ -141,22 +144,23 @@ MadeOf true false Nothing next = Unit {0}
 MadeOf true offers MadeAlloc next = Unit {0}
 MadeOf asked offers made next = ⊥
 
--- The outcome of accepting an offer: its answer and the rows that it leaves, or the first cause that refuses it: the line that cannot be
--- read, or what the peer says.
-abbrev pub RepliesToOffer : {E : Type 0} → Signalled → Held → ℕ → Outcome E → List LineRow → Type 0
-RepliesToOffer NotMade view next NoSuch after = after ≡ view.lines
-RepliesToOffer (Unreadable line) view next (Refused error) after = (error ≡ SdpRefused (Parse line)) × (after ≡ view.lines)
-RepliesToOffer (Readable sdp) view next (Answered k) after =
+-- The outcome of accepting an offer, given whether it would collide with one of the side's own: its answer and the rows that it leaves, or
+-- the first cause that refuses it: the line that cannot be read, glare (RFC 3264, section 4), or what the peer says.
+abbrev pub RepliesToOffer : {E : Type 0} → (glare : Bool) → Signalled → Held → ℕ → Outcome E → List LineRow → Type 0
+RepliesToOffer glare NotMade view next NoSuch after = after ≡ view.lines
+RepliesToOffer glare (Unreadable line) view next (Refused error) after = (error ≡ SdpRefused (Parse line)) × (after ≡ view.lines)
+RepliesToOffer false (Readable sdp) view next (Answered k) after =
     (verdict view None sdp ≡ None) × (after ≡ table_after view.lines (parsed_lines sdp) true) × (k ≡ next)
-RepliesToOffer (Readable sdp) view next (Refused (RemoteSdp why)) after =
+RepliesToOffer false (Readable sdp) view next (Refused (RemoteSdp why)) after =
     (verdict view None sdp ≡ Some (RefusedSdp why)) × (after ≡ view.lines)
-RepliesToOffer (Readable sdp) view next (Refused (SdpRefused error)) after =
+RepliesToOffer false (Readable sdp) view next (Refused (SdpRefused error)) after =
     (verdict view None sdp ≡ Some (RefusedAsSdp error)) × (after ≡ view.lines)
-RepliesToOffer (Readable sdp) view next (Refused (Dtls Fault)) after = (verdict view None sdp ≡ None) × (after ≡ view.lines)
-RepliesToOffer (Readable sdp) view next (Refused (Sctp error)) after =
+RepliesToOffer false (Readable sdp) view next (Refused (Dtls Fault)) after = (verdict view None sdp ≡ None) × (after ≡ view.lines)
+RepliesToOffer false (Readable sdp) view next (Refused (Sctp error)) after =
     (error ≡ Proto AssociationFault) × (verdict view None sdp ≡ None) × (after ≡ view.lines)
-RepliesToOffer (Readable sdp) view next (Refused PeerAlloc) after = after ≡ view.lines
-RepliesToOffer sdp view next outcome after = ⊥
+RepliesToOffer false (Readable sdp) view next (Refused PeerAlloc) after = after ≡ view.lines
+RepliesToOffer true (Readable sdp) view next (Refused Glare) after = after ≡ view.lines
+RepliesToOffer glare sdp view next outcome after = ⊥
 
 -- The outcome of accepting an answer: the rows that it leaves, where the token is held and right, or the first cause that refuses it.
 abbrev pub RepliesToAnswer : {E : Type 0} → Bool → Bool → Asked → Signalled → Held → Outcome E → List LineRow → Type 0
@@ -187,77 +191,17 @@ asked_in at t past = record {
   says_init = init_told_by t past;
 }
 
--- an input was taken, or a close begun, or either was refused
-abbrev pub is_handled : {E : Type 0} → Outcome E → Bool
-is_handled (Negotiated answers made) = false
-is_handled (Answered k) = false
-is_handled Finished = false
-is_handled Done = true
-is_handled (Wrote taken) = false
-is_handled (Polled outputs end) = false
-is_handled (Refused error) = true
-is_handled NoSuch = false
-is_handled Alloc = false
+-- The outcome of rolling an offer back, by whether its token is held and right: the table from before, or with all undone that was set,
+-- stopped or added for the offer (RFC 8829, section 5.7).
+abbrev pub RepliesToRollback : {E : Type 0} → (held right : Bool) → (earlier undone : Table) → Outcome E → Table → Type 0
+RepliesToRollback false right earlier undone NoSuch table = table ≡ earlier
+RepliesToRollback true false earlier undone (Refused ChangesOutOfOrder) table = table ≡ earlier
+RepliesToRollback true true earlier undone Done table = table ≡ undone
+RepliesToRollback held right earlier undone outcome table = ⊥
 
--- a datagram was taken or refused, or is not there
-abbrev pub is_heard : {E : Type 0} → Outcome E → Bool
-is_heard (Negotiated answers made) = false
-is_heard (Answered k) = false
-is_heard Finished = false
-is_heard Done = true
-is_heard (Wrote taken) = false
-is_heard (Polled outputs end) = false
-is_heard (Refused error) = true
-is_heard NoSuch = true
-is_heard Alloc = false
-
--- polls gave outputs, and something ended them
-abbrev pub is_polled : {E : Type 0} → Outcome E → Bool
-is_polled (Negotiated answers made) = false
-is_polled (Answered k) = false
-is_polled Finished = false
-is_polled Done = false
-is_polled (Wrote taken) = false
-is_polled (Polled outputs end) = true
-is_polled (Refused error) = false
-is_polled NoSuch = false
-is_polled Alloc = false
-
--- whether an error is of the streams, or tells that memory ran out
-abbrev pub is_of_streams : RtcError → Bool
-is_of_streams (RemoteSdp why) = false
-is_of_streams (SdpRefused error) = false
-is_of_streams (Dtls error) = false
-is_of_streams (Sctp error) = true
-is_of_streams ChangesOutOfOrder = false
-is_of_streams (Net cause) = false
-is_of_streams (Media cause) = false
-is_of_streams NoChannel = false
-is_of_streams PeerAlloc = true
-
--- a message was taken or not, or its write refused, or the channel is not open
-abbrev pub is_written : {E : Type 0} → Outcome E → Bool
-is_written (Negotiated answers made) = false
-is_written (Answered k) = false
-is_written Finished = false
-is_written Done = false
-is_written (Wrote taken) = true
-is_written (Polled outputs end) = false
-is_written (Refused error) = is_of_streams error
-is_written NoSuch = true
-is_written Alloc = false
-
--- a channel was closed, or memory ran out in its close, or it is not open
-abbrev pub is_channel_closed : {E : Type 0} → Outcome E → Bool
-is_channel_closed (Negotiated answers made) = false
-is_channel_closed (Answered k) = false
-is_channel_closed Finished = false
-is_channel_closed Done = true
-is_channel_closed (Wrote taken) = false
-is_channel_closed (Polled outputs end) = false
-is_channel_closed (Refused error) = error_lacks error
-is_channel_closed NoSuch = true
-is_channel_closed Alloc = false
+-- whether an offer that is handed to a side collides with one of its own: the side is impolite, and its own offer awaits its answer
+abbrev pub is_glare_at : {E : Type 0} → Stances → Side → List (Entry E) → Bool
+is_glare_at fresh at past = meets_glare (fresh at).polite (has_outstanding at past)
 
 -- the table that is shown has the lines from before
 abbrev pub ShowsOldLines : {E : Type 0} → Side → List (Entry E) → Table → Type 0
@@ -265,7 +209,7 @@ ShowsOldLines at past table = table.lines ≡ before at past
 
 -- The outcome and table of a step after this past, given the SDP that it made, the sides of the fresh pair, and the sides between the
 -- past and the step. Negotiation shows the channels from before, and one more that waits for each that was added. Inputs, polls, writes and
--- closes change no line.
+-- closes change no line, and a roll-back is the only other step that changes one.
 abbrev pub IsSound : {E : Type 0} → Stances → List (Entry E) → Stances → Step → Outcome E → Option Table → List MadeSdp → Type 0
 IsSound fresh past between (Time at now) outcome (Some table) said = (is_handled outcome ≡ true) × ShowsOldLines at past table
 IsSound fresh past between (Datagram at packet now) outcome (Some table) said = (is_heard outcome ≡ true) × ShowsOldLines at past table
@@ -276,6 +220,7 @@ IsSound fresh past between (Write at channel binary bytes) outcome (Some table) 
 IsSound fresh past between (CloseChannel at channel) outcome (Some table) said =
     (is_channel_closed outcome ≡ true) × ShowsOldLines at past table
 IsSound fresh past between (Close at) outcome (Some table) said = (is_handled outcome ≡ true) × ShowsOldLines at past table
+IsSound fresh past between (Raw at bytes now) outcome (Some table) said = (is_handled outcome ≡ true) × ShowsOldLines at past table
 IsSound fresh past between step Alloc None said = Unit {0}
 IsSound fresh past between (Negotiate at ops apply) (Negotiated answers made) (Some table) said =
     OpsAnswered (at_first (between at) at past (new_app table.lines said)) ops answers table.lines
@@ -283,11 +228,25 @@ IsSound fresh past between (Negotiate at ops apply) (Negotiated answers made) (S
     × (table.channels ≡ channels_shown at past ++ rows_waiting answers)
 IsSound fresh past between (AcceptOffer at offer) outcome (Some table) said =
     RepliesToOffer
-    (remote_sdp true at offer past) (view_in fresh at past (held_by (between at))) (length (sdps past)) outcome table.lines
+    (is_glare_at fresh at past) (remote_sdp true at offer past) (view_in fresh at past (held_by (between at)))
+    (length (sdps past)) outcome table.lines
     × (table.channels ≡ channels_shown at past)
 IsSound fresh past between (AcceptAnswer at token answer) outcome (Some table) said =
     RepliesToAnswer
     (holds_token at token past) (is_right at token past) (asked_in at token past)
     (remote_sdp false at answer past) (view_in fresh at past (held_by (between at))) outcome table.lines
+    × (table.channels ≡ channels_shown at past)
+IsSound fresh past between (Rollback at token) outcome (Some table) said =
+    RepliesToRollback
+    (holds_token at token past) (is_right at token past) (table_shown at past) (table_undone at token past) outcome table
+IsSound fresh past between (ForeignOffer at text) outcome (Some table) said =
+    RepliesToOffer
+    (is_glare_at fresh at past) (foreign text) (view_in fresh at past (held_by (between at)))
+    (length (sdps past)) outcome table.lines
+    × (table.channels ≡ channels_shown at past)
+IsSound fresh past between (ForeignAnswer at token text) outcome (Some table) said =
+    RepliesToAnswer
+    (holds_token at token past) (is_right at token past) (asked_in at token past)
+    (foreign text) (view_in fresh at past (held_by (between at))) outcome table.lines
     × (table.channels ≡ channels_shown at past)
 IsSound fresh past between step outcome table said = ⊥

@@ -7,7 +7,7 @@ use Rattle.rtc_peer_core.specs.Meanings.{Meanings}
 use Rattle.rtc_run_history.specs.declared.side.Side.{Side}
 use Rattle.rtc_run_history.specs.declared.step.Step.{Step}
 use Rattle.rtc_run_history.specs.declared.step.Step.TheVariants.{Negotiate, AcceptOffer, AcceptAnswer, Time, Datagram, Poll, Drain}
-use Rattle.rtc_run_history.specs.declared.step.Step.TheVariants.{Write, CloseChannel, Close}
+use Rattle.rtc_run_history.specs.declared.step.Step.TheVariants.{Write, CloseChannel, Close, Rollback, ForeignOffer, ForeignAnswer, Raw}
 use Rattle.rtc_run_history.specs.declared.outcome.Outcome.{Outcome}
 use Rattle.rtc_run_history.specs.declared.outcome.Outcome.TheVariants.{Negotiated, Answered, Finished, Done, Wrote, Polled, Refused}
 use Rattle.rtc_run_history.specs.declared.outcome.Outcome.TheVariants.{NoSuch, Alloc}
@@ -40,6 +40,10 @@ refuses_sdp (Drain at) outcome = false
 refuses_sdp (Write at channel binary bytes) outcome = false
 refuses_sdp (CloseChannel at channel) outcome = false
 refuses_sdp (Close at) outcome = false
+refuses_sdp (Rollback at token) outcome = tells_refusal outcome
+refuses_sdp (ForeignOffer at text) outcome = tells_refusal outcome
+refuses_sdp (ForeignAnswer at token text) outcome = tells_refusal outcome
+refuses_sdp (Raw at bytes now) outcome = false
 
 module _ {I D S M E X T W N : Type 0} (m : Meanings I D S M E X T W N) where
   -- how often this part of a peer failed
@@ -56,7 +60,7 @@ module _ {I D S M E X T W N : Type 0} (m : Meanings I D S M E X T W N) where
   CountsFault part at before after = Rose (faults_at part at before) (faults_at part at after)
 
   -- No count of faults falls, and a reply tells a fault only where that part of the acting side failed in this step. A side that
-  -- refuses an offer or an answer, for whatever cause, leaves the lines of its media part, and the sources that are in use.
+  -- refuses an offer, an answer or a token, for whatever cause, leaves the lines of its media part, and the sources that are in use.
   pub record IsSoundOfParts (between : PairState I D S M N) (entry : Entry E) (after : PairState I D S M N) : Type 0 where
     pub later : (part : CountedPart) (at : Side) → faults_at part at between ≤ faults_at part at after
     pub fault : (part : CountedPart) → tells_fault_of entry.outcome part ≡ true → CountsFault part (side_of entry.step) between after

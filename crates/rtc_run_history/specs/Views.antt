@@ -12,12 +12,12 @@ use Rattle.rtc_peer_core.specs.Stance.{Stance}
 use Rattle.rtc_run_history.specs.declared.side.Side.{Side}
 use Rattle.rtc_run_history.specs.declared.step.Step.{Step}
 use Rattle.rtc_run_history.specs.declared.step.Step.TheVariants.{Negotiate, AcceptOffer, AcceptAnswer, Time, Datagram, Poll, Drain}
-use Rattle.rtc_run_history.specs.declared.step.Step.TheVariants.{Write, CloseChannel, Close}
+use Rattle.rtc_run_history.specs.declared.step.Step.TheVariants.{Write, CloseChannel, Close, Rollback, ForeignOffer, ForeignAnswer, Raw}
 use Rattle.rtc_run_history.specs.declared.outcome.Outcome.{Outcome}
 use Rattle.rtc_run_history.specs.declared.outcome.Outcome.TheVariants.{Negotiated, Answered, Finished, Done, Wrote, Polled, Refused}
 use Rattle.rtc_run_history.specs.declared.outcome.Outcome.TheVariants.{NoSuch, Alloc}
 use Rattle.rtc_run_history.specs.Memory.{error_lacks, is_fault}
-use Rattle.rtc_run_history.specs.Signalled.{sdp_read}
+use Rattle.rtc_run_history.specs.Signalled.{foreign, sdp_read}
 use Rattle.rtc_run_history.specs.Sides.{same_side}
 use Rattle.rtc_run_history.specs.Answers.{has_app_row}
 use Rattle.rtc_run_history.specs.Past.{Entry, MadeSdp, before, sdps, remote_sdp}
@@ -34,6 +34,8 @@ AreFormed sides = (at : Side) → IsFormed (sides at)
 abbrev pub accepted_by : {E : Type 0} → Side → Step → Outcome E → List (Entry E) → Option Sdp
 accepted_by at (AcceptOffer side k) (Answered n) past = if same_side side at then sdp_read (remote_sdp true at k past) else None
 accepted_by at (AcceptAnswer side t a) Finished past = if same_side side at then sdp_read (remote_sdp false at a past) else None
+accepted_by at (ForeignOffer side text) (Answered n) past = if same_side side at then sdp_read (foreign text) else None
+accepted_by at (ForeignAnswer side t text) Finished past = if same_side side at then sdp_read (foreign text) else None
 accepted_by at step outcome past = None
 
 -- the last one that a side accepted
@@ -65,6 +67,10 @@ breaks_off at (Drain side) outcome = false
 breaks_off at (Write side channel binary bytes) outcome = false
 breaks_off at (CloseChannel side channel) outcome = false
 breaks_off at (Close side) outcome = false
+breaks_off at (Rollback side token) outcome = false
+breaks_off at (ForeignOffer side text) outcome = same_side side at && is_broken_off outcome
+breaks_off at (ForeignAnswer side t text) outcome = same_side side at && is_broken_off outcome
+breaks_off at (Raw side bytes now) outcome = false
 
 -- no acceptance of a side was broken off, so that the past tells what the side knows of the other one
 abbrev pub is_firm : {E : Type 0} → Side → List (Entry E) → Bool
@@ -116,6 +122,10 @@ init_brought at (Drain side) past = None
 init_brought at (Write side channel binary bytes) past = None
 init_brought at (CloseChannel side channel) past = None
 init_brought at (Close side) past = None
+init_brought at (Rollback side token) past = None
+init_brought at (ForeignOffer side text) past = init_in true (sdp_read (foreign text))
+init_brought at (ForeignAnswer side t text) past = init_in (init_told_by t past) (sdp_read (foreign text))
+init_brought at (Raw side bytes now) past = None
 
 -- The text of the other side's chunk that a side keeps: that which the session description that started the association told.
 abbrev pub init_kept : {E : Type 0} → Side → List (Entry E) → Option (List ℕ)

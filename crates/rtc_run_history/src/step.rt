@@ -2,7 +2,7 @@
 ghost use Rattle.std.specs.Prelude.{◌≡◌, ◌<◌, ◌^◌};
 
 use crate::{Op, Side};
-use rtc_wire::{Bytes, ChannelId, Moment, Seq};
+use rtc_wire::{Bytes, ChannelId, Moment, Seq, Text};
 
 /// What one peer of a pair does in a step.
 ///
@@ -62,13 +62,35 @@ pub enum Step {
     Close {
         at: Side,
     },
+    /// Rolls an offer of this side back, with its token.
+    Rollback {
+        at: Side,
+        token: u32,
+    },
+    /// Accepts an offer that anybody wrote, if it can be read.
+    ForeignOffer {
+        at: Side,
+        text: Text,
+    },
+    /// Accepts an answer that anybody wrote, if it can be read, with the token of an offer of this side.
+    ForeignAnswer {
+        at: Side,
+        token: u32,
+        text: Text,
+    },
+    /// Takes bytes of anybody at a moment, as a UDP datagram from the other side's address to this side's.
+    Raw {
+        at: Side,
+        bytes: Bytes,
+        now: Moment,
+    },
 }
 
 impl Step {
     ghost use Rattle.rtc_run_history.specs.Sides.{side_of};
     ghost use Rattle.rtc_run_history.specs.Sizes.{step_size};
 
-    /// One, and one more for each op: how many rows, channels and session descriptions the step can add.
+    /// One, and one more for each op or for each byte of a foreign text: how many rows, channels and session descriptions the step can add.
     pub fn size(&self) -> u64
         requires { step_size self.now < 2 ^ 64 }
         ensures { result ≡ step_size self.now }
@@ -84,6 +106,10 @@ impl Step {
             Step::Write { .. } => 1,
             Step::CloseChannel { .. } => 1,
             Step::Close { .. } => 1,
+            Step::Rollback { .. } => 1,
+            Step::ForeignOffer { text, .. } => 1 + text.as_str().len() as u64,
+            Step::ForeignAnswer { text, .. } => 1 + text.as_str().len() as u64,
+            Step::Raw { .. } => 1,
         }
     }
 
@@ -102,6 +128,10 @@ impl Step {
             Step::Write { at, .. } => *at,
             Step::CloseChannel { at, .. } => *at,
             Step::Close { at } => *at,
+            Step::Rollback { at, .. } => *at,
+            Step::ForeignOffer { at, .. } => *at,
+            Step::ForeignAnswer { at, .. } => *at,
+            Step::Raw { at, .. } => *at,
         }
     }
 }

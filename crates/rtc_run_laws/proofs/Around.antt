@@ -5,10 +5,10 @@ use Rattle.std.proofs.lemmas.List.{length-map}
 use Rattle.std.proofs.lemmas.Option.{slice_get-map}
 use Rattle.rtc_run_history.specs.declared.side.Side.{Side}
 use Rattle.rtc_run_history.specs.declared.step.Step.{Step}
-use Rattle.rtc_run_history.specs.declared.step.Step.TheVariants.{Negotiate, AcceptOffer, AcceptAnswer, Time, Datagram, Poll, Drain, Write, CloseChannel, Close}
+use Rattle.rtc_run_history.specs.declared.step.Step.TheVariants.{Negotiate, AcceptOffer, AcceptAnswer, Time, Datagram, Poll, Drain, Write, CloseChannel, Close, Rollback, ForeignOffer, ForeignAnswer, Raw}
 use Rattle.rtc_run_history.specs.declared.outcome.Outcome.{Outcome}
 use Rattle.rtc_run_history.specs.declared.table.Table.{Table}
-use Rattle.rtc_run_history.specs.Sides.{same_side, other_side, side_of}
+use Rattle.rtc_run_history.specs.Sides.{other_side, side_of}
 use Rattle.rtc_run_history.specs.Sizes.{step_size}
 use Rattle.rtc_run_history.specs.Past.{Entry, MadeSdp, before, channels_shown, channel_rows_or, numbers_in, numbers_told, numbers_or, rows_or, sdps, sdp_for, remote_sdp, spends, moves, makes}
 use Rattle.rtc_run_history.specs.Signalled.{signalled_if}
@@ -40,6 +40,10 @@ one_at_least (Drain at) = omega arith
 one_at_least (Write at channel binary bytes) = omega arith
 one_at_least (CloseChannel at channel) = omega arith
 one_at_least (Close at) = omega arith
+one_at_least (Rollback at token) = omega arith
+one_at_least (ForeignOffer at text) = omega arith
+one_at_least (ForeignAnswer at token text) = omega arith
+one_at_least (Raw at bytes now) = omega arith
 
 pub size_grows : (step : Step) (made : List MadeSdp) (old new : PairStance) → Around step made old new → old.size + 1 ≤ new.size
 size_grows step made old new around = omega (arith, one_at_least step, around.size)
@@ -73,6 +77,7 @@ channels_next past step outcome table made s t numbered shown tell =
       shown = sym shown ∙ sym (ap (λ b. channel_rows_or b table (channels_shown (side_of step) past)) (same_side-self (side_of step)));
       few = rw all (omega (arith, numbered.few, tell.few, length-append (numbers_in outcome) earlier));
       below = numbered.below tell.below;
+      rising = numbered.rising tell.below tell.rising;
       told = rw all (less_append t.channels.given (numbers_in outcome) earlier (numbered.told tell.below) (less_weaker s.channels.given t.channels.given earlier numbered.rises tell.told));
     }
 

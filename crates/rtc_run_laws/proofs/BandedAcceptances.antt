@@ -13,7 +13,7 @@ use Rattle.rtc_sctp_values.specs.declared.sctp_error.SctpError.TheVariants.{Prot
 use Rattle.rtc_channels.specs.Channels.{all_confirmed}
 use Rattle.rtc_peer_core.specs.declared.peer.Peer.{Peer}
 use Rattle.rtc_peer_core.specs.declared.rtc_error.RtcError.{RtcError}
-use Rattle.rtc_peer_core.specs.declared.rtc_error.RtcError.TheVariants.{RemoteSdp, Sdp as SdpRefused, Dtls, Sctp, Net, Media as MediaFailed, ChangesOutOfOrder, BadChannel, Alloc}
+use Rattle.rtc_peer_core.specs.declared.rtc_error.RtcError.TheVariants.{RemoteSdp, Sdp as SdpRefused, Dtls, Sctp, Net, Media as MediaFailed, ChangesOutOfOrder, BadChannel, Alloc, Glare}
 use Rattle.rtc_peer_core.specs.Meanings.{Meanings}
 use Rattle.rtc_peer_core.specs.Calls.{raised, control_for, fitting_channels}
 use Rattle.rtc_peer_core.specs.MadeSdp.{role_after}
@@ -38,8 +38,8 @@ module _ {I D S M E X T W N : Type 0} (m : Meanings I D S M E X T W N) (w : Asso
         h.sctp_starts).0,
     ap (λ (x : Peer I D S M N). x.channels) h.rest,
   )
-  offer_left p offer (Err (RemoteSdp why)) c h = left_as p _ c h.1 refl refl
-  offer_left p offer (Err (SdpRefused error)) c h = left_as p _ c h.1 refl refl
+  offer_left p offer (Err (RemoteSdp why)) c h = left_as p _ c h.1.1 refl refl
+  offer_left p offer (Err (SdpRefused error)) c h = left_as p _ c h.1.1 refl refl
   offer_left p offer (Err (Dtls Fault)) c h = left_as p _ c h.rest refl refl
   offer_left p offer (Err (Dtls WouldBlock)) c h = absurd h
   offer_left p offer (Err (Dtls DtlsAlloc)) c h = absurd h
@@ -53,6 +53,7 @@ module _ {I D S M E X T W N : Type 0} (m : Meanings I D S M E X T W N) (w : Asso
   offer_left p offer (Err (Net cause)) c h = absurd h
   offer_left p offer (Err (MediaFailed cause)) c h = absurd h
   offer_left p offer (Err BadChannel) c h = absurd h
+  offer_left p offer (Err Glare) c h = left_as p p c h.1 refl refl
   offer_left p offer (Err Alloc) c h = (
     (stops_entries m w p (raised p.counter) None [] offer (followed_restart m p offer) (control_for p.dtls.active offer.ice_lite) (answer_ids m p offer) c
         h.stops).0,
@@ -79,6 +80,7 @@ module _ {I D S M E X T W N : Type 0} (m : Meanings I D S M E X T W N) (w : Asso
   answer_left p token answer (Err (Net cause)) c h = absurd h
   answer_left p token answer (Err (MediaFailed cause)) c h = absurd h
   answer_left p token answer (Err BadChannel) c h = absurd h
+  answer_left p token answer (Err Glare) c h = absurd h
   answer_left p token answer (Err ChangesOutOfOrder) c h = still p token c (left_as p p c h.1 refl refl)
   answer_left p token answer (Err (RemoteSdp why)) c h = still p token c (left_as p _ c h.1.1 refl refl)
   answer_left p token answer (Err (SdpRefused error)) c h = still p token c (left_as p _ c h.1.1 refl refl)

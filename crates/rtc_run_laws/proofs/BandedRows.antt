@@ -76,7 +76,7 @@ confirmed_one id config [] none h = tt
 confirmed_one id config (row ∷ rows) none h = by (has_id id row) (confirmed_one id config rows none h.1)
   where
     by : (b : Bool) → AreBandedRows (rows_confirmed id config rows)
-        → AreBandedRows (if b then record row { config = Some config } ∷ rows else row ∷ rows_confirmed id config rows)
+        → AreBandedRows (if b then record row { config = Some config; confirmed = true } ∷ rows else row ∷ rows_confirmed id config rows)
     by true rest = ((h.0.0, own_config config none), h.1)
     by false rest = (h.0, rest)
 

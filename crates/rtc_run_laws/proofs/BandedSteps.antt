@@ -1,6 +1,7 @@
 -- Where a step settles no channel by other means than messages none is so behind it, nor an entry of a stream, if none was before and the
 -- peer is not closed.
-use Rattle.std.proofs.Common.{◌≡◌, ◌∙◌, ◌⊎◌, inl, inr, ◌&&◌, not, ℕ, Bool, true, false, List, Option, Some, None, Result, Ok, Err, sym, ap, subst}
+use Rattle.std.proofs.Common.{◌≡◌, ◌∙◌, ◌⊎◌, inl, inr, ◌&&◌, not, ℕ, Bool, true, false, true≢false, List, Option, Some, None, Result, Ok, Err, sym, ap, subst}
+use Rattle.rtc_wire.specs.declared.addr.Addr.{Addr}
 use Rattle.rtc_sctp_entries.specs.declared.stream_entry.StreamEntry.{StreamEntry}
 use Rattle.rtc_channels.specs.Channels.{Channels, all_confirmed}
 use Rattle.rtc_change.specs.PendingOffer.{PendingOffer}
@@ -31,9 +32,10 @@ use Rattle.rtc_run_history.specs.declared.sent_packet.SentPacket.{SentPacket}
 use Rattle.rtc_run_history.specs.declared.side.Side.{Side}
 use Rattle.rtc_run_history.specs.declared.step.Step.{Step}
 use Rattle.rtc_run_history.specs.declared.step.Step.TheVariants.{Negotiate, AcceptOffer, AcceptAnswer, Time, Datagram, Poll, Drain}
-use Rattle.rtc_run_history.specs.declared.step.Step.TheVariants.{Write, CloseChannel, Close}
+use Rattle.rtc_run_history.specs.declared.step.Step.TheVariants.{Write, CloseChannel, Close, Rollback, ForeignOffer, ForeignAnswer, Raw}
 use Rattle.rtc_run_history.specs.declared.table.Table.{Table}
 use Rattle.rtc_run_history.specs.Memory.{answers_lack}
+use Rattle.rtc_run_history.specs.Native.{goes_forward}
 use Rattle.rtc_run_history.specs.PairState.{held_token, kept_remote_sdp, remote_packet}
 use Rattle.rtc_run_history.specs.Performs.{Acts, Negotiates, StepAcceptsAnswer, StepAcceptsOffer, kept_answer, lent}
 use Rattle.rtc_run_history.specs.Signalled.{Signalled, NotMade, Unreadable, Readable}
@@ -183,35 +185,39 @@ module _ {I D S M E X T W N : Type 0} (m : Meanings I D S M E X T W N) (laws : P
 
   -- ---- each step, an arm each
 
-  pub acts_band : (stun : List ℕ → Bool) (step : Step) (old : PolledPeer I D S M N) (sdps : List Kept) (packets : List SentPacket)
-      (outcome : Outcome E) (table : Option Table) (new : PolledPeer I D S M N) (sdps' : List Kept) (packets' : List SentPacket) → IsInBandStep step
-      → Acts m stun step old sdps packets outcome table new sdps' packets' → StepBanded old sdps new sdps'
-  acts_band stun (Negotiate at ops apply) old sdps packets outcome table new sdps' packets' band h =
+  pub acts_band : (stun : List ℕ → Bool) (other own : Addr) (step : Step) (old : PolledPeer I D S M N) (sdps : List Kept) (packets : List SentPacket)
+      (outcome : Outcome E) (table : Option Table) (new : PolledPeer I D S M N) (sdps' : List Kept) (packets' : List SentPacket) → goes_forward step ≡ true → IsInBandStep step
+      → Acts m stun other own step old sdps packets outcome table new sdps' packets' → StepBanded old sdps new sdps'
+  acts_band stun other own (Negotiate at ops apply) old sdps packets outcome table new sdps' packets' go band h =
       negotiates_band at ops apply old sdps outcome table new sdps' band h.0
-  acts_band stun (AcceptOffer at offer) old sdps packets outcome table new sdps' packets' band h =
+  acts_band stun other own (AcceptOffer at offer) old sdps packets outcome table new sdps' packets' go band h =
       offer_band at (kept_remote_sdp true sdps at offer) old sdps outcome table new sdps' h.0
       (offer_step_keeps m laws.association at (kept_remote_sdp true sdps at offer) old sdps outcome table new sdps' h.0).closed
-  acts_band stun (AcceptAnswer at token answer) old sdps packets outcome table new sdps' packets' band h =
+  acts_band stun other own (AcceptAnswer at token answer) old sdps packets outcome table new sdps' packets' go band h =
       token_band token (held_token sdps at token) (kept_remote_sdp false sdps at answer) old sdps outcome table new sdps' h.0
       (answer_step_keeps m laws.association token (held_token sdps at token) (kept_remote_sdp false sdps at answer) old sdps outcome table new sdps'
       h.0).closed
       (held_banded sdps at token)
-  acts_band stun (Time at now) old sdps packets outcome table new sdps' packets' band h =
+  acts_band stun other own (Time at now) old sdps packets outcome table new sdps' packets' go band h =
       same_tokens old sdps new sdps' h.1
       (calls_keep m (KeepsBand m) calls_band (HandlesInput m (given.Timeout now)) (λ p r q x. input_band m (given.Timeout now) p r q x) old outcome table
       new h.0)
-  acts_band stun (Datagram at packet now) old sdps packets outcome table new sdps' packets' band h =
+  acts_band stun other own (Datagram at packet now) old sdps packets outcome table new sdps' packets' go band h =
       same_tokens old sdps new sdps' h.1
       (datagram_keep m (KeepsBand m) calls_band stun (remote_packet packets at packet) now old outcome table new h.0)
-  acts_band stun (Poll at) old sdps packets outcome table new sdps' packets' band h =
+  acts_band stun other own (Poll at) old sdps packets outcome table new sdps' packets' go band h =
       same_tokens old sdps new sdps' h.1 (poll_keep m (KeepsBand m) calls_band at old packets outcome table new packets' h.0)
-  acts_band stun (Drain at) old sdps packets outcome table new sdps' packets' band h =
+  acts_band stun other own (Drain at) old sdps packets outcome table new sdps' packets' go band h =
       same_tokens old sdps new sdps' h.1 (drain_keep m (KeepsBand m) calls_band at old packets outcome table new packets' h.0)
-  acts_band stun (Write at channel binary bytes) old sdps packets outcome table new sdps' packets' band h =
+  acts_band stun other own (Write at channel binary bytes) old sdps packets outcome table new sdps' packets' go band h =
       same_tokens old sdps new sdps' h.1
       (write_keep m (KeepsBand m) calls_band (open_stream_under channel old) binary bytes old outcome table new h.0)
-  acts_band stun (CloseChannel at channel) old sdps packets outcome table new sdps' packets' band h =
+  acts_band stun other own (CloseChannel at channel) old sdps packets outcome table new sdps' packets' go band h =
       same_tokens old sdps new sdps' h.1
       (close_keep m (KeepsBand m) calls_band (open_stream_under channel old) channel old outcome table new h.0)
-  acts_band stun (Close at) old sdps packets outcome table new sdps' packets' band h =
+  acts_band stun other own (Close at) old sdps packets outcome table new sdps' packets' go band h =
       same_tokens old sdps new sdps' h.1 (calls_keep m (KeepsBand m) calls_band (ClosesPeer m) close_band old outcome table new h.0)
+  acts_band stun other own (Rollback at token) old sdps packets outcome table new sdps' packets' go band h = absurd (true≢false (sym go))
+  acts_band stun other own (ForeignOffer at text) old sdps packets outcome table new sdps' packets' go band h = absurd (true≢false (sym go))
+  acts_band stun other own (ForeignAnswer at token text) old sdps packets outcome table new sdps' packets' go band h = absurd (true≢false (sym go))
+  acts_band stun other own (Raw at bytes now) old sdps packets outcome table new sdps' packets' go band h = absurd (true≢false (sym go))

@@ -11,7 +11,7 @@ use Rattle.rtc_run_history.specs.declared.op.Op.TheVariants.{AddMedia, SetDirect
 use Rattle.rtc_run_history.specs.declared.op_answer.OpAnswer.{OpAnswer}
 use Rattle.rtc_run_history.specs.declared.op_answer.OpAnswer.TheVariants.{Mid, Changed, NoLine, Channel as Numbered, BadChannel, Alloc as OpAlloc, Creds}
 use Rattle.rtc_run_history.specs.declared.step.Step.{Step}
-use Rattle.rtc_run_history.specs.declared.step.Step.TheVariants.{Negotiate, AcceptOffer, AcceptAnswer, Time, Datagram, Poll, Drain, Write, CloseChannel, Close}
+use Rattle.rtc_run_history.specs.declared.step.Step.TheVariants.{Negotiate, AcceptOffer, AcceptAnswer, Time, Datagram, Poll, Drain, Write, CloseChannel, Close, Rollback, ForeignOffer, ForeignAnswer, Raw}
 use Rattle.rtc_run_history.specs.declared.outcome.Outcome.{Outcome}
 use Rattle.rtc_run_history.specs.declared.outcome.Outcome.TheVariants.{Negotiated, Answered, Finished, Done, Wrote, Polled, Refused, NoSuch, Alloc}
 use Rattle.rtc_run_history.specs.Sides.{same_side, side_of}
@@ -19,7 +19,7 @@ use Rattle.rtc_run_history.specs.Sizes.{step_size, steps_size}
 use Rattle.rtc_run_history.specs.Answers.{numbers_answered}
 use Rattle.rtc_run_history.specs.declared.table.Table.{Table}
 use Rattle.rtc_run_history.specs.Past.{Entry, MadeSdp, remote_sdp, holds_token, is_right, new_app, numbers_in, numbers_told, numbers_or}
-use Rattle.rtc_run_history.specs.Sound.{Midway, holding_mid, having_rows, having_channel, OpsAnswered, RepliesToOffer, RepliesToAnswer, IsSound, asked_in, at_first}
+use Rattle.rtc_run_history.specs.Sound.{Midway, holding_mid, having_rows, having_channel, OpsAnswered, RepliesToOffer, RepliesToAnswer, IsSound, asked_in, at_first, is_glare_at}
 use Rattle.rtc_run_history.specs.Orderly.{AreNumbersLeft, negotiates}
 use Rattle.rtc_run_history.specs.Views.{Stances}
 use Rattle.rtc_change.specs.Held.{Held, Asked}
@@ -82,20 +82,26 @@ ops_within m (IceRestart keep ∷ ops) (OpAlloc ∷ []) after answered = omega a
 ops_within m ops answers after answered = absurd answered
 
 -- acceptances tell none
-offer_untold : {E : Type 0} → (sdp : Signalled) (view : Held) (next : ℕ) (outcome : Outcome E) (after : List LineRow) → RepliesToOffer sdp view next outcome after → numbers_in outcome ≡ []
-offer_untold NotMade view next (Negotiated answers made) after takes = absurd takes
-offer_untold (Unreadable line) view next (Negotiated answers made) after takes = absurd takes
-offer_untold (Readable sdp) view next (Negotiated answers made) after takes = absurd takes
-offer_untold NotMade view next (Polled outputs end) after takes = absurd takes
-offer_untold (Unreadable line) view next (Polled outputs end) after takes = absurd takes
-offer_untold (Readable sdp) view next (Polled outputs end) after takes = absurd takes
-offer_untold sdp view next (Answered k) after takes = refl
-offer_untold sdp view next Finished after takes = refl
-offer_untold sdp view next Done after takes = refl
-offer_untold sdp view next (Wrote taken) after takes = refl
-offer_untold sdp view next (Refused error) after takes = refl
-offer_untold sdp view next NoSuch after takes = refl
-offer_untold sdp view next Alloc after takes = refl
+offer_untold : {E : Type 0} → (glare : Bool) (sdp : Signalled) (view : Held) (next : ℕ) (outcome : Outcome E) (after : List LineRow) → RepliesToOffer glare sdp view next outcome after → numbers_in outcome ≡ []
+offer_untold true NotMade view next (Negotiated answers made) after takes = absurd takes
+offer_untold true (Unreadable line) view next (Negotiated answers made) after takes = absurd takes
+offer_untold true (Readable sdp) view next (Negotiated answers made) after takes = absurd takes
+offer_untold false NotMade view next (Negotiated answers made) after takes = absurd takes
+offer_untold false (Unreadable line) view next (Negotiated answers made) after takes = absurd takes
+offer_untold false (Readable sdp) view next (Negotiated answers made) after takes = absurd takes
+offer_untold true NotMade view next (Polled outputs end) after takes = absurd takes
+offer_untold true (Unreadable line) view next (Polled outputs end) after takes = absurd takes
+offer_untold true (Readable sdp) view next (Polled outputs end) after takes = absurd takes
+offer_untold false NotMade view next (Polled outputs end) after takes = absurd takes
+offer_untold false (Unreadable line) view next (Polled outputs end) after takes = absurd takes
+offer_untold false (Readable sdp) view next (Polled outputs end) after takes = absurd takes
+offer_untold glare sdp view next (Answered k) after takes = refl
+offer_untold glare sdp view next Finished after takes = refl
+offer_untold glare sdp view next Done after takes = refl
+offer_untold glare sdp view next (Wrote taken) after takes = refl
+offer_untold glare sdp view next (Refused error) after takes = refl
+offer_untold glare sdp view next NoSuch after takes = refl
+offer_untold glare sdp view next Alloc after takes = refl
 
 answer_untold : {E : Type 0} → (held right : Bool) (asked : Asked) (sdp : Signalled) (view : Held) (outcome : Outcome E) (after : List LineRow) → RepliesToAnswer held right asked sdp view outcome after → numbers_in outcome ≡ []
 answer_untold false right asked sdp view (Negotiated answers made) after takes = absurd takes
@@ -127,7 +133,7 @@ told_within fresh between past (Negotiate at ops apply) (Negotiated answers what
     let some = ops_within (at_first (between at) at past (new_app table.lines made)) ops answers table.lines sound.0 in omega (arith, some)
 told_within fresh between past (AcceptOffer at k) Alloc None made negotiating sound = omega arith
 told_within fresh between past (AcceptOffer at k) outcome (Some table) made negotiating sound =
-    none_told outcome 0 (offer_untold (remote_sdp true at k past) _ _ outcome table.lines (offer_taking fresh between past at k outcome table made sound))
+    none_told outcome 0 (offer_untold (is_glare_at fresh at past) (remote_sdp true at k past) _ _ outcome table.lines (offer_taking fresh between past at k outcome table made sound))
 told_within fresh between past (AcceptAnswer at t a) Alloc None made negotiating sound = omega arith
 told_within fresh between past (AcceptAnswer at t a) outcome (Some table) made negotiating sound =
     none_told outcome 0 (answer_untold (holds_token at t past) (is_right at t past) (asked_in at t past) (remote_sdp false at a past) _ outcome table.lines (answer_taking fresh between past at t a outcome table made sound))
@@ -138,6 +144,10 @@ told_within fresh between past (Drain at) outcome table made negotiating sound =
 told_within fresh between past (Write at channel binary bytes) outcome table made negotiating sound = absurd (cc)
 told_within fresh between past (CloseChannel at channel) outcome table made negotiating sound = absurd (cc)
 told_within fresh between past (Close at) outcome table made negotiating sound = absurd (cc)
+told_within fresh between past (Rollback at t) outcome table made negotiating sound = absurd (cc)
+told_within fresh between past (ForeignOffer at text) outcome table made negotiating sound = absurd (cc)
+told_within fresh between past (ForeignAnswer at t text) outcome table made negotiating sound = absurd (cc)
+told_within fresh between past (Raw at bytes now) outcome table made negotiating sound = absurd (cc)
 told_within fresh between past step outcome table made negotiating sound = absurd sound
 
 -- ---- channels that every peer makes

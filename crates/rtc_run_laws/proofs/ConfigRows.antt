@@ -85,7 +85,7 @@ confirmed_rows c id config [] h = absurd h
 confirmed_rows c id config (row ∷ rows) h = by (has_id id row) h (confirmed_rows c id config rows)
   where
     by : (b : Bool) → HasConfig c (row ∷ rows) → (HasConfig c rows → HasConfig c (rows_confirmed id config rows))
-        → HasConfig c (if b then record row { config = Some config } ∷ rows else row ∷ rows_confirmed id config rows)
+        → HasConfig c (if b then record row { config = Some config; confirmed = true } ∷ rows else row ∷ rows_confirmed id config rows)
     by true (inl k) rest = inl (k.0, refl)
     by true (inr k) rest = inr k
     by false (inl k) rest = inl k

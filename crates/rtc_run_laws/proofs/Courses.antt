@@ -19,7 +19,7 @@ use Rattle.rtc_run_history.specs.declared.outcome.Outcome.TheVariants.{Answered,
 use Rattle.rtc_run_history.specs.declared.table.Table.{Table}
 use Rattle.rtc_run_history.specs.Sides.{same_side, other_side, side_of}
 use Rattle.rtc_run_history.specs.Past.{Entry, MadeSdp, before, rows_or, sdps, sdp_for, remote_sdp, holds_token, is_right, added_by, restarts_by}
-use Rattle.rtc_run_history.specs.Sound.{IsSound, asked_in}
+use Rattle.rtc_run_history.specs.Sound.{IsSound, asked_in, is_glare_at}
 use Rattle.rtc_run_history.specs.SaidRows.{row_said, MakesSdp}
 use Rattle.rtc_run_history.specs.CourseRows.{unnamed, course_rows_after}
 use Rattle.rtc_run_history.specs.Orderly.{Phase, Idle, AwaitsAnswer, AwaitsEnd, Course, course_rows, moved_on}
@@ -166,7 +166,7 @@ pub accepted_next : {E : Type 0} → (fresh between : Stances) (at : Side) (n m 
     → Accepted at n m (course_rows_after true 0 seen said) (entry (AcceptOffer (other_side at) n) (Answered j) (Some table) made ∷ past) table
 accepted_next {E} fresh between at n m said seen past j table made read sound out side count replied says =
     let may : MayAccept out.offer at n past = may_accept fresh at n said past read sound out in
-    let it = answered E (remote_sdp true (other_side at) n past) (view_in fresh (other_side at) past (held_by (between (other_side at)))) (length (sdps past)) j table.lines replied.0 in
+    let it = answered E (is_glare_at fresh (other_side at) past) (remote_sdp true (other_side at) n past) (view_in fresh (other_side at) past (held_by (between (other_side at)))) (length (sdps past)) j table.lines replied.0 in
     let text_is : it.offer ≡ as_read out.offer.sdp = read_same _ _ (sym it.is ∙ may.remote_is) in
     let after : table.lines ≡ rows_after theirs true 0 (map row_said offered) = it.leaves ∙ ap (λ sdp. table_after theirs (parsed_lines sdp) true) text_is ∙ may.leaves in
     let table_of : IsTable theirs = past_table fresh past (other_side at) sound in

@@ -1,5 +1,5 @@
 -- Where a side was drained, all was got that was sent.
-use Rattle.std.proofs.Common.{◌≡◌, ◌∙◌, ◌∷◌, ap, if◌then◌else◌, ℕ, Bool, false, true≢false, List, [], refl, sym, subst}
+use Rattle.std.proofs.Common.{◌≡◌, ◌∙◌, ◌∷◌, ap, if◌then◌else◌, ℕ, Bool, true, false, true≢false, List, [], refl, sym, subst}
 use Rattle.rtc_part_association.specs.AssociationActs.{LimitsSet, Stirred}
 use Rattle.rtc_part_values.specs.Why.{Other}
 use Rattle.rtc_assoc_state.proofs.PlainLaws.{plain_laws}
@@ -17,8 +17,9 @@ use Rattle.rtc_run_history.specs.declared.reply.Reply.{Reply}
 use Rattle.rtc_run_history.specs.declared.side.Side.{Side}
 use Rattle.rtc_run_history.specs.declared.side.Side.TheVariants.{Left, Right}
 use Rattle.rtc_run_history.specs.declared.step.Step.{Step}
-use Rattle.rtc_run_history.specs.PairState.{rtc_at}
-use Rattle.rtc_run_history.specs.Past.{Entry}
+use Rattle.rtc_run_history.specs.Native.{go_forward}
+use Rattle.rtc_run_history.specs.PairState.{addr_at, rtc_at}
+use Rattle.rtc_run_history.specs.Past.{Entry, steps_of}
 use Rattle.rtc_run_history.specs.Runs.{Reached, Runs}
 use Rattle.rtc_run_history.specs.Sides.{other_side, same_side, side_of}
 use Rattle.rtc_run_history.specs.Performs.{Enters}
@@ -37,6 +38,7 @@ use Rattle.rtc_run_laws.proofs.DrainedSteps.{acts_heard}
 use Rattle.rtc_run_laws.proofs.HeardSides.{HeardSide, heard_there}
 use Rattle.rtc_run_laws.proofs.StandingSides.{Sent}
 use Rattle.rtc_run_laws.proofs.RunsTold.{PairTold, StoodIn, new_pair_told, pair_handed, pair_once, pair_told_whole, pair_whole, pair_wholly, reached_told, stood_in}
+use Rattle.rtc_run_laws.proofs.ForwardSteps.{forward_entry}
 
 module _ {N : Type 0} (draws : Draws N) where
   -- a new pair has no stream in use, and has started no association
@@ -77,18 +79,18 @@ module _ {N : Type 0} (draws : Draws N) where
   heard_after Right Right between pair uses acted step outcome earlier other acts before d = acts before d
 
   heard_reached : (stun : List ℕ → Bool) (start : PlainPair N) (past : List (Entry PlainMediaEvent)) (pair : PlainPair N)
-      (ran : Reached (plain_over draws) stun start past pair) → PairTold draws start (λ x. []) (λ x s g. []) (λ x c s g. []) → AreUnused (plain_over draws) (plain_over_laws draws) start
+      → go_forward (steps_of past) ≡ true → (ran : Reached (plain_over draws) stun start past pair) → PairTold draws start (λ x. []) (λ x s g. []) (λ x c s g. []) → AreUnused (plain_over draws) (plain_over_laws draws) start
       → (at : Side) → IsDrained at past → HeardSide (uses_of (plain_over draws) stun start at past pair ran) (rtc_at at pair)
-  heard_reached stun start [] pair ran h unused at d = absurd d
-  heard_reached stun start (entry ∷ past) pair ran h unused at d =
+  heard_reached stun start [] pair go ran h unused at d = absurd d
+  heard_reached stun start (entry ∷ past) pair go ran h unused at d =
       heard_after (side_of entry.step) at ran.0 pair uses acted entry.step entry.outcome
       (λ x. IsDrained x past) ran.2.performs.other
       (λ before e.
-      acts_heard draws there.other (rtc_at (other_side (side_of entry.step)) ran.0) (sent (side_of entry.step)) stun entry.step (rtc_at (side_of entry.step) ran.0) ran.0.sdps
+      acts_heard draws there.other (rtc_at (other_side (side_of entry.step)) ran.0) (sent (side_of entry.step)) stun (addr_at (other_side (side_of entry.step)) ran.0) (addr_at (side_of entry.step) ran.0) entry.step (rtc_at (side_of entry.step) ran.0) ran.0.sdps
       ran.0.packets entry.outcome entry.table (rtc_at (side_of entry.step) pair) pair.sdps pair.packets (uses (side_of entry.step))
-      (told (side_of entry.step)) ran.2.performs.acts there.stood (IsDrained (side_of entry.step) past) before e
+      (told (side_of entry.step)) (forward_entry entry past go).1 ran.2.performs.acts there.stood (IsDrained (side_of entry.step) past) before e
       (empty (side_of entry.step)))
-      (λ e. heard_reached stun start past ran.0 ran.1 h unused at e) d
+      (λ e. heard_reached stun start past ran.0 (forward_entry entry past go).0 ran.1 h unused at e) d
     where
       uses : Side → List ChannelUse
       uses x = uses_of (plain_over draws) stun start x past ran.0 ran.1
@@ -101,7 +103,7 @@ module _ {N : Type 0} (draws : Draws N) where
 
       acted : List ChannelUse → List ChannelUse
       acted l =
-          uses_acted (plain_over draws) stun entry.step (rtc_at (side_of entry.step) ran.0) ran.0.sdps ran.0.packets entry.outcome entry.table
+          uses_acted (plain_over draws) stun (addr_at (other_side (side_of entry.step)) ran.0) (addr_at (side_of entry.step) ran.0) entry.step (rtc_at (side_of entry.step) ran.0) ran.0.sdps ran.0.packets entry.outcome entry.table
           (rtc_at (side_of entry.step) pair) pair.sdps pair.packets ran.2.performs.acts l
 
       empty : AreUnused (plain_over draws) (plain_over_laws draws) pair
@@ -110,27 +112,28 @@ module _ {N : Type 0} (draws : Draws N) where
           (λ earlier between one after k. (stun, k)) start (entry ∷ past) pair unused ran
 
       there : StoodIn draws (side_of entry.step) ran.0 uses sent told
-      there = stood_in draws (side_of entry.step) ran.0 uses sent told (reached_told draws stun start past ran.0 ran.1 h)
+      there = stood_in draws (side_of entry.step) ran.0 uses sent told (reached_told draws stun start past ran.0 (forward_entry entry past go).0 ran.1 h)
 
   pub pair_drained : (stun : List ℕ → Bool) (start : PlainPair N) (past : List (Entry PlainMediaEvent)) (pair : PlainPair N)
-      (ran : Reached (plain_over draws) stun start past pair) → PairTold draws start (λ x. []) (λ x s g. []) (λ x c s g. []) → AreUnused (plain_over draws) (plain_over_laws draws) start
+      → go_forward (steps_of past) ≡ true → (ran : Reached (plain_over draws) stun start past pair) → PairTold draws start (λ x. []) (λ x s g. []) (λ x c s g. []) → AreUnused (plain_over draws) (plain_over_laws draws) start
       → (at : Side) → IsDrained at past
       → AreAllHandedOut draws (uses_of (plain_over draws) stun start at past pair ran) (rtc_at at pair)
       (uses_of (plain_over draws) stun start (other_side at) past pair ran) (rtc_at (other_side at) pair)
-  pair_drained stun start past pair ran h unused at d = λ x y mine theirs joined acknowledged.
+  pair_drained stun start past pair go ran h unused at d = λ x y mine theirs joined acknowledged.
       pair_wholly draws pair (λ z. uses_of (plain_over draws) stun start z past pair ran) (λ z. sent_over (plain_over draws) stun start z past pair ran)
-      (λ z. told_over (plain_over draws) stun start z past pair ran) at (reached_told draws stun start past pair ran h) x y mine theirs
+      (λ z. told_over (plain_over draws) stun start z past pair ran) at (reached_told draws stun start past pair go ran h) x y mine theirs
       joined acknowledged
-      (heard_there draws (uses_of (plain_over draws) stun start at past pair ran) (rtc_at at pair) x (heard_reached stun start past pair ran h unused at d) mine
+      (heard_there draws (uses_of (plain_over draws) stun start at past pair ran) (rtc_at at pair) x (heard_reached stun start past pair go ran h unused at d) mine
       joined.reader_in_band joined.reader)
 
   pub run_hands_out : (stun : List ℕ → Bool) (start pair : PlainPair N) (steps : List Step) (replies : List (Reply PlainMediaEvent)) → IsNewPair draws start
-      → (run : Runs (plain_over draws) stun start steps replies pair) → HandsOut draws stun start steps replies pair run
-  run_hands_out stun start pair steps replies new run =
+      → go_forward steps ≡ true → (run : Runs (plain_over draws) stun start steps replies pair) → HandsOut draws stun start steps replies pair run
+  run_hands_out stun start pair steps replies new forward run =
+      let go : go_forward (steps_of run.past) ≡ true = ap go_forward run.steps_are ∙ forward in
       let ran : Reached (plain_over draws) stun start run.past pair = reached_by (plain_over draws) stun start run.past pair run.went in
       let told : PairTold draws pair (uses_in_run (plain_over draws) stun start steps replies pair run) (λ z. sent_over (plain_over draws) stun start z run.past pair ran)
       (λ z. told_over (plain_over draws) stun start z run.past pair ran) =
-      reached_told draws stun start run.past pair ran (new_pair_told draws start new) in
+      reached_told draws stun start run.past pair go ran (new_pair_told draws start new) in
       record {
         once = λ at. pair_once draws pair (uses_in_run (plain_over draws) stun start steps replies pair run) (λ z. sent_over (plain_over draws) stun start z run.past pair ran)
             (λ z. told_over (plain_over draws) stun start z run.past pair ran) at told;
@@ -142,5 +145,5 @@ module _ {N : Type 0} (draws : Draws N) where
             (λ z. told_over (plain_over draws) stun start z run.past pair ran) at told;
         all = λ at. pair_wholly draws pair (uses_in_run (plain_over draws) stun start steps replies pair run) (λ z. sent_over (plain_over draws) stun start z run.past pair ran)
             (λ z. told_over (plain_over draws) stun start z run.past pair ran) at told;
-        drained = λ at d. pair_drained stun start run.past pair ran (new_pair_told draws start new) (new_unused start new) at d;
+        drained = λ at d. pair_drained stun start run.past pair go ran (new_pair_told draws start new) (new_unused start new) at d;
       }

@@ -1,5 +1,6 @@
 -- Steps keep what holds of a side that was drained.
-use Rattle.std.proofs.Common.{◌≡◌, ◌∷◌, ℕ, Bool, true, false, List, [], Option, Some, None, Result, Ok, Err, alloc_error, inl, inr}
+use Rattle.std.proofs.Common.{◌≡◌, ◌∷◌, ℕ, Bool, true, false, true≢false, List, [], Option, Some, None, Result, Ok, Err, alloc_error, inl, inr, sym}
+use Rattle.rtc_wire.specs.declared.addr.Addr.{Addr}
 use Rattle.rtc_part_values.specs.Among.{Member}
 use Rattle.rtc_assoc_state.proofs.PlainLaws.{plain_laws}
 use Rattle.rtc_assoc_state.specs.PlainMeaning.{plain_meaning}
@@ -35,6 +36,7 @@ use Rattle.rtc_run_history.specs.declared.step.Step.{Step}
 use Rattle.rtc_run_history.specs.declared.step.Step.TheVariants as step
 use Rattle.rtc_run_history.specs.declared.table.Table.{Table}
 use Rattle.rtc_run_history.specs.CallReplies.{ClosesOpenChannel, FindsNone, StepCalls, StepClosesChannel, StepWrites, StepWritesOpen}
+use Rattle.rtc_run_history.specs.Native.{goes_forward}
 use Rattle.rtc_run_history.specs.PairState.{held_token, kept_remote_sdp}
 use Rattle.rtc_run_history.specs.Performs.{Acts, DrainsOn, DrainsPeer, PollsOnce, PollsShown, StepPollsPeer}
 use Rattle.rtc_run_history.specs.Sides.{side_of}
@@ -242,33 +244,42 @@ module _ {N : Type 0} (draws : Draws N) where
   -- ---- each step, an arm each
 
   module _ (b : PeerActs) (q : PlainPolled N) (sent : Sent) where
-    pub acts_heard : (stun : List ℕ → Bool) (one : Step) (old : PlainPolled N) (sdps : List Kept) (packets : List SentPacket)
+    pub acts_heard : (stun : List ℕ → Bool) (other own : Addr) (one : Step) (old : PlainPolled N) (sdps : List Kept) (packets : List SentPacket)
         (outcome : Outcome PlainMediaEvent) (table : Option Table) (new : PlainPolled N) (sdps' : List Kept) (packets' : List SentPacket)
-        (uses : List ChannelUse) (told : MessagesTold) (h : Acts (plain_over draws) stun one old sdps packets outcome table new sdps' packets')
+        (uses : List ChannelUse) (told : MessagesTold) → goes_forward one ≡ true
+        → (h : Acts (plain_over draws) stun other own one old sdps packets outcome table new sdps' packets')
         → Stood draws (side_of one) packets b q uses sent told old → (earlier : Type 0) → (earlier → HeardSide uses old)
         → DrainedByStep one outcome earlier → IsUnused (plain_over draws) (plain_over_laws draws) new.core
-        → HeardSide (uses_acted (plain_over draws) stun one old sdps packets outcome table new sdps' packets' h uses) new
-    acts_heard stun (step.Negotiate at ops apply) old sdps packets outcome table new sdps' packets' uses told h stood earlier before d unused =
+        → HeardSide (uses_acted (plain_over draws) stun other own one old sdps packets outcome table new sdps' packets' h uses) new
+    acts_heard stun other own (step.Negotiate at ops apply) old sdps packets outcome table new sdps' packets' uses told go h stood earlier before d unused =
         call_heard begun_here _ [] [] old new uses (negotiates_did (plain_over draws) at ops apply old sdps outcome table new sdps' h.0)
         (negotiates_keep (plain_over draws) at ops apply old sdps outcome table new sdps' h.0) begun_empty (before d)
-    acts_heard stun (step.AcceptOffer at offer) old sdps packets outcome table new sdps' packets' uses told h stood earlier before d unused =
+    acts_heard stun other own (step.AcceptOffer at offer) old sdps packets outcome table new sdps' packets' uses told go h stood earlier before d unused =
         call_heard begun_here _ [] [] old new uses
         (offer_acts (plain_over draws) at (kept_remote_sdp true sdps at offer) old sdps outcome table new sdps' h.0)
         (offer_step_keeps (plain_over draws) plain_laws at (kept_remote_sdp true sdps at offer) old sdps outcome table new sdps' h.0) begun_empty (before d)
-    acts_heard stun (step.AcceptAnswer at token answer) old sdps packets outcome table new sdps' packets' uses told h stood earlier before d unused =
+    acts_heard stun other own (step.AcceptAnswer at token answer) old sdps packets outcome table new sdps' packets' uses told go h stood earlier before d unused =
         call_heard begun_here _ [] [] old new uses
         (answer_acts (plain_over draws) token (held_token sdps at token) (kept_remote_sdp false sdps at answer) old sdps outcome table new sdps' h.0)
         (answer_step_keeps (plain_over draws) plain_laws token (held_token sdps at token) (kept_remote_sdp false sdps at answer) old sdps outcome table new sdps' h.0)
         begun_empty (before d)
-    acts_heard stun (step.Time at now) old sdps packets outcome table new sdps' packets' uses told h stood earlier before d unused = absurd d
-    acts_heard stun (step.Datagram at packet now) old sdps packets outcome table new sdps' packets' uses told h stood earlier before d unused = absurd d
-    acts_heard stun (step.Poll at) old sdps packets outcome table new sdps' packets' uses told h stood earlier before d unused =
+    acts_heard stun other own (step.Time at now) old sdps packets outcome table new sdps' packets' uses told go h stood earlier before d unused = absurd d
+    acts_heard stun other own (step.Datagram at packet now) old sdps packets outcome table new sdps' packets' uses told go h stood earlier before d unused = absurd d
+    acts_heard stun other own (step.Poll at) old sdps packets outcome table new sdps' packets' uses told go h stood earlier before d unused =
         poll_step_heard at b q sent old packets outcome table new packets' uses told h.0 stood earlier before d unused
-    acts_heard stun (step.Drain at) old sdps packets outcome table new sdps' packets' uses told h stood earlier before d unused =
+    acts_heard stun other own (step.Drain at) old sdps packets outcome table new sdps' packets' uses told go h stood earlier before d unused =
         drain_step_heard at b q sent old packets outcome table new packets' uses told h.0 stood earlier before d unused
-    acts_heard stun (step.Write at channel binary bytes) old sdps packets outcome table new sdps' packets' uses told h stood earlier before d unused =
+    acts_heard stun other own (step.Write at channel binary bytes) old sdps packets outcome table new sdps' packets' uses told go h stood earlier before d unused =
         writes_heard channel (open_stream_under channel old) binary bytes uses old outcome table new h.0 (before d)
-    acts_heard stun (step.CloseChannel at channel) old sdps packets outcome table new sdps' packets' uses told h stood earlier before d unused =
+    acts_heard stun other own (step.CloseChannel at channel) old sdps packets outcome table new sdps' packets' uses told go h stood earlier before d unused =
         channel_closes_heard (open_stream_under channel old) channel uses old outcome table new h.0 (before d)
-    acts_heard stun (step.Close at) old sdps packets outcome table new sdps' packets' uses told h stood earlier before d unused =
+    acts_heard stun other own (step.Close at) old sdps packets outcome table new sdps' packets' uses told go h stood earlier before d unused =
         calls_heard (ClosesPeer (plain_over draws)) uses (λ p r next closes k. closed_heard uses p r next closes k) old outcome table new h.0 (before d)
+    acts_heard stun other own (step.Rollback at token) old sdps packets outcome table new sdps' packets' uses told go h stood earlier before d unused =
+        absurd (true≢false (sym go))
+    acts_heard stun other own (step.ForeignOffer at text) old sdps packets outcome table new sdps' packets' uses told go h stood earlier before d unused =
+        absurd (true≢false (sym go))
+    acts_heard stun other own (step.ForeignAnswer at token text) old sdps packets outcome table new sdps' packets' uses told go h stood earlier before d unused =
+        absurd (true≢false (sym go))
+    acts_heard stun other own (step.Raw at bytes now) old sdps packets outcome table new sdps' packets' uses told go h stood earlier before d unused =
+        absurd (true≢false (sym go))

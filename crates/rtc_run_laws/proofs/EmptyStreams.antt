@@ -10,7 +10,7 @@ use Rattle.rtc_peer_polling.proofs.StreamStarts.{empty_stays, started_same}
 use Rattle.rtc_run_history.specs.declared.side.Side.{Side}
 use Rattle.rtc_run_history.specs.Past.{Entry}
 use Rattle.rtc_run_history.specs.Sides.{side_of, other_side}
-use Rattle.rtc_run_history.specs.PairState.{PairState, rtc_at, peer_at}
+use Rattle.rtc_run_history.specs.PairState.{addr_at, PairState, rtc_at, peer_at}
 use Rattle.rtc_run_history.specs.Performs.{Enters}
 use Rattle.rtc_run_history.specs.Runs.{Went}
 use Rattle.rtc_run_history.proofs.BothSides.{both_sides}
@@ -27,8 +27,8 @@ module _ {I D S M E X T W N : Type 0} (m : Meanings I D S M E X T W N) (laws : P
   peer_unused : (old new : Peer I D S M N) → PeerKind m laws old new → IsUnused m laws old → IsUnused m laws new
   peer_unused old new (KeptCore same) unused = same_unused m laws old new same unused
   peer_unused old new (StagedOps same) unused = parts_unused m laws old new same unused
-  peer_unused old new (TookOffer offer r h) unused = offer_unused m laws (record old { staged = [] }) offer r new h unused
-  peer_unused old new (TookAnswer token answer r h) unused = answer_unused m laws (record old { staged = [] }) token answer r new h unused
+  peer_unused old new (TookOffer offer r h) unused = offer_unused m laws (record old { staged = []; undo = [] }) offer r new h unused
+  peer_unused old new (TookAnswer token answer r h) unused = answer_unused m laws (record old { staged = []; undo = [] }) token answer r new h unused
 
   -- a step that negotiates nothing leaves whether the association is started
   moved_unused : (numbers : List ℕ) (p q : PolledPeer I D S M N) → Moves m laws numbers p q → IsUnused m laws p.core → IsUnused m laws q.core
@@ -53,7 +53,7 @@ module _ {I D S M E X T W N : Type 0} (m : Meanings I D S M E X T W N) (laws : P
   enters_unused stun old entry new enters unused =
       both_sides (λ at. IsUnused m laws (peer_at at new)) (side_of entry.step)
       (step_unused (rtc_at (side_of entry.step) old) (rtc_at (side_of entry.step) new)
-      (acts_kind m laws stun entry.step (rtc_at (side_of entry.step) old) old.sdps old.packets entry.outcome entry.table (rtc_at (side_of entry.step) new) new.sdps new.packets
+      (acts_kind m laws stun (addr_at (other_side (side_of entry.step)) old) (addr_at (side_of entry.step) old) entry.step (rtc_at (side_of entry.step) old) old.sdps old.packets entry.outcome entry.table (rtc_at (side_of entry.step) new) new.sdps new.packets
       enters.performs.acts) (unused (side_of entry.step)))
       (polled_same (rtc_at (other_side (side_of entry.step)) old) (rtc_at (other_side (side_of entry.step)) new) enters.performs.other (unused (other_side (side_of entry.step))))
 

@@ -38,22 +38,30 @@ pub rows_told : {E : Type 0} → (moved : Bool) (past : List (Entry E)) (e : Ent
     → (new.sides (side_of e.step)).lines ≡ before (side_of e.step) (e ∷ past)
 rows_told moved past e old new goes = goes.rows ∙ sym (ap (λ b. rows_or b e.table (before (side_of e.step) past)) (same_side-self (side_of e.step)))
 
+-- both sides after an entry
+pub sides_next : {E : Type 0} → (past : List (Entry E)) (e : Entry E) (old new : PairStance) → new.sides (other_side (side_of e.step)) ≡ old.sides (other_side (side_of e.step)) → old.size + 1 ≤ new.size
+    → TextsNext past e old new → SideTells (e ∷ past) (side_of e.step) (new.sides (side_of e.step)) new.sdps new.size
+    → HeldBefore (other_side (side_of e.step)) old.sdps new.sdps
+    → ((t : ℕ) → TokenTells (e ∷ past) (other_side (side_of e.step)) (old.sides (other_side (side_of e.step))).counter t (slice_get new.sdps t))
+    → Tells past old → Tells (e ∷ past) new
+sides_next past e old new other grows kept mine was tokens tells =
+    let at = side_of e.step in
+    let there : SideTells (e ∷ past) (other_side at) (old.sides (other_side at)) new.sdps new.size =
+    side_stays past e (other_side at) (old.sides (other_side at)) old.sdps new.sdps old.size new.size (same_side-other at) grows was tokens (tells.sides (other_side at)) in
+    let count : length old.sdps ≤ old.size = tells.count in
+    record {
+      sides = both_sides (λ side. SideTells (e ∷ past) side (new.sides side) new.sdps new.size) at mine (rw other there);
+      says = kept.says;
+      later = kept.later;
+      count = omega (arith, kept.count, grows);
+    }
+
 pub tells_next : {E : Type 0} → (moved : Bool) (past : List (Entry E)) (e : Entry E) (old new : PairStance) → Goes moved past e old new → TextsNext past e old new
     → SideTells (e ∷ past) (side_of e.step) (new.sides (side_of e.step)) new.sdps new.size
     → HeldBefore (other_side (side_of e.step)) old.sdps new.sdps
     → ((t : ℕ) → TokenTells (e ∷ past) (other_side (side_of e.step)) (old.sides (other_side (side_of e.step))).counter t (slice_get new.sdps t))
     → Tells past old → Tells (e ∷ past) new
-tells_next moved past e old new goes kept mine was tokens tells =
-    let at = side_of e.step in
-    let there : SideTells (e ∷ past) (other_side at) (old.sides (other_side at)) new.sdps new.size =
-    side_stays past e (other_side at) (old.sides (other_side at)) old.sdps new.sdps old.size new.size (same_side-other at) goes.grows was tokens (tells.sides (other_side at)) in
-    let count : length old.sdps ≤ old.size = tells.count in
-    record {
-      sides = both_sides (λ side. SideTells (e ∷ past) side (new.sides side) new.sdps new.size) at mine (rw goes.other there);
-      says = kept.says;
-      later = kept.later;
-      count = omega (arith, kept.count, goes.grows);
-    }
+tells_next moved past e old new goes kept mine was tokens tells = sides_next past e old new goes.other goes.grows kept mine was tokens tells
 
 -- what a past says of an SDP is what is kept of it
 pub said_at : {E : Type 0} → (past : List (Entry E)) (pair : PairStance) (t : ℕ) → map made_sdp pair.sdps ≡ sdps past → slice_get (sdps past) t ≡ option_map made_sdp (slice_get pair.sdps t)

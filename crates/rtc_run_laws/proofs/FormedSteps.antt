@@ -1,8 +1,9 @@
 -- Formed peers stay formed in each step, and each SDP that they make is legible, so that it is read back.
-use Rattle.std.proofs.Common.{◌≡◌, ℕ, List, [], ◌∷◌, Bool, true, false, not, ◌&&◌, Option, Some, None, Ok, Err, refl, sym, subst}
+use Rattle.std.proofs.Common.{◌≡◌, ℕ, List, [], ◌∷◌, Bool, true, false, not, ◌&&◌, Option, Some, None, Result, Ok, Err, refl, sym, ap, subst}
 use Rattle.std.specs.Prelude.{alloc_error, IfSome}
 use Rattle.rtc_sdp_values.specs.declared.direction.Direction.TheVariants.{Inactive}
 use Rattle.rtc_sdp_values.specs.declared.sdp.Sdp.{Sdp}
+use Rattle.rtc_sdp_reader.specs.Reading.{reading}
 use Rattle.rtc_sdp_writer.specs.Plain.{IsLegible}
 use Rattle.rtc_change.specs.PendingOffer.{PendingOffer}
 use Rattle.rtc_peer_rows.specs.RowChanges.{directed_row, stopped_row}
@@ -23,6 +24,7 @@ use Rattle.rtc_peer_core.proofs.FormedStances.{
   applies_formed,
   made_changes,
 }
+use Rattle.rtc_peer_core.proofs.StanceRollbacks.{rolled_back_formed}
 use Rattle.rtc_run_history.specs.declared.side.Side.{Side}
 use Rattle.rtc_run_history.specs.declared.op.Op.{Op}
 use Rattle.rtc_run_history.specs.declared.op.Op.TheVariants.{AddMedia, SetDirection, StopMedia, AddChannel, IceRestart}
@@ -31,16 +33,16 @@ use Rattle.rtc_run_history.specs.declared.op_answer.OpAnswer.TheVariants.{Mid, C
 use Rattle.rtc_run_history.specs.declared.made.Made.{Made}
 use Rattle.rtc_run_history.specs.declared.made.Made.TheVariants.{NotAsked, Nothing, Offer, Alloc as MadeAlloc}
 use Rattle.rtc_run_history.specs.declared.step.Step.{Step}
-use Rattle.rtc_run_history.specs.declared.step.Step.TheVariants.{Negotiate, AcceptOffer, AcceptAnswer, Time, Datagram, Poll, Drain, Write, CloseChannel, Close}
+use Rattle.rtc_run_history.specs.declared.step.Step.TheVariants.{Negotiate, AcceptOffer, AcceptAnswer, Time, Datagram, Poll, Drain, Write, CloseChannel, Close, Rollback, ForeignOffer, ForeignAnswer, Raw}
 use Rattle.rtc_run_history.specs.declared.outcome.Outcome.{Outcome}
-use Rattle.rtc_run_history.specs.declared.outcome.Outcome.TheVariants.{Negotiated, Answered, Finished, Refused, NoSuch, Alloc}
+use Rattle.rtc_run_history.specs.declared.outcome.Outcome.TheVariants.{Negotiated, Answered, Finished, Done, Refused, NoSuch, Alloc}
 use Rattle.rtc_run_history.specs.declared.table.Table.{Table}
 use Rattle.rtc_run_history.specs.declared.reply.Reply.{Reply}
 use Rattle.rtc_run_history.specs.declared.kept.Kept.{Kept}
 use Rattle.rtc_run_history.specs.Memory.{answers_lack}
 use Rattle.rtc_run_history.specs.Past.{Entry}
 use Rattle.rtc_run_history.specs.Sides.{side_of, other_side}
-use Rattle.rtc_run_history.specs.Signalled.{Signalled, NotMade, Unreadable, Readable, AllReadBack}
+use Rattle.rtc_run_history.specs.Signalled.{Signalled, NotMade, Unreadable, Readable, AllReadBack, arrival, foreign}
 use Rattle.rtc_run_history.specs.SoundEntry.{AreReadBack}
 use Rattle.rtc_run_history.specs.Fresh.{IsFresh, ArePeersFormed}
 use Rattle.rtc_run_history.specs.PairState.{PairState, kept_remote_sdp, held_token}
@@ -49,7 +51,6 @@ use Rattle.rtc_run_history.specs.Runs.{Runs}
 use Rattle.rtc_run_history.specs.Views.{AreFormed}
 use Rattle.rtc_run_history.proofs.BothSides.{both_sides}
 use Rattle.rtc_run_laws.proofs.LegibleSdps.{
-  IsLegibleKept,
   AreLegible,
   CanBeTaken,
   spent_legible,
@@ -59,6 +60,7 @@ use Rattle.rtc_run_laws.proofs.LegibleSdps.{
   push_legible,
   token_changes,
 }
+use Rattle.rtc_run_laws.proofs.ReadTaken.{read_lines_taken, read_names_tokens}
 use Rattle.rtc_run_laws.proofs.PlainSdps.{offer_legible, answer_legible}
 use Rattle.rtc_run_laws.proofs.StanceSteps.{
   PairStance,
@@ -67,6 +69,7 @@ use Rattle.rtc_run_laws.proofs.StanceSteps.{
   StanceNegotiates,
   StanceStepAcceptsOffer,
   StanceStepAcceptsAnswer,
+  StanceStepRollsBack,
   StanceActs,
   StancePerforms,
   StanceEnters,
@@ -97,6 +100,23 @@ ops_formed p q (IceRestart keep ∷ ops) (Creds creds ∷ answers) h formed = op
 ops_formed p q (IceRestart keep ∷ ops) (OpAlloc ∷ []) h formed = stages_restart_formed p keep (Err alloc_error) q h formed
 ops_formed p q ops answers h formed = absurd h
 
+-- a side that is lent for a step
+lends_formed : (s : Stance) → IsFormed s → IsFormed (lent s)
+lends_formed s formed =
+    let bare = lent_formed s s.snap formed in
+    record {
+      session = bare.session;
+      creds = bare.creds;
+      candidates = bare.candidates;
+      fingerprint = bare.fingerprint;
+      rows = bare.rows;
+      staged = bare.staged;
+      changes = bare.changes;
+      formats = bare.formats;
+      media = bare.media;
+      size = bare.size;
+    }
+
 makes_formed : (asked : Bool) (at : Side) (p q : Stance) (kept kept' : List Kept) (made : Made) → StanceMakesOf asked at p kept made q kept' → IsFormed p → AreLegible kept → IsFormed q × AreLegible kept'
 makes_formed false at p q kept kept' NotAsked h formed legible = (rw h.0 formed, rw h.1 legible)
 makes_formed true at p q kept kept' Nothing h formed legible = (applies_formed p (Ok None) q h.0 formed, rw h.1 legible)
@@ -111,7 +131,7 @@ negotiates_formed : {E : Type 0} → (at : Side) (ops : List Op) (apply : Bool) 
     → StanceNegotiates at ops apply old kept outcome table new kept' → IsFormed old → AreLegible kept → IsFormed new × AreLegible kept'
 negotiates_formed at ops apply old new kept kept' Alloc None h formed legible = (rw h.peer formed, rw h.sdps_kept legible)
 negotiates_formed at ops apply old new kept kept' (Negotiated answers made) (Some table) h formed legible =
-    makes_formed (apply && not (answers_lack answers)) at h.0 new kept kept' made h.2 (ops_formed (lent old) h.0 ops answers h.1 (lent_formed old old.snap formed)) legible
+    makes_formed (apply && not (answers_lack answers)) at h.0 new kept kept' made h.2 (ops_formed (lent old) h.0 ops answers h.1 (lends_formed old formed)) legible
 negotiates_formed at ops apply old new kept kept' outcome table h formed legible = absurd h
 
 offer_formed : {E : Type 0} → (at : Side) (offer : Signalled) (old new : Stance) (kept kept' : List Kept) (outcome : Outcome E) (table : Option Table)
@@ -125,7 +145,7 @@ offer_formed at (Unreadable line) old new kept kept' (Refused error) (Some table
     (rw h.1.peer formed, rw h.1.sdps_kept legible)
 offer_formed at (Readable sdp) old new kept kept' (Answered n) (Some table) h taken formed legible =
     let its = taken sdp refl in
-    let lent_is : IsFormed (lent old) = lent_formed old old.snap formed in
+    let lent_is : IsFormed (lent old) = lends_formed old formed in
     let updates = h.1.tells.formed lent_is tt its.names its.lines in
     let whole : IsLegible h.0 =
     subst IsLegible (sym h.1.answered)
@@ -136,7 +156,7 @@ offer_formed at (Readable sdp) old new kept kept' (Answered n) (Some table) h ta
     )
 offer_formed at (Readable sdp) old new kept kept' (Refused error) (Some table) h taken formed legible =
     let its = taken sdp refl in
-    (offered_formed (lent old) sdp (Err error) new h.0 its.names its.lines (lent_formed old old.snap formed), rw h.1 legible)
+    (offered_formed (lent old) sdp (Err error) new h.0 its.names its.lines (lends_formed old formed), rw h.1 legible)
 offer_formed at offer old new kept kept' outcome table h taken formed legible = absurd h
 
 answer_formed : {E : Type 0} → (t : ℕ) (token : Option PendingOffer) (answer : Signalled) (old new : Stance) (kept kept' : List Kept)
@@ -163,15 +183,37 @@ answer_formed t (Some token) (Unreadable line) old new kept kept' (Refused error
     (rw h.1.peer formed, rw h.1.sdps_kept legible)
 answer_formed t (Some token) (Readable sdp) old new kept kept' Finished (Some table) h taken changes formed legible =
     let its = taken sdp refl in (
-      answered_formed (lent old) token sdp (Ok tt) new h.0 changes its.names its.lines (lent_formed old old.snap formed),
+      answered_formed (lent old) token sdp (Ok tt) new h.0 changes its.names its.lines (lends_formed old formed),
       rw h.1 (spent_legible t kept legible),
     )
 answer_formed t (Some token) (Readable sdp) old new kept kept' (Refused error) (Some table) h taken changes formed legible =
     let its = taken sdp refl in (
-      answered_formed (lent old) token sdp (Err error) new h.0 changes its.names its.lines (lent_formed old old.snap formed),
+      answered_formed (lent old) token sdp (Err error) new h.0 changes its.names its.lines (lends_formed old formed),
       rw h.1 (spent_legible t kept legible),
     )
 answer_formed t token answer old new kept kept' outcome table h taken changes formed legible = absurd h
+
+roll_formed : {E : Type 0} → (t : ℕ) (token : Option PendingOffer) (old new : Stance) (kept kept' : List Kept) (outcome : Outcome E) (table : Option Table) → StanceStepRollsBack t token old kept outcome table new kept'
+    → IsFormed old → AreLegible kept → IsFormed new × AreLegible kept'
+roll_formed t None old new kept kept' Alloc None h formed legible = (rw h.peer formed, rw h.sdps_kept legible)
+roll_formed t (Some token) old new kept kept' Alloc None h formed legible = (rw h.peer formed, rw h.sdps_kept legible)
+roll_formed t None old new kept kept' NoSuch (Some table) h formed legible = (rw h.0.peer formed, rw h.0.sdps_kept legible)
+roll_formed t (Some token) old new kept kept' Done (Some table) h formed legible =
+    (rolled_back_formed (lent old) token (Ok tt) new h.0 (lends_formed old formed), rw h.2 (spent_legible t kept legible))
+roll_formed t (Some token) old new kept kept' (Refused error) (Some table) h formed legible =
+    (rolled_back_formed (lent old) token (Err error) new h.0 (lends_formed old formed), rw h.1 (spent_legible t kept legible))
+roll_formed t token old new kept kept' outcome table h formed legible = absurd h
+
+-- what is read of a text that anybody wrote can be taken
+read_of : (read : Result Sdp ℕ) (sdp : Sdp) → arrival read ≡ Readable sdp → read ≡ Ok sdp
+read_of (Ok other) sdp is = let e : Readable other ≡ Readable sdp = is in ap (λ (s : Sdp). Ok s) (let f : other ≡ sdp = cc in f)
+read_of (Err line) sdp is = absurd (let e : Unreadable line ≡ Readable sdp = is in cc)
+
+foreign_taken : (text : List ℕ) (sdp : Sdp) → foreign text ≡ Readable sdp → CanBeTaken sdp
+unfolding foreign
+foreign_taken text sdp is =
+    let read : reading text ≡ Ok sdp = read_of (reading text) sdp is in
+    record { names = read_names_tokens text sdp read; lines = read_lines_taken text sdp read }
 
 -- a side that changes nothing but channels
 rest_formed : (old new : Stance) → new ≡ record old { channels = new.channels; rows = new.rows } → IsFormed old → IsFormed new
@@ -197,6 +239,12 @@ acts_formed (AcceptOffer at k) old new kept kept' outcome table acts formed legi
     offer_formed at (kept_remote_sdp true kept at k) old new kept kept' outcome table acts (λ sdp is. remote_taken true kept at k sdp is legible) formed legible
 acts_formed (AcceptAnswer at t a) old new kept kept' outcome table acts formed legible =
     answer_formed t (held_token kept at t) (kept_remote_sdp false kept at a) old new kept kept' outcome table acts (λ sdp is. remote_taken false kept at a sdp is legible) (token_changes kept at t legible) formed legible
+acts_formed (Rollback at t) old new kept kept' outcome table acts formed legible = roll_formed t (held_token kept at t) old new kept kept' outcome table acts formed legible
+acts_formed (ForeignOffer at text) old new kept kept' outcome table acts formed legible =
+    offer_formed at (foreign text) old new kept kept' outcome table acts (λ sdp is. foreign_taken text sdp is) formed legible
+acts_formed (ForeignAnswer at t text) old new kept kept' outcome table acts formed legible =
+    answer_formed t (held_token kept at t) (foreign text) old new kept kept' outcome table acts (λ sdp is. foreign_taken text sdp is) (token_changes kept at t legible) formed legible
+acts_formed (Raw at bytes now) old new kept kept' outcome table acts formed legible = (rest_formed old new acts.peer formed, rw acts.sdps_kept legible)
 acts_formed (Time at now) old new kept kept' outcome table acts formed legible = (rest_formed old new acts.peer formed, rw acts.sdps_kept legible)
 acts_formed (Datagram at packet now) old new kept kept' outcome table acts formed legible = (rest_formed old new acts.peer formed, rw acts.sdps_kept legible)
 acts_formed (Poll at) old new kept kept' outcome table acts formed legible = (rest_formed old new acts.peer formed, rw acts.sdps_kept legible)

@@ -1,4 +1,5 @@
 pub mod NumberedChannels
+pub mod CancelledRows
 pub mod StanceSteps
 pub mod StandingPolls
 pub mod StandingChannels
@@ -12,21 +13,34 @@ pub mod Bounds
 pub mod OpRows
 pub mod AddedRows
 pub mod PlacedRows
+pub mod UndoneRows
+pub mod NotedOps
 pub mod StagedApps
 pub mod StagedChanges
 pub mod StagedOps
 pub mod StagedChannelOps
 pub mod Staging
 pub mod AnsweredOps
+pub mod StagedNumbers
 pub mod PushedLists
 pub mod Tells
 pub mod Entries
 pub mod TokenEntries
+pub mod RolledTokens
 pub mod Around
 pub mod UnreadSdps
 pub mod Rests
+pub mod RestReplies
 pub mod OfferSteps
+pub mod OfferTells
 pub mod AnswerSteps
+pub mod AnswerTells
+pub mod RollbackSteps
+pub mod KeptTexts
+pub mod Outstands
+pub mod OutstandingSteps
+pub mod NegotiationOut
+pub mod UndoneSteps
 pub mod OfferApps
 pub mod NegotiateSteps
 pub mod SaidSdps
@@ -37,6 +51,7 @@ pub mod FinishedRows
 pub mod AnswerCounts
 pub mod SoundPasts
 pub mod SeenSides
+pub mod SeenTexts
 pub mod SeenSteps
 pub mod PastTables
 pub mod PastOffers
@@ -59,16 +74,19 @@ pub mod OrderlyOps
 pub mod OrderlyPasts
 pub mod KeptApps
 pub mod StartHalves
+pub mod RestoredApps
 pub mod StartedSides
 pub mod SideRounds
 pub mod SideRoundSteps
 pub mod OrderlyRuns
 pub mod OpsNext
 pub mod OrderlyNext
+pub mod QuietSteps
 pub mod OrderlySounds
 pub mod StanceRuns
 pub mod CarriedLines
 pub mod TakenLines
+pub mod ReadTaken
 pub mod ChunkTexts
 pub mod RowLines
 pub mod PlainSdps
@@ -82,6 +100,8 @@ pub mod PlainRuns
 pub mod ReadFacts
 mod StartFacts
 pub mod Reaches
+pub mod OutstandingRuns
+mod ForwardSteps
 pub mod CountedFaults
 pub mod StreamFaults
 pub mod MediaFaults
@@ -95,6 +115,7 @@ pub mod InputCounts
 pub mod OpParts
 pub mod RestSides
 pub mod ChannelFaults
+pub mod SideFaults
 pub mod SoundSides
 pub mod PartsSound
 pub mod SentPackets

@@ -15,21 +15,21 @@ use Rattle.rtc_part_media.specs.declared.media_update.MediaUpdate.{MediaUpdate}
 use Rattle.rtc_peer_core.specs.MadeSdp.{offer_sdp, answer_sdp, row_told, offer_head, offered_told, answer_head, answered_told}
 use Rattle.rtc_peer_core.specs.SdpHalves.{offer_init, answer_init}
 use Rattle.rtc_peer_core.proofs.ToldRows.{rows_of_offered, rows_of_answered}
-use Rattle.rtc_run_history.specs.Signalled.{Signalled, NotMade, Unreadable, Readable}
+use Rattle.rtc_run_history.specs.Signalled.{Signalled, NotMade, Unreadable, Readable, foreign}
 use Rattle.rtc_run_history.specs.declared.side.Side.{Side}
 use Rattle.rtc_run_history.specs.declared.op.Op.{Op}
 use Rattle.rtc_run_history.specs.declared.op_answer.OpAnswer.{OpAnswer}
 use Rattle.rtc_run_history.specs.declared.made.Made.{Made}
 use Rattle.rtc_run_history.specs.declared.made.Made.TheVariants.{NotAsked, Nothing, Offer, Alloc as MadeAlloc}
 use Rattle.rtc_run_history.specs.declared.step.Step.{Step}
-use Rattle.rtc_run_history.specs.declared.step.Step.TheVariants.{Negotiate, AcceptOffer, AcceptAnswer, Time, Datagram, Poll, Drain, Write, CloseChannel, Close}
+use Rattle.rtc_run_history.specs.declared.step.Step.TheVariants.{Negotiate, AcceptOffer, AcceptAnswer, Time, Datagram, Poll, Drain, Write, CloseChannel, Close, Rollback, ForeignOffer, ForeignAnswer, Raw}
 use Rattle.rtc_run_history.specs.declared.outcome.Outcome.{Outcome}
-use Rattle.rtc_run_history.specs.declared.outcome.Outcome.TheVariants.{Negotiated, Answered, Finished, Refused, NoSuch, Alloc}
+use Rattle.rtc_run_history.specs.declared.outcome.Outcome.TheVariants.{Negotiated, Answered, Finished, Done, Wrote, Polled, Refused, NoSuch, Alloc}
 use Rattle.rtc_run_history.specs.declared.table.Table.{Table}
 use Rattle.rtc_run_history.specs.Memory.{answers_lack}
 use Rattle.rtc_run_history.specs.Sides.{side_of}
 use Rattle.rtc_run_history.specs.Answers.{added}
-use Rattle.rtc_run_history.specs.Past.{Entry, before, rows_or, new_app}
+use Rattle.rtc_run_history.specs.Past.{Entry, MadeSdp, before, rows_or, new_app}
 use Rattle.rtc_run_history.specs.Sound.{IsSound}
 use Rattle.rtc_run_history.specs.SaidRows.{row_said, are_live, MakesSdp}
 use Rattle.rtc_run_history.specs.declared.kept.Kept.{Kept}
@@ -42,7 +42,7 @@ use Rattle.rtc_run_laws.proofs.OfferApps.{behind, none_behind, one_behind, app_i
 use Rattle.rtc_run_laws.proofs.OfferTables.{offer_table}
 use Rattle.rtc_run_laws.proofs.PastTables.{reply_table}
 use Rattle.rtc_run_laws.proofs.SaidSdps.{sdp_says, sdp_fits}
-use Rattle.rtc_run_laws.proofs.StanceSteps.{PairStance, StanceMakesOf, StanceNegotiates, StancePerforms, StanceStepAcceptsAnswer, StanceStepAcceptsOffer, lent, made_by}
+use Rattle.rtc_run_laws.proofs.StanceSteps.{PairStance, StanceMakesOf, StanceNegotiates, StancePerforms, StanceStepAcceptsAnswer, StanceStepAcceptsOffer, StanceStepRollsBack, lent, made_by}
 use Rattle.rtc_run_history.specs.Views.{Stances}
 
 -- an offer says the rows of its side, then those that it adds
@@ -127,6 +127,19 @@ offer_makes at k (Readable sdp) old new kept kept' (Answered n) (Some table) h i
 offer_makes at k (Readable sdp) old new kept kept' (Refused error) (Some table) h is = none_behind kept kept' h.1
 offer_makes at k offer old new kept kept' outcome table h is = absurd h
 
+-- an answer to what anybody offered says the same
+foreign_makes : {E : Type 0} → (at : Side) (k : ℕ) (text : List ℕ) (outcome : Outcome E) (table : Option Table) (made : List MadeSdp) → MakesSdp (AcceptOffer at k) outcome table made → MakesSdp (ForeignOffer at text) outcome table made
+foreign_makes at k text (Answered n) None made says = says
+foreign_makes at k text (Answered n) (Some table) made says = says
+foreign_makes at k text (Negotiated answers what) table made says = says
+foreign_makes at k text Finished table made says = says
+foreign_makes at k text Done table made says = says
+foreign_makes at k text (Wrote taken) table made says = says
+foreign_makes at k text (Polled outputs end) table made says = says
+foreign_makes at k text (Refused error) table made says = says
+foreign_makes at k text NoSuch table made says = says
+foreign_makes at k text Alloc table made says = says
+
 length-spent : (t : ℕ) (kept : List Kept) → length (spent t kept) ≡ length kept
 length-spent t kept = by (slice_get kept t) refl
   where
@@ -156,6 +169,16 @@ answer_makes at t a (Some token) (Readable sdp) old new kept kept' Finished (Som
 answer_makes at t a (Some token) (Readable sdp) old new kept kept' (Refused error) (Some table) h = spent_behind t kept kept' h.1
 answer_makes at t a token answer old new kept kept' outcome table h = absurd h
 
+-- a rollback makes none
+rollback_makes : {E : Type 0} → (t : ℕ) (token : Option PendingOffer) (old new : Stance) (kept kept' : List Kept) (outcome : Outcome E) (table : Option Table)
+    → StanceStepRollsBack t token old kept outcome table new kept' → behind kept kept' ≡ []
+rollback_makes t None old new kept kept' Alloc None h = none_behind kept kept' h.sdps_kept
+rollback_makes t (Some token) old new kept kept' Alloc None h = none_behind kept kept' h.sdps_kept
+rollback_makes t None old new kept kept' NoSuch (Some table) h = none_behind kept kept' h.0.sdps_kept
+rollback_makes t (Some token) old new kept kept' Done (Some table) h = spent_behind t kept kept' h.2
+rollback_makes t (Some token) old new kept kept' (Refused error) (Some table) h = spent_behind t kept kept' h.1
+rollback_makes t token old new kept kept' outcome table h = absurd h
+
 -- A step that is performed makes the SDP that says the rows of its side.
 pub makes_sdp : {E : Type 0} → (fresh between : Stances) (past : List (Entry E)) (old new : PairStance) (step : Step) (outcome : Outcome E) (table : Option Table)
     → StancePerforms old step outcome table new → IsTable (before (side_of step) past) → IsSound fresh past between step outcome table (made_by old new)
@@ -174,3 +197,12 @@ makes_sdp fresh between past old new (Drain at) outcome table performs is sound 
 makes_sdp fresh between past old new (Write at channel binary bytes) outcome table performs is sound rows = none_behind old.sdps new.sdps performs.acts.sdps_kept
 makes_sdp fresh between past old new (CloseChannel at channel) outcome table performs is sound rows = none_behind old.sdps new.sdps performs.acts.sdps_kept
 makes_sdp fresh between past old new (Close at) outcome table performs is sound rows = none_behind old.sdps new.sdps performs.acts.sdps_kept
+makes_sdp fresh between past old new (Raw at bytes now) outcome table performs is sound rows = none_behind old.sdps new.sdps performs.acts.sdps_kept
+makes_sdp fresh between past old new (Rollback at t) outcome table performs is sound rows =
+    rollback_makes t (held_token old.sdps at t) (old.sides at) (new.sides at) old.sdps new.sdps outcome table performs.acts
+makes_sdp fresh between past old new (ForeignOffer at text) outcome table performs is sound rows =
+    foreign_makes at 0 text outcome table (made_by old new)
+    (offer_makes at 0 (foreign text) (old.sides at) (new.sides at) old.sdps new.sdps outcome table performs.acts
+    (subst (λ (list : List LineRow). IsTable (rows_or true table list)) rows (reply_table fresh between past (ForeignOffer at text) outcome table (made_by old new) sound is)))
+makes_sdp fresh between past old new (ForeignAnswer at t text) outcome table performs is sound rows =
+    answer_makes at t 0 (held_token old.sdps at t) (foreign text) (old.sides at) (new.sides at) old.sdps new.sdps outcome table performs.acts

@@ -22,7 +22,7 @@ use Rattle.rtc_peer_transport.specs.declared.polled_peer.PolledPeer.{PolledPeer}
 use Rattle.rtc_peer_laws.specs.Acts.{NegotiationActs, begun_here, with_core}
 use Rattle.rtc_peer_laws.specs.PeerActs.{queue_and_role}
 use Rattle.rtc_peer_laws.proofs.ActJoins.{agent_acts_did}
-use Rattle.rtc_peer_laws.proofs.ActedAcceptances.{offer_did, answer_did}
+use Rattle.rtc_peer_laws.proofs.ActedAcceptances.{offer_did, answer_did, rollback_did}
 use Rattle.rtc_peer_laws.proofs.FollowedParts.{AgentTold, agent_none}
 use Rattle.rtc_run_history.specs.Signalled.{Signalled, NotMade, Unreadable, Readable}
 use Rattle.rtc_run_history.specs.declared.side.Side.{Side}
@@ -34,11 +34,11 @@ use Rattle.rtc_run_history.specs.declared.op_answer.OpAnswer.TheVariants.{BadCha
 use Rattle.rtc_run_history.specs.declared.made.Made.{Made}
 use Rattle.rtc_run_history.specs.declared.made.Made.TheVariants.{NotAsked, Nothing, Offer, Alloc as MadeAlloc}
 use Rattle.rtc_run_history.specs.declared.outcome.Outcome.{Outcome}
-use Rattle.rtc_run_history.specs.declared.outcome.Outcome.TheVariants.{Negotiated, Answered, Finished, Refused, NoSuch, Alloc}
+use Rattle.rtc_run_history.specs.declared.outcome.Outcome.TheVariants.{Negotiated, Answered, Finished, Done, Refused, NoSuch, Alloc}
 use Rattle.rtc_run_history.specs.declared.table.Table.{Table}
 use Rattle.rtc_run_history.specs.declared.kept.Kept.{Kept}
 use Rattle.rtc_run_history.specs.Memory.{answers_lack}
-use Rattle.rtc_run_history.specs.Performs.{PerformsOps, MakesOf, Negotiates, StepAcceptsOffer, StepAcceptsAnswer, lent}
+use Rattle.rtc_run_history.specs.Performs.{PerformsOps, MakesOf, Negotiates, StepAcceptsOffer, StepAcceptsAnswer, StepRollsBack, lent}
 use Rattle.rtc_run_laws.proofs.OpParts.{counting_parts, ops_counting, makes_counting}
 
 none_among : {A : Type 0} (l k : List A) → l ≡ [] → Among l k
@@ -198,3 +198,15 @@ module _ {I D S M E X T W N : Type 0} (m : Meanings I D S M E X T W N) where
   answer_acts t (Some token) (Readable sdp) old sdps (Refused error) (Some table) new sdps' h =
       lent_did old new (answer_did m (with_core (lent old.core) old) token sdp (Err error) new.core h.0)
   answer_acts t token answer old sdps outcome table new sdps' h = absurd h
+
+  pub rollback_acts : (t : ℕ) (token : Option PendingOffer) (old : PolledPeer I D S M N) (sdps : List Kept) (outcome : Outcome E)
+      (table : Option Table) (new : PolledPeer I D S M N) (sdps' : List Kept) → StepRollsBack m t token old.core sdps outcome table new.core sdps'
+      → NegotiationActs m old new
+  rollback_acts t None old sdps Alloc None new sdps' h = same_did old new h.peer
+  rollback_acts t (Some token) old sdps Alloc None new sdps' h = same_did old new h.peer
+  rollback_acts t None old sdps NoSuch (Some table) new sdps' h = same_did old new h.0.peer
+  rollback_acts t (Some token) old sdps Done (Some table) new sdps' h =
+      lent_did old new (rollback_did m (with_core (lent old.core) old) token (Ok tt) new.core h.0)
+  rollback_acts t (Some token) old sdps (Refused error) (Some table) new sdps' h =
+      lent_did old new (rollback_did m (with_core (lent old.core) old) token (Err error) new.core h.0)
+  rollback_acts t token old sdps outcome table new sdps' h = absurd h

@@ -9,8 +9,12 @@ use Rattle.rtc_sdp_values.specs.declared.direction.Direction.TheVariants.{Inacti
 use Rattle.rtc_change.specs.declared.change.Change.{Change}
 use Rattle.rtc_peer_rows.specs.RowChanges.{RowChange, directed_row, stopped_row}
 use Rattle.rtc_peer_core.specs.declared.peer.Peer.{Peer}
+use Rattle.rtc_change.specs.PendingOffer.{PendingOffer}
+use Rattle.rtc_peer_core.specs.declared.rtc_error.RtcError.{RtcError}
+use Rattle.rtc_peer_core.specs.declared.rtc_error.RtcError.TheVariants.{RemoteSdp, Sdp as SdpRefused, Dtls, Sctp, Net, Media as MediaFailed, ChangesOutOfOrder, BadChannel, Alloc as PeerAlloc, Glare}
 use Rattle.rtc_peer_core.specs.Calls.{ChangesLine, LacksOffer, after_channels_alone}
 use Rattle.rtc_peer_core.specs.Meanings.{Meanings}
+use Rattle.rtc_peer_core.specs.RollingBack.{RollsBack}
 use Rattle.rtc_peer_core.specs.SdpHalves.{draws_half}
 use Rattle.rtc_peer_core.specs.Stance.{stance_of}
 use Rattle.rtc_run_history.specs.declared.side.Side.{Side}
@@ -67,3 +71,17 @@ module _ {I D S M E X T W N : Type 0} (m : Meanings I D S M E X T W N) where
   makes_counting true at p sdps (Offer k) q sdps' h = ap counting_parts h.1.4
   makes_counting true at p sdps MadeAlloc q sdps' h = lacks_counting (draws_half (stance_of m p)) p q h.0
   makes_counting asked at p sdps made q sdps' h = absurd h
+
+  -- nor does a rollback
+  pub rolls_counting : (p : Peer I D S M N) (token : PendingOffer) (r : Result (Unit {0}) RtcError) (q : Peer I D S M N) → RollsBack p token r q → counting_parts q ≡ counting_parts p
+  rolls_counting p token (Ok done) q h = ap counting_parts h.1
+  rolls_counting p token (Err ChangesOutOfOrder) q h = ap counting_parts h.1
+  rolls_counting p token (Err (RemoteSdp why)) q h = absurd h
+  rolls_counting p token (Err (SdpRefused error)) q h = absurd h
+  rolls_counting p token (Err (Dtls error)) q h = absurd h
+  rolls_counting p token (Err (Sctp error)) q h = absurd h
+  rolls_counting p token (Err (Net cause)) q h = absurd h
+  rolls_counting p token (Err (MediaFailed cause)) q h = absurd h
+  rolls_counting p token (Err BadChannel) q h = absurd h
+  rolls_counting p token (Err PeerAlloc) q h = absurd h
+  rolls_counting p token (Err Glare) q h = absurd h

@@ -50,7 +50,7 @@ pub moved_phase : (at : Side) (course : Course) (rows : List LineRow) (count : �
 moved_phase Left course rows count phase = refl
 moved_phase Right course rows count phase = refl
 
-moved_count : (at : Side) (course : Course) (rows : List LineRow) (count : ℕ) (phase : Phase) → (moved_on at course rows count phase).sdps ≡ count
+pub moved_count : (at : Side) (course : Course) (rows : List LineRow) (count : ℕ) (phase : Phase) → (moved_on at course rows count phase).sdps ≡ count
 moved_count Left course rows count phase = refl
 moved_count Right course rows count phase = refl
 

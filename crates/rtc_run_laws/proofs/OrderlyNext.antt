@@ -11,7 +11,7 @@ use Rattle.rtc_run_history.specs.declared.side.Side.{Side}
 use Rattle.rtc_run_history.specs.declared.side.Side.TheVariants.{Left, Right}
 use Rattle.rtc_run_history.specs.declared.kept.Kept.{Kept}
 use Rattle.rtc_run_history.specs.declared.step.Step.{Step}
-use Rattle.rtc_run_history.specs.declared.step.Step.TheVariants.{Negotiate, AcceptOffer, AcceptAnswer, Time, Datagram, Poll, Drain, Write, CloseChannel, Close}
+use Rattle.rtc_run_history.specs.declared.step.Step.TheVariants.{Negotiate, AcceptOffer, AcceptAnswer, Time, Datagram, Poll, Drain, Write, CloseChannel, Close, Rollback, ForeignOffer, ForeignAnswer, Raw}
 use Rattle.rtc_run_history.specs.declared.outcome.Outcome.{Outcome}
 use Rattle.rtc_run_history.specs.declared.outcome.Outcome.TheVariants.{Answered, Finished, Refused, NoSuch, Alloc}
 use Rattle.rtc_run_history.specs.declared.table.Table.{Table}
@@ -50,7 +50,7 @@ pub record IsAnsweredBy (s : Stance) (sdps' sdps : List Kept) (at : Side) (offer
   pub stands : StandsOffer (lent s) sdp answer t
   pub pushed : sdps' ≡ sdps ++ kept_answer at answer ∷ []
 
-answered_by : {E : Type 0} → (at : Side) (offer : Signalled) (s t : Stance) (kept kept' : List Kept) (outcome : Outcome E) (table : Option Table) → StanceStepAcceptsOffer at offer s kept outcome table t kept' → is_ok outcome ≡ true → IsAnsweredBy s kept' kept at offer t
+pub answered_by : {E : Type 0} → (at : Side) (offer : Signalled) (s t : Stance) (kept kept' : List Kept) (outcome : Outcome E) (table : Option Table) → StanceStepAcceptsOffer at offer s kept outcome table t kept' → is_ok outcome ≡ true → IsAnsweredBy s kept' kept at offer t
 answered_by at NotMade s t kept kept' Alloc None h ok = absurd (cc)
 answered_by at (Unreadable line) s t kept kept' Alloc None h ok = absurd (cc)
 answered_by at (Readable sdp) s t kept kept' Alloc None h ok = absurd (cc)
@@ -93,7 +93,7 @@ pub record EndsBy (s : Stance) (token : Option PendingOffer) (answer : Signalled
   pub is : answer ≡ Readable sdp
   pub stands : StandsAnswer (lent s) its sdp t
 
-ends_by : {E : Type 0} → (k : ℕ) (token : Option PendingOffer) (answer : Signalled) (s t : Stance) (kept kept' : List Kept) (outcome : Outcome E) (table : Option Table) → StanceStepAcceptsAnswer k token answer s kept outcome table t kept' → is_ok outcome ≡ true → EndsBy s token answer t
+pub ends_by : {E : Type 0} → (k : ℕ) (token : Option PendingOffer) (answer : Signalled) (s t : Stance) (kept kept' : List Kept) (outcome : Outcome E) (table : Option Table) → StanceStepAcceptsAnswer k token answer s kept outcome table t kept' → is_ok outcome ≡ true → EndsBy s token answer t
 ends_by k None NotMade s t kept kept' Alloc None h ok = absurd (cc)
 ends_by k None (Unreadable line) s t kept kept' Alloc None h ok = absurd (cc)
 ends_by k None (Readable sdp) s t kept kept' Alloc None h ok = absurd (cc)
@@ -125,7 +125,7 @@ end_next past old new at t a outcome table tells read out start starts' alike h 
 
 -- ---- each step
 
-enough_ok : {E : Type 0} → (outcome : Outcome E) → (is_ok outcome || fails outcome) ≡ true → fails outcome ≡ false → is_ok outcome ≡ true
+pub enough_ok : {E : Type 0} → (outcome : Outcome E) → (is_ok outcome || fails outcome) ≡ true → fails outcome ≡ false → is_ok outcome ≡ true
 enough_ok outcome either enough = by (is_ok outcome) refl
   where
     by : (ok : Bool) → is_ok outcome ≡ ok → ok ≡ true
@@ -182,3 +182,8 @@ round_next fresh past old new (CloseChannel at channel) outcome table made cours
     rest_round old new at course course' after (ap round_parts performs.acts.peer) performs.other performs.acts.sdps_kept on.round
 round_next fresh past old new (Close at) outcome table made course course' on tells' starts' performs after either enough next =
     rest_round old new at course course' after (ap round_parts performs.acts.peer) performs.other performs.acts.sdps_kept on.round
+round_next fresh past old new (Raw at bytes now) outcome table made course course' on tells' starts' performs after either enough next =
+    rest_round old new at course course' after (ap round_parts performs.acts.peer) performs.other performs.acts.sdps_kept on.round
+round_next fresh past old new (Rollback at t) outcome table made course course' on tells' starts' performs after either enough next = absurd (let e : None ≡ Some course' = after in cc)
+round_next fresh past old new (ForeignOffer at text) outcome table made course course' on tells' starts' performs after either enough next = absurd (let e : None ≡ Some course' = after in cc)
+round_next fresh past old new (ForeignAnswer at t text) outcome table made course course' on tells' starts' performs after either enough next = absurd (let e : None ≡ Some course' = after in cc)

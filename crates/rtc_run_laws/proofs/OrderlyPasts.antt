@@ -5,7 +5,7 @@ use Rattle.rtc_sdp_values.specs.declared.line_row.LineRow.TheVariants.{Media, Ap
 use Rattle.rtc_run_history.specs.declared.side.Side.{Side}
 use Rattle.rtc_run_history.specs.declared.side.Side.TheVariants.{Left, Right}
 use Rattle.rtc_run_history.specs.declared.step.Step.{Step}
-use Rattle.rtc_run_history.specs.declared.step.Step.TheVariants.{Negotiate, AcceptOffer, AcceptAnswer, Time, Datagram, Poll, Drain, Write, CloseChannel, Close}
+use Rattle.rtc_run_history.specs.declared.step.Step.TheVariants.{Negotiate, AcceptOffer, AcceptAnswer, Time, Datagram, Poll, Drain, Write, CloseChannel, Close, Rollback, ForeignOffer, ForeignAnswer, Raw}
 use Rattle.rtc_run_history.specs.declared.outcome.Outcome.{Outcome}
 use Rattle.rtc_run_history.specs.declared.table.Table.{Table}
 use Rattle.rtc_run_history.specs.Sides.{side_of}
@@ -61,6 +61,11 @@ step_goes_on fresh between past (CloseChannel at channel) outcome table made cou
     rest_goes_on fresh between past (CloseChannel at channel) outcome table made course course' tt after is replied says
 step_goes_on fresh between past (Close at) outcome table made course course' read sound is side few replied says after =
     rest_goes_on fresh between past (Close at) outcome table made course course' tt after is replied says
+step_goes_on fresh between past (Raw at bytes now) outcome table made course course' read sound is side few replied says after =
+    rest_goes_on fresh between past (Raw at bytes now) outcome table made course course' tt after is replied says
+step_goes_on fresh between past (Rollback at t) outcome table made course course' read sound is side few replied says after = absurd (let e : None ≡ Some course' = after in cc)
+step_goes_on fresh between past (ForeignOffer at text) outcome table made course course' read sound is side few replied says after = absurd (let e : None ≡ Some course' = after in cc)
+step_goes_on fresh between past (ForeignAnswer at t text) outcome table made course course' read sound is side few replied says after = absurd (let e : None ≡ Some course' = after in cc)
 
 -- ---- pasts
 

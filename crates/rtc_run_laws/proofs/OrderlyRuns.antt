@@ -13,18 +13,21 @@ use Rattle.rtc_run_history.specs.declared.side.Side.{Side}
 use Rattle.rtc_run_history.specs.declared.side.Side.TheVariants.{Left, Right}
 use Rattle.rtc_run_history.specs.declared.kept.Kept.{Kept}
 use Rattle.rtc_run_history.specs.declared.step.Step.{Step}
-use Rattle.rtc_run_history.specs.declared.step.Step.TheVariants.{Negotiate, AcceptOffer, AcceptAnswer, Time, Datagram, Poll, Drain, Write, CloseChannel, Close}
+use Rattle.rtc_run_history.specs.declared.step.Step.TheVariants.{Negotiate, AcceptOffer, AcceptAnswer, Time, Datagram, Poll, Drain, Write, CloseChannel, Close, Rollback, ForeignOffer, ForeignAnswer, Raw}
 use Rattle.rtc_run_history.specs.Sides.{same_side, other_side}
 use Rattle.rtc_run_history.specs.Answers.{has_app_row}
 use Rattle.rtc_run_history.specs.Past.{Entry, before, sdps, sdp_for, remote_sdp, restarts_by}
 use Rattle.rtc_sdp_writer.specs.AsRead.{as_read}
 use Rattle.rtc_run_history.specs.SoundEntry.{AreReadBack}
 use Rattle.rtc_run_laws.proofs.ReadPasts.{read_at}
-use Rattle.rtc_run_history.specs.Orderly.{Phase, Course, after_step, can_connect, AreJoined}
+use Rattle.rtc_run_history.specs.Orderly.{Phase, Course, is_offerer, after_step, can_connect, AreJoined}
+use Rattle.rtc_run_history.specs.Outstanding.{has_outstanding}
+use Rattle.rtc_run_history.specs.Sound.{is_glare_at}
+use Rattle.rtc_peer_core.specs.Glare.{is_impolite, meets_glare}
 use Rattle.rtc_run_history.specs.PairState.{made_sdp, kept_remote_sdp, held_token, token_for}
 use Rattle.rtc_run_history.specs.Views.{Stances}
 use Rattle.rtc_run_laws.proofs.StanceSteps.{PairStance}
-use Rattle.rtc_run_laws.proofs.Tells.{Tells, same_side-self}
+use Rattle.rtc_run_laws.proofs.Tells.{Tells, same_side-self, same_side-other}
 use Rattle.rtc_run_laws.proofs.Entries.{said_at}
 use Rattle.rtc_run_laws.proofs.SeenSides.{SideSees, view_is}
 use Rattle.rtc_run_laws.proofs.AsReadSdps.{init_as_read}
@@ -99,6 +102,10 @@ inited_alike past pair at tells starts same =
 
 -- ---- no cause that rests on a side holds
 
+-- no side has an offer that awaits its answer but the one that offered in the round
+abbrev pub AreQuiet : Phase → PairStance → Type 0
+AreQuiet phase pair = (side : Side) → is_offerer side phase ≡ false → (pair.sides side).outstanding ≡ false
+
 -- what is known before a step of orderly steps
 pub record IsOnCourse {E : Type 0} (fresh : Stances) (past : List (Entry E)) (pair : PairStance) (course : Course) : Type 0 where
   pub tells : Tells past pair
@@ -107,23 +114,36 @@ pub record IsOnCourse {E : Type 0} (fresh : Stances) (past : List (Entry E)) (pa
   pub starts : (at : Side) → IsStartTold (pair.sides at)
   pub course_is : InCourse course past
   pub round : InRound course.phase pair
+  pub quiet : AreQuiet course.phase pair
+  pub outstands : (at : Side) → (pair.sides at).outstanding ≡ has_outstanding at past
+
+-- an offer collides with none where none awaits its answer
+no_collision : (polite : Option Bool) (awaits : Bool) → awaits ≡ false → meets_glare polite awaits ≡ false
+no_collision polite true none = absurd (let e : true ≡ false = none in cc)
+no_collision polite false none = by (is_impolite polite)
+  where
+    by : (b : Bool) → (b && false) ≡ false
+    by true = refl
+    by false = refl
 
 offer_side : {E : Type 0} → (fresh : Stances) (past : List (Entry E)) (pair : PairStance) (side : Side) (k : ℕ) → can_connect fresh ≡ true → Tells past pair → AreReadBack (sdps past) → ((at : Side) → SideSees fresh past at (pair.sides at)) → IsOfferOut side k pair
-    → (pair.sides (other_side side)).inited ≡ (pair.sides side).inited → SidePasses fresh pair.sides past (AcceptOffer (other_side side) k)
-offer_side fresh past pair side k connect tells read sees out alike =
-    λ sdp is.
-    let reads : ReadsBack out.offer.kept.sdp = kept_read past pair k out.offer.kept tells read out.offer.there in
-    let same : as_read out.offer.kept.sdp ≡ sdp = delivered_at pair true (other_side side) k out.offer.kept sdp reads out.offer.there (sym (remote_told sdp is)) in
-    let mine : Stance = pair.sides (other_side side) in
-    let apart : (mine.ice.lite && (pair.sides side).ice.lite) ≡ false = rw ((sees (other_side side)).lite, (sees side).lite) (lites_apart fresh connect side) in
-    let joined : AreJoined mine.snap.started (pair.sides side).snap.started =
-    subst (λ (one : Side). AreJoined mine.snap.started (pair.sides one).snap.started) (other_twice side) (out.joined (other_side side)) in
-    rw (view_is fresh past (other_side side) mine (tells.sides (other_side side)).rows (sees (other_side side)))
-    (rw (← same) (record {
-      side = side_passes (held_by mine) true (as_read out.offer.kept.sdp) _ _ (told_as_read _ _ _ out.offer.tells) apart (λ may. absurd (let e : true ≡ false = may in cc));
-      init = init_passes mine.inited mine.snap.started (pair.sides side).snap.started (sdp_sctp_init (as_read out.offer.kept.sdp))
-          (λ is. (joined, init_as_read out.offer.kept.sdp ∙ told_started (pair.sides side).inited (pair.sides side).snap (sdp_sctp_init out.offer.kept.sdp) (sym alike ∙ is) out.offer.half));
-    }))
+    → (pair.sides (other_side side)).inited ≡ (pair.sides side).inited → is_glare_at fresh (other_side side) past ≡ false → SidePasses fresh pair.sides past (AcceptOffer (other_side side) k)
+offer_side fresh past pair side k connect tells read sees out alike none = (
+  none,
+  λ sdp is.
+      let reads : ReadsBack out.offer.kept.sdp = kept_read past pair k out.offer.kept tells read out.offer.there in
+      let same : as_read out.offer.kept.sdp ≡ sdp = delivered_at pair true (other_side side) k out.offer.kept sdp reads out.offer.there (sym (remote_told sdp is)) in
+      let mine : Stance = pair.sides (other_side side) in
+      let apart : (mine.ice.lite && (pair.sides side).ice.lite) ≡ false = rw ((sees (other_side side)).lite, (sees side).lite) (lites_apart fresh connect side) in
+      let joined : AreJoined mine.snap.started (pair.sides side).snap.started =
+      subst (λ (one : Side). AreJoined mine.snap.started (pair.sides one).snap.started) (other_twice side) (out.joined (other_side side)) in
+      rw (view_is fresh past (other_side side) mine (tells.sides (other_side side)).rows (sees (other_side side)))
+      (rw (← same) (record {
+        side = side_passes (held_by mine) true (as_read out.offer.kept.sdp) _ _ (told_as_read _ _ _ out.offer.tells) apart (λ may. absurd (let e : true ≡ false = may in cc));
+        init = init_passes mine.inited mine.snap.started (pair.sides side).snap.started (sdp_sctp_init (as_read out.offer.kept.sdp))
+            (λ is. (joined, init_as_read out.offer.kept.sdp ∙ told_started (pair.sides side).inited (pair.sides side).snap (sdp_sctp_init out.offer.kept.sdp) (sym alike ∙ is) out.offer.half));
+      })),
+)
   where
     remote_told : (sdp : Sdp) → remote_sdp true (other_side side) k past ≡ Readable sdp → Readable sdp ≡ kept_remote_sdp true pair.sdps (other_side side) k
     remote_told sdp is = sym is ∙ ap (λ said. signalled_if (sdp_for true (other_side side) said)) (said_at past pair k tells.says)
@@ -156,8 +176,11 @@ step_side fresh past pair (AcceptOffer at k) course course' connect on after =
     let it = accept_course at k course course.phase course' after in
     let out : IsOfferOut it.side k pair = subst (λ (phase : Phase). InRound phase pair) it.phase_is on.round in
     let offered : IsOffered it.side k it.said past = subst (λ (phase : Phase). InPhase phase past) it.phase_is on.course_is.phase in
+    let other : Side = other_side it.side in
+    let idle : is_offerer other course.phase ≡ false = ap (λ (phase : Phase). is_offerer other phase) it.phase_is ∙ same_side-other it.side in
+    let none : is_glare_at fresh other past ≡ false = no_collision (fresh other).polite (has_outstanding other past) (sym (on.outstands other) ∙ on.quiet other idle) in
     subst (λ (one : Side). SidePasses fresh pair.sides past (AcceptOffer one k)) it.at_is
-    (offer_side fresh past pair it.side k connect on.tells on.read on.sees out (inited_alike past pair it.side on.tells on.starts offered.same))
+    (offer_side fresh past pair it.side k connect on.tells on.read on.sees out (inited_alike past pair it.side on.tells on.starts offered.same) none)
 step_side fresh past pair (AcceptAnswer at t a) course course' connect on after =
     let it = end_course at t a course course.phase course' after in
     answer_side fresh past pair at t a connect on.tells on.read on.sees (subst (λ (phase : Phase). InRound phase pair) it.phase_is on.round)
@@ -168,3 +191,7 @@ step_side fresh past pair (Drain at) course course' connect on after = tt
 step_side fresh past pair (Write at channel binary bytes) course course' connect on after = tt
 step_side fresh past pair (CloseChannel at channel) course course' connect on after = tt
 step_side fresh past pair (Close at) course course' connect on after = tt
+step_side fresh past pair (Rollback at t) course course' connect on after = tt
+step_side fresh past pair (ForeignOffer at text) course course' connect on after = tt
+step_side fresh past pair (ForeignAnswer at t text) course course' connect on after = tt
+step_side fresh past pair (Raw at bytes now) course course' connect on after = tt

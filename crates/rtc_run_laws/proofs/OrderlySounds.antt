@@ -32,8 +32,11 @@ use Rattle.rtc_run_laws.proofs.OrderlySteps.{GoesOn, IsOkOrFails}
 use Rattle.rtc_run_laws.proofs.OrderlyPasts.{step_goes_on, next_of, follow_last, none_in_course, in_step, idle_aligned}
 use Rattle.rtc_run_laws.proofs.SideRounds.{InRound, AreAgreed}
 use Rattle.rtc_run_laws.proofs.StartedSides.{ran_tables, ran_told, performs_told}
-use Rattle.rtc_run_laws.proofs.OrderlyRuns.{IsOnCourse, step_side}
+use Rattle.rtc_run_laws.proofs.OrderlyRuns.{AreQuiet, IsOnCourse, step_side}
 use Rattle.rtc_run_laws.proofs.OrderlyNext.{round_next}
+use Rattle.rtc_run_laws.proofs.QuietSteps.{quiet_next}
+use Rattle.rtc_run_laws.proofs.OutstandingRuns.{ran_outstands}
+use Rattle.rtc_run_laws.proofs.Outstands.{outstanding_is}
 use Rattle.rtc_run_laws.proofs.Reaches.{around_of, step_sound, step_tells, reached_tells, reached_sees, small_before}
 
 abbrev start_course : Course
@@ -50,6 +53,7 @@ fresh_agreed start fresh = record {
 pub record IsOrderly {E : Type 0} (past : List (Entry E)) (pair : PairStance) (course : Course) : Type 0 where
   pub course_is : InCourse course past
   pub round : InRound course.phase pair
+  pub quiet : AreQuiet course.phase pair
 
 -- what a step that is performed is known to be, where its entry is sound
 pub record IsStep {E : Type 0} (start : PairStance) (past : List (Entry E)) (old new : PairStance) (step : Step) (outcome : Outcome E) (table : Option Table) (made : List MadeSdp) : Type 0 where
@@ -68,6 +72,10 @@ on_course start old past course fresh read ran small is = record {
   starts = ran_told start old past fresh ran small;
   course_is = is.course_is;
   round = is.round;
+  quiet = is.quiet;
+  outstands = λ at.
+      outstanding_is start.sides past at old (reached_tells start old past fresh (ran_reached start past old ran) small)
+      (ran_outstands start old past fresh ran small at);
 }
 
 -- a step that is in order goes on in the course
@@ -97,6 +105,7 @@ step_orderly start old new past step outcome table made course course' fresh for
       course_is = next;
       round = round_next start.sides past old new step outcome table made course course' on (step_tells past old new step outcome table made on.tells is.performs around)
           (performs_told old new step outcome table is.performs (ran_tables start old past fresh ran small) on.starts) is.performs after goes.ok enough next;
+      quiet = quiet_next start.sides past old new step outcome table made course course' on (step_tells past old new step outcome table made on.tells is.performs around) is.performs after goes.ok enough next;
     }
 
 -- what a side was given before a step after which numbers are left
@@ -126,6 +135,8 @@ ran_orderly {E} start pair [] course fresh formed connect ran small enough left 
     record {
       course_is = none.0;
       round = subst (λ (phase : Phase). InRound phase pair) (sym none.1) (rw same (fresh_agreed start fresh));
+      quiet = subst (λ (phase : Phase). AreQuiet phase pair) (sym none.1)
+          (subst (λ (p : PairStance). AreQuiet Idle p) (sym same) (λ side idle. (fresh.built side).outstanding));
     }
 ran_orderly {E} start pair (last ∷ past) course fresh formed connect ran small enough left is =
     let parts = or_parts (fails last.outcome) (has_failed past) enough in
@@ -184,7 +195,8 @@ sound_next start old new past step outcome table fresh ran performs small =
     let sound : Sound start.sides past = ran_sound start past old ran in
     let rows : IsTable (before (side_of step) past) = past_table start.sides past (side_of step) sound in
     let replied : IsSound start.sides past old.sides step outcome table (made_by old new) =
-    step_sound start.sides past old new step outcome table tells (reached_sees start old past fresh reached small_old) rows performs small in
+    step_sound start.sides past old new step outcome table tells (reached_sees start old past fresh reached small_old) rows
+    (ran_outstands start old past fresh ran small_old) performs small in
     let says : MakesSdp step outcome table (made_by old new) = makes_sdp start.sides old.sides past old new step outcome table performs rows replied (sym (tells.sides (side_of step)).rows) in
     let is : IsStep start past old new step outcome table (made_by old new) = record { performs = performs; made_is = refl; small = small; replied = replied; says = says } in
     record {

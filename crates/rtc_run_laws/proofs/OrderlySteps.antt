@@ -9,14 +9,14 @@ use Rattle.rtc_change.specs.Plans.{verdict}
 use Rattle.rtc_peer_core.specs.declared.rtc_error.RtcError.TheVariants.{RemoteSdp, Sdp as SdpRefused, Alloc as PeerAlloc, Dtls, Sctp}
 use Rattle.rtc_run_history.specs.declared.side.Side.{Side}
 use Rattle.rtc_run_history.specs.declared.op.Op.{Op}
-use Rattle.rtc_run_history.specs.declared.step.Step.TheVariants.{Negotiate, AcceptOffer, AcceptAnswer, Time, Datagram, Poll, Drain, Write, CloseChannel, Close}
+use Rattle.rtc_run_history.specs.declared.step.Step.TheVariants.{Negotiate, AcceptOffer, AcceptAnswer, Time, Datagram, Poll, Drain, Write, CloseChannel, Close, Rollback, ForeignOffer, ForeignAnswer, Raw}
 use Rattle.rtc_run_history.specs.declared.outcome.Outcome.{Outcome}
 use Rattle.rtc_run_history.specs.declared.outcome.Outcome.TheVariants.{Negotiated, Answered, Finished, Refused, Alloc}
 use Rattle.rtc_run_history.specs.declared.table.Table.{Table}
 use Rattle.rtc_run_history.specs.Memory.{fails}
 use Rattle.rtc_run_history.specs.Sides.{other_side}
 use Rattle.rtc_run_history.specs.Past.{Entry, MadeSdp, sdps, remote_sdp, new_app, numbers_in, restarts_by}
-use Rattle.rtc_run_history.specs.Sound.{RepliesToOffer, RepliesToAnswer, IsSound, asked_in, at_first}
+use Rattle.rtc_run_history.specs.Sound.{RepliesToOffer, RepliesToAnswer, IsSound, asked_in, at_first, is_glare_at}
 use Rattle.rtc_run_history.specs.SaidRows.{MakesSdp}
 use Rattle.rtc_run_history.specs.CourseRows.{course_rows_after}
 use Rattle.rtc_run_history.specs.Orderly.{Idle, AwaitsEnd, Course, course_rows, moved_on, after_ops, is_ok}
@@ -47,17 +47,18 @@ negotiated_ok fresh between past at ops apply (Negotiated answers what) (Some ta
 negotiated_ok fresh between past at ops apply outcome table made course course' rows few after replied = absurd replied
 
 -- an offer that is not refused is answered, where nothing fails
-offer_answers : {E : Type 0} → (sdp : Signalled) (said : Sdp) (view : Held) (next : ℕ) (outcome : Outcome E) (after : List LineRow) → sdp ≡ Readable said → verdict view None said ≡ None → RepliesToOffer sdp view next outcome after
-    → fails outcome ≡ false → (j : ℕ) × (outcome ≡ Answered j)
-offer_answers NotMade said view next outcome after is passes takes enough = absurd (cc)
-offer_answers (Unreadable line) said view next outcome after is passes takes enough = absurd (cc)
-offer_answers (Readable sdp) said view next (Answered k) after is passes takes enough = (k, refl)
-offer_answers (Readable sdp) said view next (Refused (RemoteSdp why)) after is passes takes enough = absurd (let same : sdp ≡ said = cc in let e = rw same at takes.0 in cc)
-offer_answers (Readable sdp) said view next (Refused (SdpRefused error)) after is passes takes enough = absurd (let same : sdp ≡ said = cc in let e = rw same at takes.0 in cc)
-offer_answers (Readable sdp) said view next (Refused (Dtls error)) after is passes takes enough = absurd (cc)
-offer_answers (Readable sdp) said view next (Refused (Sctp error)) after is passes takes enough = absurd (let e = rw takes.0 at enough in cc)
-offer_answers (Readable sdp) said view next (Refused PeerAlloc) after is passes takes enough = absurd (cc)
-offer_answers (Readable sdp) said view next outcome after is passes takes enough = absurd takes
+offer_answers : {E : Type 0} → (glare : Bool) (sdp : Signalled) (said : Sdp) (view : Held) (next : ℕ) (outcome : Outcome E) (after : List LineRow) → glare ≡ false → sdp ≡ Readable said → verdict view None said ≡ None
+    → RepliesToOffer glare sdp view next outcome after → fails outcome ≡ false → (j : ℕ) × (outcome ≡ Answered j)
+offer_answers true sdp said view next outcome after none is passes takes enough = absurd (cc)
+offer_answers false NotMade said view next outcome after none is passes takes enough = absurd (cc)
+offer_answers false (Unreadable line) said view next outcome after none is passes takes enough = absurd (cc)
+offer_answers false (Readable sdp) said view next (Answered k) after none is passes takes enough = (k, refl)
+offer_answers false (Readable sdp) said view next (Refused (RemoteSdp why)) after none is passes takes enough = absurd (let same : sdp ≡ said = cc in let e = rw same at takes.0 in cc)
+offer_answers false (Readable sdp) said view next (Refused (SdpRefused error)) after none is passes takes enough = absurd (let same : sdp ≡ said = cc in let e = rw same at takes.0 in cc)
+offer_answers false (Readable sdp) said view next (Refused (Dtls error)) after none is passes takes enough = absurd (cc)
+offer_answers false (Readable sdp) said view next (Refused (Sctp error)) after none is passes takes enough = absurd (let e = rw takes.0 at enough in cc)
+offer_answers false (Readable sdp) said view next (Refused PeerAlloc) after none is passes takes enough = absurd (cc)
+offer_answers false (Readable sdp) said view next outcome after none is passes takes enough = absurd takes
 
 -- an answer that is not refused finishes, where nothing fails
 answer_finishes : {E : Type 0} → (held right : Bool) (asked : Asked) (sdp : Signalled) (said : Sdp) (view : Held) (outcome : Outcome E) (after : List LineRow) → held ≡ true → right ≡ true → sdp ≡ Readable said
@@ -93,11 +94,12 @@ pub record GoesOn {E : Type 0} (negotiating : Bool) (outcome : Outcome E) (cours
   pub ok : negotiating ≡ true → IsOkOrFails outcome
   pub next : fails outcome ≡ false → InCourse course past
 
--- The head of the offer or answer that a step delivers passes.
+-- The head of the offer or answer that a step delivers passes, and an offer collides with none.
 abbrev pub SidePasses : {E : Type 0} → Stances → Stances → List (Entry E) → Step → Type 0
 SidePasses fresh between past (Negotiate at ops apply) = Unit {0}
 SidePasses fresh between past (AcceptOffer at k) =
-    (sdp : Sdp) → remote_sdp true at k past ≡ Readable sdp → HeadPasses (view_in fresh at past (held_by (between at))) true sdp
+    (is_glare_at fresh at past ≡ false)
+    × ((sdp : Sdp) → remote_sdp true at k past ≡ Readable sdp → HeadPasses (view_in fresh at past (held_by (between at))) true sdp)
 SidePasses fresh between past (AcceptAnswer at t a) =
     (sdp : Sdp) → remote_sdp false at a past ≡ Readable sdp → HeadPasses (view_in fresh at past (held_by (between at))) (restarts_by t past) sdp
 SidePasses fresh between past (Time at now) = Unit {0}
@@ -107,6 +109,10 @@ SidePasses fresh between past (Drain at) = Unit {0}
 SidePasses fresh between past (Write at channel binary bytes) = Unit {0}
 SidePasses fresh between past (CloseChannel at channel) = Unit {0}
 SidePasses fresh between past (Close at) = Unit {0}
+SidePasses fresh between past (Rollback at t) = Unit {0}
+SidePasses fresh between past (ForeignOffer at text) = Unit {0}
+SidePasses fresh between past (ForeignAnswer at t text) = Unit {0}
+SidePasses fresh between past (Raw at bytes now) = Unit {0}
 
 -- the course after the other side accepts an offer
 abbrev pub accepted_course : Side → ℕ → List LineRow → Course → Course
@@ -118,10 +124,10 @@ pub accept_goes_on : {E : Type 0} → (fresh between : Stances) (past : List (En
 accept_goes_on fresh between past at n said course Alloc None made read sound is out side replied says = record { ok = λ negotiating. refl; next = λ enough. absurd (cc) }
 accept_goes_on {E} fresh between past at n said course outcome (Some table) made read sound is out side replied says =
     let may : MayAccept out.offer at n past = may_accept fresh at n said past read sound out in
-    let passes = accept_passes fresh at n said past (view_in fresh (other_side at) past (held_by (between (other_side at)))) sound out refl (side (as_read out.offer.sdp) may.remote_is) in
+    let passes = accept_passes fresh at n said past (view_in fresh (other_side at) past (held_by (between (other_side at)))) sound out refl (side.1 (as_read out.offer.sdp) may.remote_is) in
     let takes = offer_taking fresh between past (other_side at) n outcome table made replied in
     let comes : fails outcome ≡ false → (j : ℕ) × (outcome ≡ Answered j) =
-    offer_answers (remote_sdp true (other_side at) n past) (as_read out.offer.sdp) (view_in fresh (other_side at) past (held_by (between (other_side at)))) (length (sdps past)) outcome table.lines may.remote_is passes takes in
+    offer_answers (is_glare_at fresh (other_side at) past) (remote_sdp true (other_side at) n past) (as_read out.offer.sdp) (view_in fresh (other_side at) past (held_by (between (other_side at)))) (length (sdps past)) outcome table.lines side.0 may.remote_is passes takes in
     record { ok = λ negotiating. ok_or_fails outcome (λ enough. ap is_ok (comes enough).1); next = λ enough. by (comes enough).0 outcome (comes enough).1 replied says }
   where
     rows : List LineRow

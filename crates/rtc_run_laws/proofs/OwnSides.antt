@@ -8,8 +8,9 @@ use Rattle.rtc_plain_media.specs.declared.plain_media_event.PlainMediaEvent.{Pla
 use Rattle.rtc_sctp_entries.specs.declared.stream_entry.StreamEntry.{StreamEntry}
 use Rattle.rtc_run_history.specs.declared.side.Side.{Side}
 use Rattle.rtc_run_history.specs.declared.side.Side.TheVariants.{Left, Right}
+use Rattle.rtc_run_history.specs.Native.{go_forward}
 use Rattle.rtc_run_history.specs.PairState.{rtc_at}
-use Rattle.rtc_run_history.specs.Past.{Entry}
+use Rattle.rtc_run_history.specs.Past.{Entry, steps_of}
 use Rattle.rtc_run_history.specs.Runs.{Reached}
 use Rattle.rtc_run_history.specs.Sides.{other_side}
 use Rattle.rtc_run_laws.proofs.EmptyStreams.{AreUnused}
@@ -57,7 +58,7 @@ never_both s p q own theirs sides band here there =
     sides (one_side q.core.sctp.client p.core.sctp.client (sym (theirs s band.there there) ∙ own s band.here here))
 
 module _ {N : Type 0} (draws : Draws N) (stun : List ℕ → Bool) (start : PlainPair N) (past : List (Entry PlainMediaEvent)) (pair : PlainPair N)
-    (ran : Reached (plain_over draws) stun start past pair) (new : IsNewPair draws start) where
+    (go : go_forward (steps_of past) ≡ true) (ran : Reached (plain_over draws) stun start past pair) (new : IsNewPair draws start) where
   sound_start : (at : Side) → SideSound (plain_over draws) (plain_over_laws draws) (rtc_at at start)
   sound_start Left = inr (new_sound draws start.left new.left)
   sound_start Right = inr (new_sound draws start.right new.right)
@@ -66,7 +67,7 @@ module _ {N : Type 0} (draws : Draws N) (stun : List ℕ → Bool) (start : Plai
   pub owned_at : (at : Side) → IsSettledPeer (rtc_at at pair)
       → IsOwned (rtc_at at pair).core.sctp.client (rtc_at at pair).core.channels (rtc_at at pair).core.sctp.entries
   owned_at at settled =
-      run_owned (plain_over draws) (plain_over_laws draws) (rtc_at at pair).core.sctp.client stun start past pair ran sound_start
+      run_owned (plain_over draws) (plain_over_laws draws) (rtc_at at pair).core.sctp.client stun start past pair go ran sound_start
       (λ x. new_pair_owned draws (rtc_at at pair).core.sctp.client start new x) at
       (record { lives = λ closed. not_closed draws (rtc_at at pair) settled.alive closed; side = λ e. refl })
 
@@ -77,7 +78,7 @@ module _ {N : Type 0} (draws : Draws N) (stun : List ℕ → Bool) (start : Plai
   pub settled_parted : IsSettledPair past pair → (at : Side) → OpenNoneBoth (rtc_at at pair) (rtc_at (other_side at) pair)
   settled_parted settled at = λ s band here there.
       never_both s (rtc_at at pair) (rtc_at (other_side at) pair) (settled_own settled at) (settled_own settled (other_side at))
-      (settled_sides draws stun start past pair ran new settled at) band here there
+      (settled_sides draws stun start past pair go ran new settled at) band here there
 
   -- no opening waits for its answer; a channel that was confirmed is open at both sides, or refused alone
   module _ (h : PairTold draws start (λ x. []) (λ x s g. []) (λ x c s g. [])) (unused : AreUnused (plain_over draws) (plain_over_laws draws) start)
@@ -85,14 +86,14 @@ module _ {N : Type 0} (draws : Draws N) (stun : List ℕ → Bool) (start : Plai
     pub settled_waits_none : (at : Side) → WaitsNone (rtc_at at pair) (rtc_at (other_side at) pair)
     settled_waits_none at = λ s band channels waits.
         settled_parted settled at s channels (waits_opening s (rtc_at at pair).core.sctp.entries waits)
-        (refused_here s (rtc_at (other_side at) pair) (settled_answered draws stun start past pair ran h unused settled new at s band waits).0)
+        (refused_here s (rtc_at (other_side at) pair) (settled_answered draws stun start past pair go ran h unused settled new at s band waits).0)
 
     pub settled_alone : (at : Side) → channels_wake plain_meaning (rtc_at at pair).core.channels (rtc_at at pair).core.sctp ≡ None
         → AreConfirmedAlone draws (λ c. WasConfirmed (plain_over draws) stun start at c past pair ran)
         (uses_of (plain_over draws) stun start at past pair ran) (rtc_at at pair)
         (uses_of (plain_over draws) stun start (other_side at) past pair ran) (rtc_at (other_side at) pair)
     settled_alone at idle = λ c s confirmed under band channels.
-        by c s channels (settled_refused draws stun start past pair ran h unused settled new at idle c s confirmed under band)
+        by c s channels (settled_refused draws stun start past pair go ran h unused settled new at idle c s confirmed under band)
       where
         by : (c s : ℕ) → AreInBandChannels s (rtc_at at pair) (rtc_at (other_side at) pair)
             → IsOpenAtBoth draws c (uses_of (plain_over draws) stun start at past pair ran) (rtc_at at pair)

@@ -91,7 +91,7 @@ confirmed_row f s id config [] h = absurd h
 confirmed_row f s id config (row ∷ rows) h = by (has_id id row) h (λ k. confirmed_row f s id config rows k)
   where
     by : (b : Bool) → HasOver f s (row ∷ rows) → (HasOver f s rows → HasOver f s (rows_confirmed id config rows))
-        → HasOver f s (if b then record row { config = Some config } ∷ rows else row ∷ rows_confirmed id config rows)
+        → HasOver f s (if b then record row { config = Some config; confirmed = true } ∷ rows else row ∷ rows_confirmed id config rows)
     by true (inl k) rest = inl k
     by true (inr k) rest = inr k
     by false (inl k) rest = inl k
@@ -183,7 +183,7 @@ module _ (c : Bool) where
   confirmed_one x id config (row ∷ rows) h = by (has_id id row) (confirmed_one x id config rows h.1)
     where
       by : (b : Bool) → AreOwnRows c x (rows_confirmed id config rows)
-          → AreOwnRows c x (if b then record row { config = Some config } ∷ rows else row ∷ rows_confirmed id config rows)
+          → AreOwnRows c x (if b then record row { config = Some config; confirmed = true } ∷ rows else row ∷ rows_confirmed id config rows)
       by true rest = h
       by false rest = (h.0, rest)
 

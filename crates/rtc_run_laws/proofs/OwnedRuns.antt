@@ -20,8 +20,9 @@ use Rattle.rtc_peer_laws.specs.RowsChanged.{ChangeRows, OnlyActs, RowsChange, Ro
 use Rattle.rtc_peer_laws.specs.RowsChanged.{Stayed, Polled, Timed, Progressed, ThresholdSet, StreamClosed, Confirmed, Made}
 use Rattle.rtc_run_history.specs.declared.side.Side.{Side}
 use Rattle.rtc_run_history.specs.declared.side.Side.TheVariants.{Left, Right}
+use Rattle.rtc_run_history.specs.Native.{go_forward}
 use Rattle.rtc_run_history.specs.PairState.{PairState, rtc_at}
-use Rattle.rtc_run_history.specs.Past.{Entry}
+use Rattle.rtc_run_history.specs.Past.{Entry, steps_of}
 use Rattle.rtc_run_history.specs.Runs.{Reached}
 use Rattle.rtc_run_laws.specs.NewPairs.{IsNewPair, IsNewPeer}
 use Rattle.rtc_run_laws.specs.PlainPairs.{PlainPair, PlainPolled}
@@ -36,6 +37,7 @@ use Rattle.rtc_run_laws.proofs.StandingCalls.{closes_kept, threshold_kept, timeo
 use Rattle.rtc_run_laws.proofs.StandingEntries.{HasStanding, kept_is}
 use Rattle.rtc_run_laws.proofs.StreamPolls.{poll_goes}
 use Rattle.rtc_run_laws.proofs.StepRows.{StepRows}
+use Rattle.rtc_run_laws.proofs.ForwardSteps.{forward_entry}
 
 module _ {S : Type 0} (m : AssociationMeaning S) (w : AssociationLaws m) (c : Bool) where
   -- an association that is started has this side
@@ -141,15 +143,16 @@ module _ {I D S M E X T W N : Type 0} (m : Meanings I D S M E X T W N) (laws : P
           changed_owned m.association laws.association c p.core.channels p.core.sctp q.core.channels q.core.sctp changed after.side sound owned
 
   pub run_owned : (stun : List ℕ → Bool) (start : PairState I D S M N) (past : List (Entry E)) (pair : PairState I D S M N)
-      → Reached m stun start past pair → ((at : Side) → SideSound m laws (rtc_at at start)) → ((at : Side) → SideOwned (rtc_at at start))
+      → go_forward (steps_of past) ≡ true → Reached m stun start past pair → ((at : Side) → SideSound m laws (rtc_at at start)) → ((at : Side) → SideOwned (rtc_at at start))
       → (at : Side) → LivesOnSide (rtc_at at pair) → SideOwned (rtc_at at pair)
-  run_owned stun start [] pair ran sound owned at lives = subst (λ (x : PairState I D S M N). SideOwned (rtc_at at x)) (sym ran) (owned at)
-  run_owned stun start (entry ∷ past) pair ran sound owned at lives =
-      let rows = last_rows m laws stun start entry past pair ran at in
+  run_owned stun start [] pair go ran sound owned at lives = subst (λ (x : PairState I D S M N). SideOwned (rtc_at at x)) (sym ran) (owned at)
+  run_owned stun start (entry ∷ past) pair go ran sound owned at lives =
+      let earlier = (forward_entry entry past go).0 in
+      let rows = last_rows m laws stun start entry past pair go ran at in
       let before = lived_before (rtc_at at ran.0) (rtc_at at pair) rows lives in
       step_owned (rtc_at at ran.0) (rtc_at at pair) rows lives
-      (side_sound (rtc_at at ran.0) before.lives (run_sound m laws stun start past ran.0 ran.1 sound at))
-      (run_owned stun start past ran.0 ran.1 sound owned at before)
+      (side_sound (rtc_at at ran.0) before.lives (run_sound m laws stun start past ran.0 earlier ran.1 sound at))
+      (run_owned stun start past ran.0 earlier ran.1 sound owned at before)
 
 -- ---- new peers
 

@@ -8,21 +8,22 @@ use Rattle.rtc_run_history.specs.declared.reply.Reply.{Reply}
 use Rattle.rtc_run_history.specs.declared.step.Step.{Step}
 use Rattle.rtc_run_history.specs.Memory.{CountedPart, DtlsPart, AssociationPart, MediaPart, tells_fault_of, tells_fault, tell_fault}
 use Rattle.rtc_run_history.specs.Past.{Entry, reply_of, replies_of}
-use Rattle.rtc_run_history.specs.PairState.{PairState, rtc_at, peer_at}
+use Rattle.rtc_run_history.specs.PairState.{addr_at, PairState, rtc_at, peer_at}
 use Rattle.rtc_run_history.specs.Performs.{Enters}
 use Rattle.rtc_run_history.specs.Runs.{Went, EntersSoundly, Runs}
 use Rattle.rtc_run_history.specs.Sides.{side_of, other_side}
 use Rattle.rtc_run_history.specs.SoundParts.{refuses_sdp, faults_of, faults_at, CountsFault, IsSoundOfParts}
 use Rattle.rtc_run_history.proofs.BothSides.{both_sides}
 use Rattle.rtc_run_laws.proofs.CountedFaults.{equal_below, rose_along}
-use Rattle.rtc_run_laws.proofs.SoundSides.{IsSoundOfSide, acts_side}
+use Rattle.rtc_run_laws.proofs.SideFaults.{IsSoundOfSide}
+use Rattle.rtc_run_laws.proofs.SoundSides.{acts_side}
 
 module _ {I D S M E X T W N : Type 0} (m : Meanings I D S M E X T W N) (stun : List ℕ → Bool) where
   -- The entry of a step that is performed is sound of the parts.
   pub parts_sound : PartsLaws m → (old : PairState I D S M N) (last : Entry E) (new : PairState I D S M N) → Enters m stun old last new → IsSoundOfParts m old last new
   parts_sound laws old last new enters =
       let acts : IsSoundOfSide m laws (peer_at (side_of last.step) old) (refuses_sdp last.step last.outcome) last.outcome (peer_at (side_of last.step) new) =
-      acts_side m laws stun last.step (rtc_at (side_of last.step) old) old.sdps old.packets last.outcome last.table (rtc_at (side_of last.step) new) new.sdps new.packets enters.performs.acts in
+      acts_side m laws stun (addr_at (other_side (side_of last.step)) old) (addr_at (side_of last.step) old) last.step (rtc_at (side_of last.step) old) old.sdps old.packets last.outcome last.table (rtc_at (side_of last.step) new) new.sdps new.packets enters.performs.acts in
       let same : (part : CountedPart) → faults_at m part (other_side (side_of last.step)) new ≡ faults_at m part (other_side (side_of last.step)) old =
       λ part. ap (λ (rtc : PolledPeer I D S M N). faults_of m part rtc.core) enters.performs.other in
       record {

@@ -18,7 +18,7 @@ use Rattle.rtc_run_history.specs.declared.outcome.Outcome.TheVariants.{Answered}
 use Rattle.rtc_run_history.specs.declared.table.Table.{Table}
 use Rattle.rtc_run_history.specs.Sides.{same_side, other_side}
 use Rattle.rtc_run_history.specs.Past.{Entry, MadeSdp, before, sdps, sdp_for, remote_sdp}
-use Rattle.rtc_run_history.specs.Sound.{RepliesToOffer, IsSound}
+use Rattle.rtc_run_history.specs.Sound.{RepliesToOffer, IsSound, is_glare_at}
 use Rattle.rtc_run_history.specs.SaidRows.{row_said, MakesSdp}
 use Rattle.rtc_run_history.specs.Rounds.{before_last, through_last, makes_answer, is_answer_to, is_own}
 use Rattle.rtc_run_laws.proofs.SoundPasts.{IsSoundIn, Sound}
@@ -63,10 +63,13 @@ pub record Answers (sdp : Signalled) (view : Held) (next k : ℕ) (after : List 
   pub leaves : after ≡ table_after view.lines (parsed_lines offer) true
   pub count : k ≡ next
 
-pub answered : (E : Type 0) (sdp : Signalled) (view : Held) (next k : ℕ) (after : List LineRow) → RepliesToOffer {E = E} sdp view next (Answered k) after → Answers sdp view next k after
-answered E NotMade view next k after takes = absurd takes
-answered E (Unreadable line) view next k after takes = absurd takes
-answered E (Readable sdp) view next k after takes = record { offer = sdp; is = refl; passes = takes.0; leaves = takes.1; count = takes.2 }
+pub answered : (E : Type 0) (glare : Bool) (sdp : Signalled) (view : Held) (next k : ℕ) (after : List LineRow) → RepliesToOffer {E = E} glare sdp view next (Answered k) after → Answers sdp view next k after
+answered E true NotMade view next k after takes = absurd takes
+answered E true (Unreadable line) view next k after takes = absurd takes
+answered E true (Readable sdp) view next k after takes = absurd takes
+answered E false NotMade view next k after takes = absurd takes
+answered E false (Unreadable line) view next k after takes = absurd takes
+answered E false (Readable sdp) view next k after takes = record { offer = sdp; is = refl; passes = takes.0; leaves = takes.1; count = takes.2 }
 
 answer_entry : {E : Type 0} → (fresh : Stances) (past : List (Entry E)) (entry : Entry E) (at : Side) (t a : ℕ) → IsSoundIn fresh past entry → makes_answer at t a entry ≡ true → AnswerEntry past entry (other_side at) t a
 answer_entry {E} fresh past entry at t a sound makes_it = by sound.between entry.step entry.outcome entry.table entry.made sound.sound.replied sound.sound.made makes_it
@@ -74,7 +77,7 @@ answer_entry {E} fresh past entry at t a sound makes_it = by sound.between entry
     here : (between : Stances) (side : Side) (offer k : ℕ) (table : Table) (made : List MadeSdp) → IsSound fresh past between (AcceptOffer side offer) (Answered k) (Some table) made → MakesSdp {E = E} (AcceptOffer side offer) (Answered k) (Some table) made
         → AnswerEntry past (record { step = AcceptOffer side offer; outcome = Answered k; table = Some table; made = made }) side offer k
     here between side offer k table made replied sdp =
-        let it = answered E (remote_sdp true side offer past) (view_in fresh side past (held_by (between side))) (length (sdps past)) k table.lines replied.0 in
+        let it = answered E (is_glare_at fresh side past) (remote_sdp true side offer past) (view_in fresh side past (held_by (between side))) (length (sdps past)) k table.lines replied.0 in
         record {
           offer = it.offer;
           sdp = sdp.sdp;

@@ -7,13 +7,13 @@ use Rattle.rtc_sdp_values.specs.declared.line_row.LineRow.{LineRow}
 use Rattle.rtc_sdp_values.specs.declared.sdp.Sdp.{Sdp}
 use Rattle.rtc_change.specs.Held.{Asked}
 use Rattle.rtc_peer_rows.specs.ParsedLines.{parsed_lines}
-use Rattle.rtc_run_history.specs.Signalled.{Signalled, NotMade, Unreadable, Readable}
+use Rattle.rtc_run_history.specs.Signalled.{Signalled, NotMade, Unreadable, Readable, foreign}
 use Rattle.rtc_run_history.specs.declared.side.Side.{Side}
 use Rattle.rtc_run_history.specs.declared.op_answer.OpAnswer.{OpAnswer}
 use Rattle.rtc_run_history.specs.declared.made.Made.{Made}
 use Rattle.rtc_run_history.specs.declared.made.Made.TheVariants.{NotAsked, Nothing, Offer, Alloc as MadeAlloc}
 use Rattle.rtc_run_history.specs.declared.step.Step.{Step}
-use Rattle.rtc_run_history.specs.declared.step.Step.TheVariants.{Negotiate, AcceptOffer, AcceptAnswer, Time, Datagram, Poll, Drain, Write, CloseChannel, Close}
+use Rattle.rtc_run_history.specs.declared.step.Step.TheVariants.{Negotiate, AcceptOffer, AcceptAnswer, Time, Datagram, Poll, Drain, Write, CloseChannel, Close, Rollback, ForeignOffer, ForeignAnswer, Raw}
 use Rattle.rtc_run_history.specs.declared.outcome.Outcome.{Outcome}
 use Rattle.rtc_run_history.specs.declared.outcome.Outcome.TheVariants.{Negotiated, Answered, Finished, Done, Wrote, Polled, Refused, NoSuch, Alloc}
 use Rattle.rtc_run_history.specs.declared.table.Table.{Table}
@@ -21,7 +21,8 @@ use Rattle.rtc_run_history.specs.Sides.{side_of}
 use Rattle.rtc_run_history.specs.Past.{Entry, MadeSdp, before, sdps, remote_sdp, is_offer_of, holds_token, is_right, moves, makes, new_app, added_in, added_by}
 use Rattle.rtc_run_history.specs.Answers.{has_app_row, do_need_offer, added}
 use Rattle.rtc_run_history.specs.Memory.{answers_lack}
-use Rattle.rtc_run_history.specs.Sound.{MadeOf, RepliesToOffer, RepliesToAnswer, IsSound, asked_in}
+use Rattle.rtc_run_history.specs.Sound.{MadeOf, RepliesToOffer, RepliesToAnswer, RepliesToRollback, IsSound, asked_in, is_glare_at}
+use Rattle.rtc_run_history.specs.Undone.{table_shown, table_undone}
 use Rattle.rtc_run_history.specs.SaidRows.{row_said, MakesSdp}
 use Rattle.rtc_run_history.specs.Rounds.{makes_offer, rows_at_offer}
 use Rattle.rtc_run_laws.proofs.Rests.{no_rest}
@@ -72,10 +73,13 @@ offer_count true true k next made = made
 offer_count true false k next made = absurd made
 offer_count false offers k next made = absurd made
 
-no_offer : {E : Type 0} → (fresh between : Stances) (sdp : Signalled) (past : List (Entry E)) (at : Side) (next : ℕ) (answers : List OpAnswer) (made : Made) (after : List LineRow) → RepliesToOffer {E = E} sdp (view_in fresh at past (held_by (between at))) next (Negotiated answers made) after → ⊥
-no_offer fresh between NotMade past at next answers made after takes = takes
-no_offer fresh between (Unreadable line) past at next answers made after takes = takes
-no_offer fresh between (Readable sdp) past at next answers made after takes = takes
+no_offer : {E : Type 0} → (fresh between : Stances) (glare : Bool) (sdp : Signalled) (past : List (Entry E)) (at : Side) (next : ℕ) (answers : List OpAnswer) (made : Made) (after : List LineRow) → RepliesToOffer {E = E} glare sdp (view_in fresh at past (held_by (between at))) next (Negotiated answers made) after → ⊥
+no_offer fresh between true NotMade past at next answers made after takes = takes
+no_offer fresh between true (Unreadable line) past at next answers made after takes = takes
+no_offer fresh between true (Readable sdp) past at next answers made after takes = takes
+no_offer fresh between false NotMade past at next answers made after takes = takes
+no_offer fresh between false (Unreadable line) past at next answers made after takes = takes
+no_offer fresh between false (Readable sdp) past at next answers made after takes = takes
 
 no_answer : {E : Type 0} → (fresh between : Stances) (held right : Bool) (asked : Asked) (sdp : Signalled) (past : List (Entry E)) (at : Side) (answers : List OpAnswer) (made : Made) (after : List LineRow) → RepliesToAnswer {E = E} held right asked sdp (view_in fresh at past (held_by (between at))) (Negotiated answers made) after → ⊥
 no_answer fresh between false right asked sdp past at answers made after takes = takes
@@ -83,6 +87,12 @@ no_answer fresh between true right asked NotMade past at answers made after take
 no_answer fresh between true right asked (Unreadable line) past at answers made after takes = takes
 no_answer fresh between true false asked (Readable sdp) past at answers made after takes = takes
 no_answer fresh between true true asked (Readable sdp) past at answers made after takes = takes
+
+no_rollback : (E : Type 0) (held right : Bool) (earlier undone : Table) (answers : List OpAnswer) (made : Made) (table : Table) → RepliesToRollback {E = E} held right earlier undone (Negotiated answers made) table → ⊥
+no_rollback E false false earlier undone answers made table replied = replied
+no_rollback E false true earlier undone answers made table replied = replied
+no_rollback E true false earlier undone answers made table replied = replied
+no_rollback E true true earlier undone answers made table replied = replied
 
 pub offer_entry : {E : Type 0} → (fresh : Stances) (past : List (Entry E)) (entry : Entry E) (t : ℕ) → IsSoundIn fresh past entry → makes_offer t entry ≡ true → OfferEntry past entry t
 offer_entry {E} fresh past entry t sound makes_it = by sound.between entry.step entry.outcome entry.table entry.made sound.sound.replied sound.sound.made makes_it
@@ -111,7 +121,7 @@ offer_entry {E} fresh past entry t sound makes_it = by sound.between entry.step 
     by between (Negotiate at ops apply) (Negotiated answers (Offer k)) None made replied sdp makes_it = absurd replied
     by between (AcceptOffer at offer) (Negotiated answers what) None made replied sdp makes_it = absurd replied
     by between (AcceptOffer at offer) (Negotiated answers what) (Some table) made replied sdp makes_it =
-        absurd (no_offer fresh between (remote_sdp true at offer past) past at (length (sdps past)) answers what table.lines replied.0)
+        absurd (no_offer fresh between (is_glare_at fresh at past) (remote_sdp true at offer past) past at (length (sdps past)) answers what table.lines replied.0)
     by between (AcceptAnswer at token answer) (Negotiated answers what) None made replied sdp makes_it = absurd replied
     by between (AcceptAnswer at token answer) (Negotiated answers what) (Some table) made replied sdp makes_it =
         absurd (no_answer fresh between (holds_token at token past) (is_right at token past) (asked_in at token past) (remote_sdp false at answer past) past at answers what table.lines replied.0)
@@ -122,6 +132,16 @@ offer_entry {E} fresh past entry t sound makes_it = by sound.between entry.step 
     by between (Write at channel binary bytes) (Negotiated answers what) table made replied sdp makes_it = absurd (no_rest fresh between (Write at channel binary bytes) answers what table made past tt replied)
     by between (CloseChannel at channel) (Negotiated answers what) table made replied sdp makes_it = absurd (no_rest fresh between (CloseChannel at channel) answers what table made past tt replied)
     by between (Close at) (Negotiated answers what) table made replied sdp makes_it = absurd (no_rest fresh between (Close at) answers what table made past tt replied)
+    by between (Rollback at u) (Negotiated answers what) None made replied sdp makes_it = absurd replied
+    by between (Rollback at u) (Negotiated answers what) (Some table) made replied sdp makes_it =
+        absurd (no_rollback E (holds_token at u past) (is_right at u past) (table_shown at past) (table_undone at u past) answers what table replied)
+    by between (ForeignOffer at text) (Negotiated answers what) None made replied sdp makes_it = absurd replied
+    by between (ForeignOffer at text) (Negotiated answers what) (Some table) made replied sdp makes_it =
+        absurd (no_offer fresh between (is_glare_at fresh at past) (foreign text) past at (length (sdps past)) answers what table.lines replied.0)
+    by between (ForeignAnswer at token text) (Negotiated answers what) None made replied sdp makes_it = absurd replied
+    by between (ForeignAnswer at token text) (Negotiated answers what) (Some table) made replied sdp makes_it =
+        absurd (no_answer fresh between (holds_token at token past) (is_right at token past) (asked_in at token past) (foreign text) past at answers what table.lines replied.0)
+    by between (Raw at bytes now) (Negotiated answers what) table made replied sdp makes_it = absurd (no_rest fresh between (Raw at bytes now) answers what table made past tt replied)
     by between step (Answered k) table made replied sdp makes_it = absurd (cc)
     by between step Finished table made replied sdp makes_it = absurd (cc)
     by between step Done table made replied sdp makes_it = absurd (cc)

@@ -5,22 +5,23 @@ use Rattle.std.specs.Prelude.{slice_get}
 use Rattle.std.proofs.lemmas.Bool.{eq-eqb, both_ways, or_parts, and_parts}
 use Rattle.rtc_sdp_values.specs.declared.line_row.LineRow.{LineRow}
 use Rattle.rtc_change.specs.Held.{Asked}
-use Rattle.rtc_peer_core.specs.declared.rtc_error.RtcError.TheVariants.{RemoteSdp, Sdp as SdpRefused, ChangesOutOfOrder, Alloc as PeerAlloc, Dtls, Sctp}
-use Rattle.rtc_run_history.specs.Signalled.{Signalled, NotMade, Unreadable, Readable}
+use Rattle.rtc_peer_core.specs.declared.rtc_error.RtcError.TheVariants.{RemoteSdp, Sdp as SdpRefused, ChangesOutOfOrder, Alloc as PeerAlloc, Dtls, Sctp, Glare}
+use Rattle.rtc_run_history.specs.Signalled.{Signalled, NotMade, Unreadable, Readable, foreign}
 use Rattle.rtc_run_history.specs.declared.side.Side.{Side}
 use Rattle.rtc_run_history.specs.declared.step.Step.{Step}
-use Rattle.rtc_run_history.specs.declared.step.Step.TheVariants.{Negotiate, AcceptOffer, AcceptAnswer, Time, Datagram, Poll, Drain, Write, CloseChannel, Close}
+use Rattle.rtc_run_history.specs.declared.step.Step.TheVariants.{Negotiate, AcceptOffer, AcceptAnswer, Time, Datagram, Poll, Drain, Write, CloseChannel, Close, Rollback, ForeignOffer, ForeignAnswer, Raw}
 use Rattle.rtc_run_history.specs.declared.outcome.Outcome.{Outcome}
-use Rattle.rtc_run_history.specs.declared.outcome.Outcome.TheVariants.{Negotiated, Answered, Finished, Refused, NoSuch, Alloc}
+use Rattle.rtc_run_history.specs.declared.outcome.Outcome.TheVariants.{Negotiated, Answered, Finished, Done, Refused, NoSuch, Alloc}
 use Rattle.rtc_run_history.specs.declared.table.Table.{Table}
 use Rattle.rtc_run_history.specs.Sides.{same_side, side_of}
-use Rattle.rtc_run_history.specs.Past.{Entry, MadeSdp, new_app, before, rows_or, sdps, remote_sdp, is_offer_of, holds_token, is_spent, spends, was_called, is_right, moves}
-use Rattle.rtc_run_history.specs.Sound.{RepliesToOffer, RepliesToAnswer, IsSound, asked_in, at_first}
+use Rattle.rtc_run_history.specs.Past.{Entry, MadeSdp, new_app, before, rows_or, sdps, remote_sdp, is_offer_of, holds_token, is_spent, spends, was_called, supersedes, was_rolled_back, is_right, moves}
+use Rattle.rtc_run_history.specs.Sound.{RepliesToOffer, RepliesToAnswer, RepliesToRollback, IsSound, asked_in, at_first, is_glare_at}
+use Rattle.rtc_run_history.specs.Undone.{table_shown, table_undone}
 use Rattle.rtc_run_history.specs.Rounds.{makes_offer, sets_lines, has_set, rows_at_offer}
 use Rattle.rtc_run_laws.proofs.SoundPasts.{IsSoundIn, Sound}
 use Rattle.rtc_run_laws.proofs.Tells.{same_side-self, same_side-true}
 use Rattle.rtc_run_laws.proofs.OpRows.{unset_rows}
-use Rattle.rtc_run_laws.proofs.Takings.{offer_taking, answer_taking}
+use Rattle.rtc_run_laws.proofs.Takings.{offer_taking, answer_taking, foreign_offer_taking, foreign_answer_taking, rollback_taking}
 use Rattle.rtc_run_laws.proofs.PastOffers.{offer_entry, right_parts, right_within, within_there, text_next, maker_side}
 use Rattle.rtc_run_history.specs.Views.{Stances, view_in}
 use Rattle.rtc_peer_core.specs.Stance.{held_by}
@@ -57,18 +58,21 @@ one_right fresh (entry ∷ past) at t u sound right right' mine mine' =
 
 -- ---- rows
 
--- an offer that was not delivered to a peer left its rows
-uncalled_rows : {E : Type 0} → (fresh between : Stances) (past : List (Entry E)) (at : Side) (sdp : Signalled) (next : ℕ) (outcome : Outcome E) (after : List LineRow)
-    → RepliesToOffer sdp (view_in fresh at past (held_by (between at))) next outcome after → was_called outcome ≡ false → after ≡ before at past
-uncalled_rows fresh between past at NotMade next NoSuch after takes uncalled = takes
-uncalled_rows fresh between past at (Unreadable line) next (Refused error) after takes uncalled = takes.1
-uncalled_rows fresh between past at (Readable sdp) next (Answered k) after takes uncalled = absurd (cc)
-uncalled_rows fresh between past at (Readable sdp) next (Refused (RemoteSdp why)) after takes uncalled = takes.1
-uncalled_rows fresh between past at (Readable sdp) next (Refused (SdpRefused error)) after takes uncalled = takes.1
-uncalled_rows fresh between past at (Readable sdp) next (Refused (Dtls Fault)) after takes uncalled = takes.1
-uncalled_rows fresh between past at (Readable sdp) next (Refused (Sctp error)) after takes uncalled = takes.2
-uncalled_rows fresh between past at (Readable sdp) next (Refused PeerAlloc) after takes uncalled = takes
-uncalled_rows fresh between past at sdp next outcome after takes uncalled = absurd takes
+-- an offer that supersedes none of a peer left its rows
+uncalled_rows : {E : Type 0} → (fresh between : Stances) (past : List (Entry E)) (at : Side) (glare : Bool) (sdp : Signalled) (next : ℕ) (outcome : Outcome E) (after : List LineRow)
+    → RepliesToOffer glare sdp (view_in fresh at past (held_by (between at))) next outcome after → supersedes outcome ≡ false → after ≡ before at past
+uncalled_rows fresh between past at true NotMade next NoSuch after takes uncalled = takes
+uncalled_rows fresh between past at false NotMade next NoSuch after takes uncalled = takes
+uncalled_rows fresh between past at true (Unreadable line) next (Refused error) after takes uncalled = takes.1
+uncalled_rows fresh between past at false (Unreadable line) next (Refused error) after takes uncalled = takes.1
+uncalled_rows fresh between past at false (Readable sdp) next (Answered k) after takes uncalled = absurd (cc)
+uncalled_rows fresh between past at false (Readable sdp) next (Refused (RemoteSdp why)) after takes uncalled = takes.1
+uncalled_rows fresh between past at false (Readable sdp) next (Refused (SdpRefused error)) after takes uncalled = takes.1
+uncalled_rows fresh between past at false (Readable sdp) next (Refused (Dtls Fault)) after takes uncalled = takes.1
+uncalled_rows fresh between past at false (Readable sdp) next (Refused (Sctp error)) after takes uncalled = takes.2
+uncalled_rows fresh between past at false (Readable sdp) next (Refused PeerAlloc) after takes uncalled = takes
+uncalled_rows fresh between past at true (Readable sdp) next (Refused Glare) after takes uncalled = takes
+uncalled_rows fresh between past at glare sdp next outcome after takes uncalled = absurd takes
 
 -- an answer left the rows of a peer, or it was delivered with a token that was held and right
 answer_rows : {E : Type 0} → (fresh between : Stances) (past : List (Entry E)) (at : Side) (held right : Bool) (asked : Asked) (sdp : Signalled) (outcome : Outcome E) (after : List LineRow)
@@ -85,6 +89,14 @@ answer_rows fresh between past at true true asked (Readable sdp) (Refused (Sctp 
 answer_rows fresh between past at true true asked (Readable sdp) (Refused PeerAlloc) after takes = inl takes
 answer_rows fresh between past at held right asked sdp outcome after takes = absurd takes
 
+-- a rollback left the table of a side, or its token was held and right
+rolled_rows : {E : Type 0} → (held right : Bool) (earlier undone : Table) (outcome : Outcome E) (table : Table) → RepliesToRollback held right earlier undone outcome table
+    → (table ≡ earlier) ⊎ ((was_rolled_back outcome ≡ true) × (held ≡ true) × (right ≡ true))
+rolled_rows false right earlier undone NoSuch table replied = inl replied
+rolled_rows true false earlier undone (Refused ChangesOutOfOrder) table replied = inl replied
+rolled_rows true true earlier undone Done table replied = inr (refl, refl, refl)
+rolled_rows held right earlier undone outcome table replied = absurd replied
+
 -- a step of a side whose token is right, that moves nothing and does not spend it, leaves the rows
 stayed : {E : Type 0} → (fresh between : Stances) (past : List (Entry E)) (step : Step) (outcome : Outcome E) (table : Option Table) (made : List MadeSdp) (t : ℕ) → Sound fresh past → IsSound fresh past between step outcome table made
     → is_right (side_of step) t past ≡ true → is_offer_of (side_of step) (slice_get (sdps past) t) ≡ true → moves (side_of step) step outcome ≡ false → spends t step outcome ≡ false
@@ -93,7 +105,7 @@ stayed fresh between past step Alloc None made t sound replied right mine still 
 stayed fresh between past (Negotiate at ops apply) (Negotiated answers what) (Some table) made t sound replied right mine still unspent unset =
     unset_rows (at_first (between at) at past (new_app table.lines made)) ops answers table.lines replied.0 (rw (← unset) (rw (same_side-self at) refl))
 stayed fresh between past (AcceptOffer at offer) outcome (Some table) made t sound replied right mine still unspent unset =
-    uncalled_rows fresh between past at (remote_sdp true at offer past) (length (sdps past)) outcome table.lines (offer_taking fresh between past at offer outcome table made replied) (rw (← still) (rw (same_side-self at) refl))
+    uncalled_rows fresh between past at (is_glare_at fresh at past) (remote_sdp true at offer past) (length (sdps past)) outcome table.lines (offer_taking fresh between past at offer outcome table made replied) (rw (← still) (rw (same_side-self at) refl))
 stayed fresh between past (AcceptAnswer at u answer) outcome (Some table) made t sound replied right mine still unspent unset =
     elim (answer_rows fresh between past at (holds_token at u past) (is_right at u past) (asked_in at u past) (remote_sdp false at answer past) outcome table.lines (answer_taking fresh between past at u answer outcome table made replied)) [
       | inl same ↦ same
@@ -109,6 +121,25 @@ stayed fresh between past (Drain at) outcome (Some table) made t sound replied r
 stayed fresh between past (Write at channel binary bytes) outcome (Some table) made t sound replied right mine still unspent unset = replied.1
 stayed fresh between past (CloseChannel at channel) outcome (Some table) made t sound replied right mine still unspent unset = replied.1
 stayed fresh between past (Close at) outcome (Some table) made t sound replied right mine still unspent unset = replied.1
+stayed fresh between past (Raw at bytes now) outcome (Some table) made t sound replied right mine still unspent unset = replied.1
+stayed fresh between past (Rollback at u) outcome (Some table) made t sound replied right mine still unspent unset =
+    elim (rolled_rows (holds_token at u past) (is_right at u past) (table_shown at past) (table_undone at u past) outcome table (rollback_taking fresh between past at u outcome table made replied)) [
+      | inl same ↦ ap (λ (shown : Table). shown.lines) same
+      | inr taken ↦ absurd (
+          let held = and_parts (is_offer_of at (slice_get (sdps past) u)) (not (is_spent u past)) taken.1 in
+          let one : u ≡ t = one_right fresh past at u t sound taken.2 right held.0 mine in
+          both_ways (spends t (Rollback at u) outcome) unspent (rw (taken.0, eq-eqb u t one) refl))
+    ]
+stayed fresh between past (ForeignOffer at text) outcome (Some table) made t sound replied right mine still unspent unset =
+    uncalled_rows fresh between past at (is_glare_at fresh at past) (foreign text) (length (sdps past)) outcome table.lines (foreign_offer_taking fresh between past at text outcome table made replied) (rw (← still) (rw (same_side-self at) refl))
+stayed fresh between past (ForeignAnswer at u text) outcome (Some table) made t sound replied right mine still unspent unset =
+    elim (answer_rows fresh between past at (holds_token at u past) (is_right at u past) (asked_in at u past) (foreign text) outcome table.lines (foreign_answer_taking fresh between past at u text outcome table made replied)) [
+      | inl same ↦ same
+      | inr taken ↦ absurd (
+          let held = and_parts (is_offer_of at (slice_get (sdps past) u)) (not (is_spent u past)) taken.1 in
+          let one : u ≡ t = one_right fresh past at u t sound taken.2 right held.0 mine in
+          both_ways (spends t (ForeignAnswer at u text) outcome) unspent (rw (taken.0, eq-eqb u t one) refl))
+    ]
 stayed fresh between past step outcome table made t sound replied right mine still unspent unset = absurd replied
 
 -- the same of a step of either side

@@ -1,17 +1,20 @@
 -- The descriptions (SDPs) of a run of formed peers are read back as they were written, where each source was unused when it was drawn.
-use Rattle.std.proofs.Common.{◌≡◌, ℕ, zero, suc, Bool, true, false, List, [], ◌∷◌, Option, sym, ap, subst, arith}
+use Rattle.std.proofs.Common.{◌≡◌, ℕ, zero, suc, Bool, true, false, List, [], ◌∷◌, Option, Some, None, sym, ap, subst, arith}
 use Rattle.std.specs.Prelude.{IfSome}
 use Rattle.rtc_part_media.specs.declared.media_update.MediaUpdate.{MediaUpdate}
+use Rattle.rtc_change.specs.PendingOffer.{PendingOffer}
 use Rattle.rtc_peer_core.specs.Calls.{uses_source}
+use Rattle.rtc_peer_core.specs.declared.rtc_error.RtcError.TheVariants.{RemoteSdp, Sdp as SdpRefused, Dtls, Sctp, Net, Media as MediaFailed, ChangesOutOfOrder, BadChannel, Alloc as PeerAlloc, Glare}
 use Rattle.rtc_peer_core.specs.Meanings.{Meanings, PartsLaws}
 use Rattle.rtc_peer_core.specs.Stance.{Stance, stance_of}
 use Rattle.rtc_peer_core.proofs.ApartSources.{IsSingleUpdate, AreLinesSingle}
 use Rattle.rtc_run_history.specs.declared.kept.Kept.{Kept}
 use Rattle.rtc_run_history.specs.declared.outcome.Outcome.{Outcome}
+use Rattle.rtc_run_history.specs.declared.outcome.Outcome.TheVariants.{Done, Refused, NoSuch, Alloc}
 use Rattle.rtc_run_history.specs.declared.reply.Reply.{Reply}
 use Rattle.rtc_run_history.specs.declared.side.Side.{Side}
 use Rattle.rtc_run_history.specs.declared.step.Step.{Step}
-use Rattle.rtc_run_history.specs.declared.step.Step.TheVariants.{Negotiate, AcceptOffer, AcceptAnswer, Time, Datagram, Poll, Drain, Write, CloseChannel, Close}
+use Rattle.rtc_run_history.specs.declared.step.Step.TheVariants.{Negotiate, AcceptOffer, AcceptAnswer, Time, Datagram, Poll, Drain, Write, CloseChannel, Close, Rollback, ForeignOffer, ForeignAnswer, Raw}
 use Rattle.rtc_run_history.specs.declared.table.Table.{Table}
 use Rattle.rtc_run_history.specs.DrawnInRuns.{AllPlain, AllWent, HaveNoLines, DrawsByStep, DrawsUnused}
 use Rattle.rtc_run_history.specs.Fresh.{IsFresh, ArePeersFormed}
@@ -19,6 +22,7 @@ use Rattle.rtc_run_history.specs.Past.{Entry}
 use Rattle.rtc_run_history.specs.PairState.{PairState, peer_at, kept_remote_sdp, held_token}
 use Rattle.rtc_run_history.specs.Performs.{Performs}
 use Rattle.rtc_run_history.specs.Runs.{Went, EntersSoundly, Runs}
+use Rattle.rtc_run_history.specs.Signalled.{foreign}
 use Rattle.rtc_run_history.specs.Sides.{side_of, other_side}
 use Rattle.rtc_run_history.proofs.BothSides.{both_sides}
 use Rattle.rtc_run_laws.proofs.FormedSteps.{IsWellFormed, reached_formed}
@@ -26,8 +30,8 @@ use Rattle.rtc_run_laws.proofs.LegibleSdps.{AreLegible}
 use Rattle.rtc_run_laws.proofs.EmptyStreams.{AreUnused}
 use Rattle.rtc_run_laws.proofs.StandingSteps.{enters_stands}
 use Rattle.rtc_run_laws.proofs.StanceRuns.{StanceRan, fresh_unused, ran_unused, ran_stands, ran_reached}
-use Rattle.rtc_run_laws.proofs.StanceSteps.{PairStance, StanceActs, StancePerforms, pair_stance}
-use Rattle.rtc_run_laws.proofs.SingleSdps.{AreSingleKept, token_single}
+use Rattle.rtc_run_laws.proofs.StanceSteps.{PairStance, StanceActs, StancePerforms, StanceStepRollsBack, pair_stance}
+use Rattle.rtc_run_laws.proofs.SingleSdps.{AreSingleKept, spent_single, token_single}
 use Rattle.rtc_run_laws.proofs.SingleSteps.{AreSingleBoth, same_line, negotiates_single, step_offer_single, step_answer_single}
 
 -- ---- all steps
@@ -36,6 +40,26 @@ use Rattle.rtc_run_laws.proofs.SingleSteps.{AreSingleBoth, same_line, negotiates
 rest_single : (old new : Stance) (kept kept' : List Kept) → new ≡ record old { channels = new.channels; rows = new.rows } → kept' ≡ kept
     → AreLinesSingle old.line → AreSingleKept kept → AreSingleBoth new kept'
 rest_single old new kept kept' rest same lines single = (same_line old new (ap (λ s. s.line) rest) lines, rw same single)
+
+-- a side that rolls an offer back
+rollback_single : {E : Type 0} → (t : ℕ) (token : Option PendingOffer) (old new : Stance) (kept kept' : List Kept) (outcome : Outcome E) (table : Option Table) → StanceStepRollsBack t token old kept outcome table new kept'
+    → AreLinesSingle old.line → AreSingleKept kept → AreSingleBoth new kept'
+rollback_single t None old new kept kept' Alloc None h lines single = (same_line old new (ap (λ s. s.line) h.peer) lines, rw h.sdps_kept single)
+rollback_single t (Some token) old new kept kept' Alloc None h lines single = (same_line old new (ap (λ s. s.line) h.peer) lines, rw h.sdps_kept single)
+rollback_single t None old new kept kept' NoSuch (Some table) h lines single = (same_line old new (ap (λ s. s.line) h.0.peer) lines, rw h.0.sdps_kept single)
+rollback_single t (Some token) old new kept kept' Done (Some table) h lines single = (same_line old new (ap (λ s. s.line) h.0.1) lines, rw h.2 (spent_single t kept single))
+rollback_single t (Some token) old new kept kept' (Refused ChangesOutOfOrder) (Some table) h lines single =
+    (same_line old new (ap (λ s. s.line) h.0.1) lines, rw h.1 (spent_single t kept single))
+rollback_single t (Some token) old new kept kept' (Refused (RemoteSdp why)) (Some table) h lines single = absurd h.0
+rollback_single t (Some token) old new kept kept' (Refused (SdpRefused error)) (Some table) h lines single = absurd h.0
+rollback_single t (Some token) old new kept kept' (Refused (Dtls error)) (Some table) h lines single = absurd h.0
+rollback_single t (Some token) old new kept kept' (Refused (Sctp error)) (Some table) h lines single = absurd h.0
+rollback_single t (Some token) old new kept kept' (Refused (Net cause)) (Some table) h lines single = absurd h.0
+rollback_single t (Some token) old new kept kept' (Refused (MediaFailed cause)) (Some table) h lines single = absurd h.0
+rollback_single t (Some token) old new kept kept' (Refused BadChannel) (Some table) h lines single = absurd h.0
+rollback_single t (Some token) old new kept kept' (Refused PeerAlloc) (Some table) h lines single = absurd h.0
+rollback_single t (Some token) old new kept kept' (Refused Glare) (Some table) h lines single = absurd h.0
+rollback_single t token old new kept kept' outcome table h lines single = absurd h
 
 -- no source of a line stands twice at either side, and in no SDP
 pub record IsSinglePair (pair : PairStance) : Type 0 where
@@ -61,6 +85,15 @@ module _ {I D S M E X T W N : Type 0} (m : Meanings I D S M E X T W N) (laws : P
       new.sdps outcome table performs.acts.0 s
       (λ is. subst (λ (o : Outcome E). DrawsByStep m (AcceptAnswer at t a) o old new) is drew)
       (token_single old.sdps at t single) lines single
+  acts_single stun (ForeignOffer at text) old new outcome table performs s drew lines single =
+      step_offer_single m laws at (foreign text) (peer_at at old) (peer_at at new) old.sdps new.sdps outcome table performs.acts.0 s
+      (λ n is. subst (λ (o : Outcome E). DrawsByStep m (ForeignOffer at text) o old new) is drew) lines single
+  acts_single stun (ForeignAnswer at t text) old new outcome table performs s drew lines single =
+      step_answer_single m laws t (held_token old.sdps at t) (foreign text) (peer_at at old) (peer_at at new) old.sdps new.sdps outcome table performs.acts.0 s
+      (λ is. subst (λ (o : Outcome E). DrawsByStep m (ForeignAnswer at t text) o old new) is drew) (token_single old.sdps at t single) lines single
+  acts_single stun (Rollback at t) old new outcome table performs s drew lines single =
+      rollback_single t (held_token old.sdps at t) (stance_of m (peer_at at old)) (stance_of m (peer_at at new)) old.sdps new.sdps outcome table s lines single
+  acts_single stun (Raw at bytes now) old new outcome table performs s drew lines single = rest_single (stance_of m (peer_at at old)) (stance_of m (peer_at at new)) old.sdps new.sdps s.peer s.sdps_kept lines single
   acts_single stun (Time at now) old new outcome table performs s drew lines single = rest_single (stance_of m (peer_at at old)) (stance_of m (peer_at at new)) old.sdps new.sdps s.peer s.sdps_kept lines single
   acts_single stun (Datagram at packet now) old new outcome table performs s drew lines single =
       rest_single (stance_of m (peer_at at old)) (stance_of m (peer_at at new)) old.sdps new.sdps s.peer s.sdps_kept lines single

@@ -1,5 +1,6 @@
 -- A side that rests was drained, and its peer is as a poll left it that ended in a timeout.
 use Rattle.std.proofs.Common.{◌≡◌, ◌∷◌, ℕ, Bool, true, false, List, [], Option, Some, None, Ok, sym, subst}
+use Rattle.rtc_wire.specs.declared.addr.Addr.{Addr}
 use Rattle.rtc_peer_core.specs.Meanings.{Meanings}
 use Rattle.rtc_peer_transport.specs.declared.output.Output.TheVariants.{Timeout}
 use Rattle.rtc_peer_transport.specs.declared.polled_peer.PolledPeer.{PolledPeer}
@@ -17,7 +18,7 @@ use Rattle.rtc_run_history.specs.declared.side.Side.TheVariants.{Left, Right}
 use Rattle.rtc_run_history.specs.declared.step.Step.{Step}
 use Rattle.rtc_run_history.specs.declared.step.Step.TheVariants.{Poll, Drain}
 use Rattle.rtc_run_history.specs.declared.table.Table.{Table}
-use Rattle.rtc_run_history.specs.PairState.{PairState, rtc_at}
+use Rattle.rtc_run_history.specs.PairState.{addr_at, PairState, rtc_at}
 use Rattle.rtc_run_history.specs.Past.{Entry}
 use Rattle.rtc_run_history.specs.Performs.{Acts, DrainsOn, DrainsPeer, PollsOnce, StepPollsPeer}
 use Rattle.rtc_run_history.specs.Runs.{Reached}
@@ -62,14 +63,14 @@ module _ {I D S M E X T W N : Type 0} (m : Meanings I D S M E X T W N) (is_so : 
   step_last polls old packets (Polled outputs end) None new packets' last h e = absurd h
   step_last polls old packets outcome table new packets' last h e = absurd e
 
-  acts_last : (stun : List ℕ → Bool) (step : Step) (old : PolledPeer I D S M N) (sdps : List Kept) (packets : List SentPacket) (outcome : Outcome E)
+  acts_last : (stun : List ℕ → Bool) (other own : Addr) (step : Step) (old : PolledPeer I D S M N) (sdps : List Kept) (packets : List SentPacket) (outcome : Outcome E)
       (table : Option Table) (new : PolledPeer I D S M N) (sdps' : List Kept) (packets' : List SentPacket)
-      → Acts m stun step old sdps packets outcome table new sdps' packets' → RestsByStep is_so step outcome → PolledLast new
-  acts_last stun (Poll at) old sdps packets outcome table new sdps' packets' h e =
+      → Acts m stun other own step old sdps packets outcome table new sdps' packets' → RestsByStep is_so step outcome → PolledLast new
+  acts_last stun other own (Poll at) old sdps packets outcome table new sdps' packets' h e =
       step_last (PollsOnce m at old) old packets outcome table new packets' (λ outputs end k d. once_last at old packets outputs end new packets' k d) h.0 e
-  acts_last stun (Drain at) old sdps packets outcome table new sdps' packets' h e =
+  acts_last stun other own (Drain at) old sdps packets outcome table new sdps' packets' h e =
       step_last (DrainsPeer m at old) old packets outcome table new packets' (λ outputs end k d. drain_last at old packets outputs end new packets' k d) h.0 e
-  acts_last stun step old sdps packets outcome table new sdps' packets' h e = absurd e
+  acts_last stun other own step old sdps packets outcome table new sdps' packets' h e = absurd e
 
   last_after : (at x : Side) (between pair : PairState I D S M N) (step : Step) (outcome : Outcome E) (earlier : Type 0)
       → rtc_at (other_side at) pair ≡ rtc_at (other_side at) between → (RestsByStep is_so step outcome → PolledLast (rtc_at at pair))
@@ -85,7 +86,7 @@ module _ {I D S M E X T W N : Type 0} (m : Meanings I D S M E X T W N) (is_so : 
   resting_last stun start (entry ∷ past) pair ran at d =
       last_after (side_of entry.step) at ran.0 pair entry.step entry.outcome (RestsUntil is_so at past) ran.2.performs.other
       (λ e.
-      acts_last stun entry.step (rtc_at (side_of entry.step) ran.0) ran.0.sdps ran.0.packets entry.outcome entry.table
+      acts_last stun (addr_at (other_side (side_of entry.step)) ran.0) (addr_at (side_of entry.step) ran.0) entry.step (rtc_at (side_of entry.step) ran.0) ran.0.sdps ran.0.packets entry.outcome entry.table
       (rtc_at (side_of entry.step) pair) pair.sdps pair.packets ran.2.performs.acts e)
       (λ e. resting_last stun start past ran.0 ran.1 at e) d
 

@@ -6,7 +6,7 @@ use Rattle.rtc_peer_core.specs.Stance.{Stance}
 use Rattle.rtc_run_history.specs.declared.side.Side.{Side}
 use Rattle.rtc_run_history.specs.declared.side.Side.TheVariants.{Left, Right}
 use Rattle.rtc_run_history.specs.declared.step.Step.{Step}
-use Rattle.rtc_run_history.specs.declared.step.Step.TheVariants.{Negotiate, AcceptOffer, AcceptAnswer, Time, Datagram, Poll, Drain, Write, CloseChannel, Close}
+use Rattle.rtc_run_history.specs.declared.step.Step.TheVariants.{Negotiate, AcceptOffer, AcceptAnswer, Time, Datagram, Poll, Drain, Write, CloseChannel, Close, Rollback, ForeignOffer, ForeignAnswer, Raw}
 use Rattle.rtc_run_history.specs.declared.op_answer.OpAnswer.{OpAnswer}
 use Rattle.rtc_run_history.specs.declared.made.Made.{Made}
 use Rattle.rtc_run_history.specs.declared.outcome.Outcome.{Outcome}
@@ -33,6 +33,10 @@ IsRest (Drain at) = Unit {0}
 IsRest (Write at channel binary bytes) = Unit {0}
 IsRest (CloseChannel at channel) = Unit {0}
 IsRest (Close at) = Unit {0}
+IsRest (Rollback at token) = ⊥
+IsRest (ForeignOffer at text) = ⊥
+IsRest (ForeignAnswer at token text) = ⊥
+IsRest (Raw at bytes now) = Unit {0}
 
 -- an outcome that such a step may have
 abbrev pub rests : {E : Type 0} → Outcome E → Bool
@@ -119,6 +123,10 @@ moves_none at (Drain side) outcome rest = refl
 moves_none at (Write side channel binary bytes) outcome rest = refl
 moves_none at (CloseChannel side channel) outcome rest = refl
 moves_none at (Close side) outcome rest = refl
+moves_none at (Rollback side token) outcome rest = refl
+moves_none at (ForeignOffer side text) outcome rest = absurd rest
+moves_none at (ForeignAnswer side token text) outcome rest = refl
+moves_none at (Raw side bytes now) outcome rest = refl
 
 pub spends_none : {E : Type 0} → (t : ℕ) (step : Step) (outcome : Outcome E) → IsRest step → spends t step outcome ≡ false
 spends_none t (Negotiate at ops apply) outcome rest = refl
@@ -131,6 +139,10 @@ spends_none t (Drain at) outcome rest = refl
 spends_none t (Write at channel binary bytes) outcome rest = refl
 spends_none t (CloseChannel at channel) outcome rest = refl
 spends_none t (Close at) outcome rest = refl
+spends_none t (Rollback at token) outcome rest = absurd rest
+spends_none t (ForeignOffer at text) outcome rest = refl
+spends_none t (ForeignAnswer at token text) outcome rest = absurd rest
+spends_none t (Raw at bytes now) outcome rest = refl
 
 pub makes_none : {E : Type 0} → (t : ℕ) (outcome : Outcome E) → rests outcome ≡ true → makes t outcome ≡ false
 makes_none t (Negotiated answers made) is = absurd (cc)
@@ -167,48 +179,6 @@ rest_tells past step outcome table made old new may rest quiet does around tells
     (ap (λ (p : Stance). p.counter) does.peer) (moves_none at step outcome rest) (moves_none (other_side at) step outcome rest) (λ t. spends_none t step outcome rest)
     (λ t. makes_none t outcome quiet) around tells
 
--- ---- replies
-
--- the lines of such a step are those from before
-pub lines_stay : (old new : Stance) → new ≡ record old { channels = new.channels; rows = new.rows } → new.lines ≡ old.lines
-lines_stay old new peer = ap (λ (p : Stance). p.lines) peer
-
-pub time_reply : {E : Type 0} → (fresh between : Stances) (past : List (Entry E)) (at : Side) (now : ℕ) (old new : Stance) (outcome : Outcome E) (table : Option Table) (made : List MadeSdp)
-    → before at past ≡ old.lines → new.lines ≡ old.lines → RestTold is_handled old outcome table new → IsSound fresh past between (Time at now) outcome table made
-time_reply fresh between past at now old new outcome None made rows stay told = rw told.0 tt
-time_reply fresh between past at now old new outcome (Some table) made rows stay told = (told.0, told.1.lines ∙ stay ∙ sym rows)
-
-pub datagram_reply : {E : Type 0} → (fresh between : Stances) (past : List (Entry E)) (at : Side) (packet now : ℕ) (old new : Stance) (outcome : Outcome E) (table : Option Table) (made : List MadeSdp)
-    → before at past ≡ old.lines → new.lines ≡ old.lines → RestTold is_heard old outcome table new → IsSound fresh past between (Datagram at packet now) outcome table made
-datagram_reply fresh between past at packet now old new outcome None made rows stay told = rw told.0 tt
-datagram_reply fresh between past at packet now old new outcome (Some table) made rows stay told = (told.0, told.1.lines ∙ stay ∙ sym rows)
-
-pub poll_reply : {E : Type 0} → (fresh between : Stances) (past : List (Entry E)) (at : Side) (old new : Stance) (outcome : Outcome E) (table : Option Table) (made : List MadeSdp)
-    → before at past ≡ old.lines → new.lines ≡ old.lines → RestTold is_polled old outcome table new → IsSound fresh past between (Poll at) outcome table made
-poll_reply fresh between past at old new outcome None made rows stay told = rw told.0 tt
-poll_reply fresh between past at old new outcome (Some table) made rows stay told = (told.0, told.1.lines ∙ stay ∙ sym rows)
-
-pub drain_reply : {E : Type 0} → (fresh between : Stances) (past : List (Entry E)) (at : Side) (old new : Stance) (outcome : Outcome E) (table : Option Table) (made : List MadeSdp)
-    → before at past ≡ old.lines → new.lines ≡ old.lines → RestTold is_polled old outcome table new → IsSound fresh past between (Drain at) outcome table made
-drain_reply fresh between past at old new outcome None made rows stay told = rw told.0 tt
-drain_reply fresh between past at old new outcome (Some table) made rows stay told = (told.0, told.1.lines ∙ stay ∙ sym rows)
-
-pub write_reply : {E : Type 0} → (fresh between : Stances) (past : List (Entry E)) (at : Side) (channel : ℕ) (binary : Bool) (bytes : List ℕ) (old new : Stance) (outcome : Outcome E) (table : Option Table)
-    (made : List MadeSdp) → before at past ≡ old.lines → new.lines ≡ old.lines → RestTold is_written old outcome table new
-    → IsSound fresh past between (Write at channel binary bytes) outcome table made
-write_reply fresh between past at channel binary bytes old new outcome None made rows stay told = rw told.0 tt
-write_reply fresh between past at channel binary bytes old new outcome (Some table) made rows stay told = (told.0, told.1.lines ∙ stay ∙ sym rows)
-
-pub close_channel_reply : {E : Type 0} → (fresh between : Stances) (past : List (Entry E)) (at : Side) (channel : ℕ) (old new : Stance) (outcome : Outcome E) (table : Option Table) (made : List MadeSdp)
-    → before at past ≡ old.lines → new.lines ≡ old.lines → RestTold is_channel_closed old outcome table new → IsSound fresh past between (CloseChannel at channel) outcome table made
-close_channel_reply fresh between past at channel old new outcome None made rows stay told = rw told.0 tt
-close_channel_reply fresh between past at channel old new outcome (Some table) made rows stay told = (told.0, told.1.lines ∙ stay ∙ sym rows)
-
-pub close_reply : {E : Type 0} → (fresh between : Stances) (past : List (Entry E)) (at : Side) (old new : Stance) (outcome : Outcome E) (table : Option Table) (made : List MadeSdp)
-    → before at past ≡ old.lines → new.lines ≡ old.lines → RestTold is_handled old outcome table new → IsSound fresh past between (Close at) outcome table made
-close_reply fresh between past at old new outcome None made rows stay told = rw told.0 tt
-close_reply fresh between past at old new outcome (Some table) made rows stay told = (told.0, told.1.lines ∙ stay ∙ sym rows)
-
 -- ---- what a sound reply to it tells
 
 -- it answers no ops
@@ -231,6 +201,11 @@ no_rest fresh between (Close at) answers what None made past rest sound = sound
 no_rest fresh between (Write at channel binary bytes) answers what (Some table) made past rest sound = let e : false ≡ true = sound.0 in cc
 no_rest fresh between (CloseChannel at channel) answers what (Some table) made past rest sound = let e : false ≡ true = sound.0 in cc
 no_rest fresh between (Close at) answers what (Some table) made past rest sound = let e : false ≡ true = sound.0 in cc
+no_rest fresh between (Rollback at token) answers what table made past rest sound = rest
+no_rest fresh between (ForeignOffer at text) answers what table made past rest sound = rest
+no_rest fresh between (ForeignAnswer at token text) answers what table made past rest sound = rest
+no_rest fresh between (Raw at bytes now) answers what None made past rest sound = sound
+no_rest fresh between (Raw at bytes now) answers what (Some table) made past rest sound = let e : false ≡ true = sound.0 in cc
 
 -- it makes no offer
 pub rest_unmade : {E : Type 0} → (fresh between : Stances) (past : List (Entry E)) (step : Step) (outcome : Outcome E) (table : Option Table) (made : List MadeSdp) (t : ℕ) → IsRest step
@@ -265,6 +240,11 @@ rest_shows fresh between past (Close at) outcome None made rest sound = refl
 rest_shows fresh between past (Write at channel binary bytes) outcome (Some table) made rest sound = sound.1
 rest_shows fresh between past (CloseChannel at channel) outcome (Some table) made rest sound = sound.1
 rest_shows fresh between past (Close at) outcome (Some table) made rest sound = sound.1
+rest_shows fresh between past (Rollback at token) outcome table made rest sound = absurd rest
+rest_shows fresh between past (ForeignOffer at text) outcome table made rest sound = absurd rest
+rest_shows fresh between past (ForeignAnswer at token text) outcome table made rest sound = absurd rest
+rest_shows fresh between past (Raw at bytes now) outcome None made rest sound = refl
+rest_shows fresh between past (Raw at bytes now) outcome (Some table) made rest sound = sound.1
 
 shown_at : {E : Type 0} → (at side : Side) (table : Option Table) (past : List (Entry E)) → rows_or true table (before at past) ≡ before at past
     → rows_or (same_side at side) table (before side past) ≡ before side past
@@ -290,3 +270,7 @@ rest_says (Drain at) outcome table made rest says = says
 rest_says (Write at channel binary bytes) outcome table made rest says = says
 rest_says (CloseChannel at channel) outcome table made rest says = says
 rest_says (Close at) outcome table made rest says = says
+rest_says (Rollback at token) outcome table made rest says = absurd rest
+rest_says (ForeignOffer at text) outcome table made rest says = absurd rest
+rest_says (ForeignAnswer at token text) outcome table made rest says = absurd rest
+rest_says (Raw at bytes now) outcome table made rest says = says

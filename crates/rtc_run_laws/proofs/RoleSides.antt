@@ -17,8 +17,9 @@ use Rattle.rtc_peer_laws.specs.PeerActs.{PeerActs, dtls_roles, roles_after}
 use Rattle.rtc_peer_laws.specs.RowsChanged.{RowsChanged}
 use Rattle.rtc_run_history.specs.declared.side.Side.{Side}
 use Rattle.rtc_run_history.specs.declared.side.Side.TheVariants.{Left, Right}
+use Rattle.rtc_run_history.specs.Native.{go_forward}
 use Rattle.rtc_run_history.specs.PairState.{PairState, rtc_at}
-use Rattle.rtc_run_history.specs.Past.{Entry}
+use Rattle.rtc_run_history.specs.Past.{Entry, steps_of}
 use Rattle.rtc_run_history.specs.Performs.{Enters}
 use Rattle.rtc_run_history.specs.Runs.{Reached}
 use Rattle.rtc_run_history.specs.Sides.{other_side}
@@ -40,6 +41,7 @@ use Rattle.rtc_run_laws.proofs.KnownRuns.{SideKnown, new_pair_known, run_known}
 use Rattle.rtc_run_laws.proofs.OpenSides.{not_closed}
 use Rattle.rtc_run_laws.proofs.SideChanges.{changed_side}
 use Rattle.rtc_run_laws.proofs.StepRows.{StepRows}
+use Rattle.rtc_run_laws.proofs.ForwardSteps.{forward_are_native, forward_entry}
 
 module _ {I D S M E X T W N : Type 0} (m : Meanings I D S M E X T W N) (laws : PartsLaws m) where
   -- an association that is started has the side of the DTLS role
@@ -62,15 +64,15 @@ module _ {I D S M E X T W N : Type 0} (m : Meanings I D S M E X T W N) (laws : P
       by false is = keeps.starts is after
 
   pub run_role : (stun : List ℕ → Bool) (start : PairState I D S M N) (past : List (Entry E)) (pair : PairState I D S M N)
-      → Reached m stun start past pair → AreUnused m laws start → ((at : Side) → HasRole (rtc_at at start))
+      → go_forward (steps_of past) ≡ true → Reached m stun start past pair → AreUnused m laws start → ((at : Side) → HasRole (rtc_at at start))
       → (at : Side) → ((rtc_at at pair).core.phase ≡ Closed → ⊥) → HasRole (rtc_at at pair)
-  run_role stun start [] pair ran unused has at lives = subst (λ (x : PairState I D S M N). HasRole (rtc_at at x)) (sym ran) (has at)
-  run_role stun start (entry ∷ past) pair ran unused has at lives =
-      let rows = last_rows m laws stun start entry past pair ran at in
+  run_role stun start [] pair go ran unused has at lives = subst (λ (x : PairState I D S M N). HasRole (rtc_at at x)) (sym ran) (has at)
+  run_role stun start (entry ∷ past) pair go ran unused has at lives =
+      let rows = last_rows m laws stun start entry past pair go ran at in
       step_role (rtc_at at ran.0) (rtc_at at pair) (enters_role m laws stun ran.0 entry pair ran.2 at) rows lives
       (went_unused m laws (λ earlier between one after. Enters m stun between one after) (λ earlier between one after enters. (stun, enters)) start past
       ran.0 unused ran.1 at).role
-      (run_role stun start past ran.0 ran.1 unused has at (λ closed. lives (rows.closed closed)))
+      (run_role stun start past ran.0 (forward_entry entry past go).0 ran.1 unused has at (λ closed. lives (rows.closed closed)))
 
 -- ---- the exchange of a pair
 
@@ -92,7 +94,7 @@ sides_part a b p q here there hands role sends own other same =
     ∙ sym (moved_role (dtls_given a.dtls) a.dtls fresh_dtls p.core.dtls.instance here (λ x m. m)))
 
 module _ {N : Type 0} (draws : Draws N) (stun : List ℕ → Bool) (start : PlainPair N) (past : List (Entry PlainMediaEvent)) (pair : PlainPair N)
-    (ran : Reached (plain_over draws) stun start past pair) (new : IsNewPair draws start) where
+    (go : go_forward (steps_of past) ≡ true) (ran : Reached (plain_over draws) stun start past pair) (new : IsNewPair draws start) where
   new_role : (at : Side) → HasRole (plain_over draws) (plain_over_laws draws) (rtc_at at start)
   new_role Left = λ started. absurd (true≢false (sym started ∙ new_unstarted draws start.left new.left))
   new_role Right = λ started. absurd (true≢false (sym started ∙ new_unstarted draws start.right new.right))
@@ -100,7 +102,7 @@ module _ {N : Type 0} (draws : Draws N) (stun : List ℕ → Bool) (start : Plai
   -- an association that is established was started
   known_at : (at : Side) → IsSettledPeer (rtc_at at pair) → AreKnown plain_meaning (rtc_at at pair).core.sctp
   known_at at settled =
-      by (run_known (plain_over draws) (plain_over_laws draws) plain_generations plain_unread stun start past pair ran (new_pair_known draws start new) at)
+      by (run_known (plain_over draws) (plain_over_laws draws) plain_generations plain_unread stun start past pair go ran (new_pair_known draws start new) at)
     where
       by : SideKnown (plain_over draws) (plain_over_laws draws) plain_generations plain_unread (rtc_at at pair)
           → AreKnown plain_meaning (rtc_at at pair).core.sctp
@@ -109,7 +111,7 @@ module _ {N : Type 0} (draws : Draws N) (stun : List ℕ → Bool) (start : Plai
 
   role_at : (at : Side) → IsSettledPeer (rtc_at at pair) → (rtc_at at pair).core.dtls.active ≡ Some (rtc_at at pair).core.sctp.client
   role_at at settled =
-      run_role (plain_over draws) (plain_over_laws draws) stun start past pair ran (new_unused draws start new) new_role at
+      run_role (plain_over draws) (plain_over_laws draws) stun start past pair go ran (new_unused draws start new) new_role at
       (λ closed. not_closed draws (rtc_at at pair) settled.alive closed)
       ((known_at at settled).begun settled.established)
 
@@ -118,7 +120,7 @@ module _ {N : Type 0} (draws : Draws N) (stun : List ℕ → Bool) (start : Plai
   settled_sides settled = by
     where
       exchanged : HasExchanged pair
-      exchanged = reached_exchanged draws stun start past pair ran (new_exchanged draws start new)
+      exchanged = reached_exchanged draws stun start past pair (forward_are_native (steps_of past) go) ran (new_exchanged draws start new)
 
       by : (at : Side) → AreOnSides (rtc_at at pair) (rtc_at (other_side at) pair)
       by Left = λ same.

@@ -17,7 +17,7 @@ use Rattle.rtc_change.specs.PendingOffer.{PendingOffer}
 use Rattle.rtc_change.specs.TableAfter.{table_after}
 use Rattle.rtc_peer_core.specs.declared.peer.Peer.{Peer}
 use Rattle.rtc_peer_core.specs.declared.rtc_error.RtcError.{RtcError}
-use Rattle.rtc_peer_core.specs.declared.rtc_error.RtcError.TheVariants.{Net, Media as MediaFailed}
+use Rattle.rtc_peer_core.specs.declared.rtc_error.RtcError.TheVariants.{Net, Media as MediaFailed, Glare}
 use Rattle.rtc_peer_core.specs.declared.rtc_error.RtcError.TheVariants.{RemoteSdp, Sdp as SdpRefused, Dtls, Sctp, ChangesOutOfOrder, BadChannel, Alloc as PeerAlloc}
 use Rattle.rtc_peer_core.specs.Acceptances.{AcceptsOffer, AcceptsAnswer}
 use Rattle.rtc_peer_core.specs.Calls.{raised}
@@ -33,7 +33,7 @@ use Rattle.rtc_peer_polling.proofs.StreamStarts.{started_same}
 use Rattle.rtc_run_history.specs.declared.side.Side.{Side}
 use Rattle.rtc_run_history.specs.Past.{Entry}
 use Rattle.rtc_run_history.specs.Sides.{side_of, other_side}
-use Rattle.rtc_run_history.specs.PairState.{PairState, rtc_at, peer_at}
+use Rattle.rtc_run_history.specs.PairState.{addr_at, PairState, rtc_at, peer_at}
 use Rattle.rtc_run_history.specs.Performs.{Enters}
 use Rattle.rtc_run_history.proofs.BothSides.{both_sides}
 use Rattle.rtc_run_laws.proofs.StepKinds.{PeerKind, KeptCore, StagedOps, TookOffer, TookAnswer, StepKind, Stayed, MovedBy, Described, acts_kind}
@@ -114,8 +114,8 @@ module _ {I D S M E X T W N : Type 0} (m : Meanings I D S M E X T W N) (laws : P
 
   offer_role : (p : Peer I D S M N) (offer : Sdp) (r : Result Sdp RtcError) (q : Peer I D S M N) → AcceptsOffer m p offer r q → KeepsRole p q
   offer_role p offer (Ok answer) q h = role_starting p q true offer (offer_halves m p offer) h.dtls_starts h.sctp_starts
-  offer_role p offer (Err (RemoteSdp why)) q h = same_role p _ q refl refl h.1
-  offer_role p offer (Err (SdpRefused error)) q h = same_role p _ q refl refl h.1
+  offer_role p offer (Err (RemoteSdp why)) q h = same_role p _ q refl refl h.1.1
+  offer_role p offer (Err (SdpRefused error)) q h = same_role p _ q refl refl h.1.1
   offer_role p offer (Err (Dtls Fault)) q h = role_taking p q offer (Err Fault) h.dtls_fails (ap (λ (x : Peer I D S M N). has_started x) h.rest)
   offer_role p offer (Err (Dtls WouldBlock)) q h = absurd h
   offer_role p offer (Err (Dtls DtlsAlloc)) q h = absurd h
@@ -124,11 +124,12 @@ module _ {I D S M E X T W N : Type 0} (m : Meanings I D S M E X T W N) (laws : P
   offer_role p offer (Err (Net cause)) q h = absurd h
   offer_role p offer (Err (MediaFailed cause)) q h = absurd h
   offer_role p offer (Err BadChannel) q h = absurd h
+  offer_role p offer (Err Glare) q h = same_role p p q refl refl h.1
   offer_role p offer (Err PeerAlloc) q h =
       role_stopped p q offer
-      (stopped_started m laws (record p { counter = raised p.counter }) true offer (offer_halves m p offer) q.sctp
-      (stopped_sctp m (record p { counter = raised p.counter }) _ _ _ _ _ _ q h.stops))
-      (stopped_dtls m (record p { counter = raised p.counter }) _ _ _ _ _ _ q h.stops)
+      (stopped_started m laws (record p { counter = raised p.counter; outstanding = false }) true offer (offer_halves m p offer) q.sctp
+      (stopped_sctp m (record p { counter = raised p.counter; outstanding = false }) _ _ _ _ _ _ q h.stops))
+      (stopped_dtls m (record p { counter = raised p.counter; outstanding = false }) _ _ _ _ _ _ q h.stops)
 
   answer_role : (p : Peer I D S M N) (token : PendingOffer) (answer : Sdp) (r : Result (Unit {0}) RtcError) (q : Peer I D S M N)
       → AcceptsAnswer m p token answer r q → KeepsRole p q
@@ -143,13 +144,14 @@ module _ {I D S M E X T W N : Type 0} (m : Meanings I D S M E X T W N) (laws : P
   answer_role p token answer (Err (Net cause)) q h = absurd h
   answer_role p token answer (Err (MediaFailed cause)) q h = absurd h
   answer_role p token answer (Err BadChannel) q h = absurd h
+  answer_role p token answer (Err Glare) q h = absurd h
   answer_role p token answer (Err PeerAlloc) q h =
-      role_stopped p q answer (stopped_started m laws p false answer (answer_halves m p token answer) q.sctp (stopped_sctp m p _ _ _ _ _ _ q h.stops))
-      (stopped_dtls m p _ _ _ _ _ _ q h.stops)
+      role_stopped p q answer (stopped_started m laws p false answer (answer_halves m p token answer) q.sctp (stopped_sctp m (record p { outstanding = false }) _ _ _ _ _ _ q h.stops))
+      (stopped_dtls m (record p { outstanding = false }) _ _ _ _ _ _ q h.stops)
 
   -- ---- steps
 
-  unstaged : (old new : Peer I D S M N) → KeepsRole (record old { staged = [] }) new → KeepsRole old new
+  unstaged : (old new : Peer I D S M N) → KeepsRole (record old { staged = []; undo = [] }) new → KeepsRole old new
   unstaged old new keeps = record { stays = keeps.stays; starts = keeps.starts }
 
   peer_role : (old new : Peer I D S M N) → PeerKind m laws old new → KeepsRole old new
@@ -157,8 +159,8 @@ module _ {I D S M E X T W N : Type 0} (m : Meanings I D S M E X T W N) (laws : P
   peer_role old new (StagedOps same) =
       role_alike old new (ap (λ (c : DtlsState D × (S × List StreamEntry) × M). c.0) same)
       (ap (λ (c : DtlsState D × (S × List StreamEntry) × M). m.association.started c.1.0) same)
-  peer_role old new (TookOffer offer r h) = unstaged old new (offer_role (record old { staged = [] }) offer r new h)
-  peer_role old new (TookAnswer token answer r h) = unstaged old new (answer_role (record old { staged = [] }) token answer r new h)
+  peer_role old new (TookOffer offer r h) = unstaged old new (offer_role (record old { staged = []; undo = [] }) offer r new h)
+  peer_role old new (TookAnswer token answer r h) = unstaged old new (answer_role (record old { staged = []; undo = [] }) token answer r new h)
 
   -- What a step leaves of the role of the side that it is performed at.
   step_role : (old new : PolledPeer I D S M N) → StepKind m laws old new → KeepsRole old.core new.core
@@ -173,6 +175,6 @@ module _ {I D S M E X T W N : Type 0} (m : Meanings I D S M E X T W N) (laws : P
   enters_role stun old entry new enters =
       both_sides (λ at. KeepsRole (peer_at at old) (peer_at at new)) (side_of entry.step)
       (step_role (rtc_at (side_of entry.step) old) (rtc_at (side_of entry.step) new)
-      (acts_kind m laws stun entry.step (rtc_at (side_of entry.step) old) old.sdps old.packets entry.outcome entry.table (rtc_at (side_of entry.step) new)
+      (acts_kind m laws stun (addr_at (other_side (side_of entry.step)) old) (addr_at (side_of entry.step) old) entry.step (rtc_at (side_of entry.step) old) old.sdps old.packets entry.outcome entry.table (rtc_at (side_of entry.step) new)
       new.sdps new.packets enters.performs.acts))
       (step_role (rtc_at (other_side (side_of entry.step)) old) (rtc_at (other_side (side_of entry.step)) new) (Stayed enters.performs.other))

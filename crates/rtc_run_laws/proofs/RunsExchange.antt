@@ -1,5 +1,5 @@
 -- Runs leave the exchange of a pair, and what one side reads of it the other side wrote.
-use Rattle.std.proofs.Common.{◌≡◌, ◌++◌, ◌∷◌, ℕ, Bool, false, List, [], sym, subst}
+use Rattle.std.proofs.Common.{◌≡◌, ◌++◌, ◌∷◌, ℕ, Bool, true, false, List, [], sym, subst}
 use Rattle.rtc_part_association.specs.AssociationWords.{ended, written, read}
 use Rattle.rtc_assoc.specs.Unread.{IsPrefix, unread}
 use Rattle.rtc_assoc.proofs.DirectedLemmas.{directed_all}
@@ -13,19 +13,22 @@ use Rattle.rtc_peer_laws.proofs.ExchangeLemmas.{left_reads, right_reads}
 use Rattle.rtc_run_history.specs.declared.side.Side.{Side}
 use Rattle.rtc_run_history.specs.declared.side.Side.TheVariants.{Left, Right}
 use Rattle.rtc_run_history.specs.PairState.{rtc_at}
-use Rattle.rtc_run_history.specs.Past.{Entry}
+use Rattle.rtc_run_history.specs.Native.{are_native}
+use Rattle.rtc_run_history.specs.Past.{Entry, steps_of}
 use Rattle.rtc_run_history.specs.Runs.{EntersSoundly, Reached, Went}
 use Rattle.rtc_run_history.specs.Sides.{other_side}
 use Rattle.rtc_run_laws.specs.PlainPairs.{HasExchanged, PairActs, PairExchanges, PlainPair, acts_at, plain_over}
 use Rattle.rtc_run_laws.specs.SentContents.{contents_sent}
+use Rattle.rtc_run_laws.proofs.ForwardSteps.{native_entry}
 use Rattle.rtc_run_laws.proofs.StepsExchange.{step_exchanges}
 
 module _ {N : Type 0} (draws : Draws N) (stun : List ℕ → Bool) (start : PlainPair N) where
-  pub reached_exchanged : (past : List (Entry PlainMediaEvent)) (pair : PlainPair N) → Reached (plain_over draws) stun start past pair
-      → HasExchanged start → HasExchanged pair
-  reached_exchanged [] pair ran exchanged = subst (λ (x : PlainPair N). HasExchanged x) (sym ran) exchanged
-  reached_exchanged (entry ∷ past) pair ran exchanged =
-      step_exchanges draws stun ran.0 entry.step entry.outcome entry.table pair ran.2.performs (reached_exchanged past ran.0 ran.1 exchanged)
+  pub reached_exchanged : (past : List (Entry PlainMediaEvent)) (pair : PlainPair N) → are_native (steps_of past) ≡ true
+      → Reached (plain_over draws) stun start past pair → HasExchanged start → HasExchanged pair
+  reached_exchanged [] pair native ran exchanged = subst (λ (x : PlainPair N). HasExchanged x) (sym ran) exchanged
+  reached_exchanged (entry ∷ past) pair native ran exchanged =
+      let last = native_entry entry past native in
+      step_exchanges draws stun ran.0 entry.step entry.outcome entry.table pair last.1 ran.2.performs (reached_exchanged past ran.0 last.0 ran.1 exchanged)
 
   -- sound entries are entries
   pub went_reached : (past : List (Entry PlainMediaEvent)) (pair : PlainPair N)

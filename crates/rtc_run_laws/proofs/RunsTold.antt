@@ -1,5 +1,5 @@
 -- Runs keep what holds of the channels that both sides announced, and what one channel hands out was sent over the other.
-use Rattle.std.proofs.Common.{◌≡◌, ◌∙◌, ◌∷◌, if◌then◌else◌, ℕ, Bool, List, [], Some, inr, refl, sym, ap, subst}
+use Rattle.std.proofs.Common.{◌≡◌, ◌∙◌, ◌∷◌, if◌then◌else◌, ℕ, Bool, true, List, [], Some, inr, refl, sym, ap, subst}
 use Rattle.rtc_part_values.specs.Among.{Among}
 use Rattle.rtc_part_association.proofs.AmongLemmas.{among_none}
 use Rattle.rtc_part_dtls.specs.DtlsWords.{dtls_got}
@@ -24,8 +24,9 @@ use Rattle.rtc_peer_laws.specs.JoinedPeers.{packet_parts}
 use Rattle.rtc_peer_laws.proofs.JoinedLemmas.{unused_joined}
 use Rattle.rtc_run_history.specs.declared.side.Side.{Side}
 use Rattle.rtc_run_history.specs.declared.side.Side.TheVariants.{Left, Right}
-use Rattle.rtc_run_history.specs.PairState.{rtc_at}
-use Rattle.rtc_run_history.specs.Past.{Entry}
+use Rattle.rtc_run_history.specs.Native.{go_forward}
+use Rattle.rtc_run_history.specs.PairState.{addr_at, rtc_at}
+use Rattle.rtc_run_history.specs.Past.{Entry, steps_of}
 use Rattle.rtc_run_history.specs.Runs.{Reached}
 use Rattle.rtc_run_history.specs.Sides.{other_side, same_side, side_of}
 use Rattle.rtc_run_laws.specs.NewPairs.{IsNewPair, IsNewPeer}
@@ -48,6 +49,7 @@ use Rattle.rtc_run_laws.proofs.UsesTold.{InBandTold}
 use Rattle.rtc_run_laws.proofs.WholeUses.{none_whole}
 use Rattle.rtc_run_laws.proofs.StandingSides.{Sent, SideSent, Stood}
 use Rattle.rtc_run_laws.proofs.StepsTold.{acts_stood}
+use Rattle.rtc_run_laws.proofs.ForwardSteps.{forward_entry}
 
 module _ {N : Type 0} (draws : Draws N) where
   -- what holds of both sides of a pair
@@ -150,12 +152,13 @@ module _ {N : Type 0} (draws : Draws N) where
 
   -- steps
   module _ (stun : List ℕ → Bool) (start : PlainPair N) where
-    pub reached_told : (past : List (Entry PlainMediaEvent)) (pair : PlainPair N) (ran : Reached (plain_over draws) stun start past pair)
+    pub reached_told : (past : List (Entry PlainMediaEvent)) (pair : PlainPair N) → go_forward (steps_of past) ≡ true
+        → (ran : Reached (plain_over draws) stun start past pair)
         → PairTold start (λ at. []) (λ at s g. []) (λ at c s g. [])
         → PairTold pair (λ at. uses_of (plain_over draws) stun start at past pair ran) (λ at. sent_over (plain_over draws) stun start at past pair ran)
         (λ at. told_over (plain_over draws) stun start at past pair ran)
-    reached_told [] pair ran h = subst (λ (x : PlainPair N). PairTold x (λ at. []) (λ at s g. []) (λ at c s g. [])) (sym ran) h
-    reached_told (entry ∷ past) pair ran h = by (reached_told past ran.0 ran.1 h)
+    reached_told [] pair go ran h = subst (λ (x : PlainPair N). PairTold x (λ at. []) (λ at s g. []) (λ at c s g. [])) (sym ran) h
+    reached_told (entry ∷ past) pair go ran h = by (reached_told past ran.0 (forward_entry entry past go).0 ran.1 h)
       where
         at : Side
         at = side_of entry.step
@@ -171,7 +174,7 @@ module _ {N : Type 0} (draws : Draws N) where
 
         acted : List ChannelUse → List ChannelUse
         acted l =
-            uses_acted (plain_over draws) stun entry.step (rtc_at (side_of entry.step) ran.0) ran.0.sdps ran.0.packets entry.outcome entry.table
+            uses_acted (plain_over draws) stun (addr_at (other_side (side_of entry.step)) ran.0) (addr_at (side_of entry.step) ran.0) entry.step (rtc_at (side_of entry.step) ran.0) ran.0.sdps ran.0.packets entry.outcome entry.table
             (rtc_at (side_of entry.step) pair) pair.sdps pair.packets ran.2.performs.acts l
 
         sends : ℕ → ℕ → List (Bool × List ℕ) → List (Bool × List ℕ)
@@ -179,7 +182,7 @@ module _ {N : Type 0} (draws : Draws N) where
 
         tells : MessagesTold → MessagesTold
         tells l =
-            by_step (plain_over draws) (told_shown (plain_over draws)) stun entry.step (rtc_at (side_of entry.step) ran.0) ran.0.sdps ran.0.packets
+            by_step (plain_over draws) (told_shown (plain_over draws)) stun (addr_at (other_side (side_of entry.step)) ran.0) (addr_at (side_of entry.step) ran.0) entry.step (rtc_at (side_of entry.step) ran.0) ran.0.sdps ran.0.packets
             entry.outcome entry.table (rtc_at (side_of entry.step) pair) pair.sdps pair.packets ran.2.performs.acts l
 
         by : PairTold ran.0 uses sent told
@@ -189,9 +192,9 @@ module _ {N : Type 0} (draws : Draws N) where
         by h =
             let before : StoodIn (side_of entry.step) ran.0 uses sent told = stood_in (side_of entry.step) ran.0 uses sent told h in
             told_after (side_of entry.step) pair before.other (rtc_at (other_side (side_of entry.step)) ran.0) ran.2.performs.other uses acted sent sends told tells
-            (acts_stood draws before.other (rtc_at (other_side (side_of entry.step)) ran.0) stun entry.step (rtc_at (side_of entry.step) ran.0) ran.0.sdps
+            (acts_stood draws before.other (rtc_at (other_side (side_of entry.step)) ran.0) stun (addr_at (other_side (side_of entry.step)) ran.0) (addr_at (side_of entry.step) ran.0) entry.step (rtc_at (side_of entry.step) ran.0) ran.0.sdps
             ran.0.packets entry.outcome entry.table (rtc_at (side_of entry.step) pair) pair.sdps pair.packets (uses (side_of entry.step))
-            (sent (side_of entry.step)) (told (side_of entry.step)) ran.2.performs.acts before.stood)
+            (sent (side_of entry.step)) (told (side_of entry.step)) (forward_entry entry past go).1 ran.2.performs.acts before.stood)
             before.rest
 
 module _ {N : Type 0} (draws : Draws N) where

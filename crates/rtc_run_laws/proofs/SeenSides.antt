@@ -17,10 +17,10 @@ use Rattle.rtc_peer_core.specs.SdpHalves.{told_chunk, joined_by}
 use Rattle.rtc_peer_core.specs.Stance.{Stance, kept_init, held_by}
 use Rattle.rtc_peer_core.proofs.StanceCalls.{Breaks, Joins, begun_by}
 use Rattle.rtc_run_history.specs.Answers.{has_app_row}
-use Rattle.rtc_run_history.specs.Signalled.{sdp_read}
+use Rattle.rtc_run_history.specs.Signalled.{sdp_read, foreign}
 use Rattle.rtc_run_history.specs.declared.side.Side.{Side}
 use Rattle.rtc_run_history.specs.declared.step.Step.{Step}
-use Rattle.rtc_run_history.specs.declared.step.Step.TheVariants.{Negotiate, AcceptOffer, AcceptAnswer, Time, Datagram, Poll, Drain, Write, CloseChannel, Close}
+use Rattle.rtc_run_history.specs.declared.step.Step.TheVariants.{Negotiate, AcceptOffer, AcceptAnswer, Time, Datagram, Poll, Drain, Write, CloseChannel, Close, Rollback, ForeignOffer, ForeignAnswer, Raw}
 use Rattle.rtc_run_history.specs.declared.outcome.Outcome.{Outcome}
 use Rattle.rtc_run_history.specs.declared.outcome.Outcome.TheVariants.{Negotiated, Answered, Finished, Done, Wrote, Polled, Refused, NoSuch, Alloc}
 use Rattle.rtc_run_history.specs.Sides.{same_side, side_of}
@@ -194,6 +194,8 @@ other_sees {E} fresh past e at s t another same sees = sees_still fresh past e a
     by : (step : Step) (outcome : Outcome E) → same_side (side_of step) at ≡ false → accepted_by at step outcome past ≡ None
     by (AcceptOffer side k) (Answered n) another = none_there (sdp_read (remote_sdp true at k past)) (same_side side at) another
     by (AcceptAnswer side t a) Finished another = none_there (sdp_read (remote_sdp false at a past)) (same_side side at) another
+    by (ForeignOffer side text) (Answered n) another = none_there (sdp_read (foreign text)) (same_side side at) another
+    by (ForeignAnswer side t text) Finished another = none_there (sdp_read (foreign text)) (same_side side at) another
     by (Negotiate side ops apply) outcome another = refl
     by (AcceptOffer side k) (Negotiated answers what) another = refl
     by (AcceptOffer side k) Finished another = refl
@@ -218,3 +220,21 @@ other_sees {E} fresh past e at s t another same sees = sees_still fresh past e a
     by (Write side channel binary bytes) outcome another = refl
     by (CloseChannel side channel) outcome another = refl
     by (Close side) outcome another = refl
+    by (ForeignOffer side text) (Negotiated answers what) another = refl
+    by (ForeignOffer side text) Finished another = refl
+    by (ForeignOffer side text) Done another = refl
+    by (ForeignOffer side text) (Wrote taken) another = refl
+    by (ForeignOffer side text) (Polled outputs end) another = refl
+    by (ForeignOffer side text) (Refused error) another = refl
+    by (ForeignOffer side text) NoSuch another = refl
+    by (ForeignOffer side text) Alloc another = refl
+    by (ForeignAnswer side t text) (Negotiated answers what) another = refl
+    by (ForeignAnswer side t text) (Answered n) another = refl
+    by (ForeignAnswer side t text) Done another = refl
+    by (ForeignAnswer side t text) (Wrote taken) another = refl
+    by (ForeignAnswer side t text) (Polled outputs end) another = refl
+    by (ForeignAnswer side t text) (Refused error) another = refl
+    by (ForeignAnswer side t text) NoSuch another = refl
+    by (ForeignAnswer side t text) Alloc another = refl
+    by (Rollback side t) outcome another = refl
+    by (Raw side bytes now) outcome another = refl

@@ -1,12 +1,11 @@
 -- What a side knows of the other one after a step.
-use Rattle.std.proofs.Common.{◌≡◌, Bool, true, false, not, ◌&&◌, List, [], ◌∷◌, Option, Some, None, refl, sym, ◌∙◌, ap, cond, ℕ}
+use Rattle.std.proofs.Common.{◌≡◌, Bool, true, false, not, ◌&&◌, List, [], ◌∷◌, Option, Some, None, refl, sym, ◌∙◌, ap, subst, ℕ}
 use Rattle.std.specs.Prelude.{is_some, Ok}
 use Rattle.rtc_part_dtls.specs.declared.dtls_error.DtlsError.TheVariants.{Fault, WouldBlock, Alloc as DtlsAlloc}
 use Rattle.rtc_change.specs.Plans.{asked_by}
 use Rattle.rtc_change.specs.PendingOffer.{PendingOffer}
 use Rattle.rtc_change.specs.TableAfter.{table_after}
 use Rattle.rtc_peer_rows.specs.ParsedLines.{parsed_lines}
-use Rattle.rtc_sdp_values.specs.declared.line_row.LineRow.{LineRow}
 use Rattle.rtc_peer_core.specs.SdpHalves.{tells_half, kept_told}
 use Rattle.rtc_change.specs.declared.change.Change.{Change}
 use Rattle.rtc_change.proofs.VerdictLemmas.{unrefused}
@@ -16,10 +15,10 @@ use Rattle.rtc_peer_core.specs.Stance.{Stance, held_by}
 use Rattle.rtc_sctp_values.specs.declared.proto_error.ProtoError.TheVariants.{Fault as AssociationFault}
 use Rattle.rtc_sctp_values.specs.declared.sctp_error.SctpError.{SctpError}
 use Rattle.rtc_sctp_values.specs.declared.sctp_error.SctpError.TheVariants.{Proto}
-use Rattle.rtc_peer_core.specs.declared.rtc_error.RtcError.TheVariants.{Net, Media as MediaFailed}
+use Rattle.rtc_peer_core.specs.declared.rtc_error.RtcError.TheVariants.{Net, Media as MediaFailed, Glare}
 use Rattle.rtc_peer_core.specs.declared.rtc_error.RtcError.TheVariants.{RemoteSdp, Sdp as SdpRefused, Dtls, Sctp, ChangesOutOfOrder, BadChannel, Alloc as PeerAlloc}
 use Rattle.rtc_peer_core.proofs.StanceCalls.{StanceChangesLine, stance_alone}
-use Rattle.rtc_run_history.specs.Signalled.{Signalled, NotMade, Unreadable, Readable, sdp_read}
+use Rattle.rtc_run_history.specs.Signalled.{Signalled, NotMade, Unreadable, Readable, foreign}
 use Rattle.rtc_run_history.specs.declared.side.Side.{Side}
 use Rattle.rtc_run_history.specs.declared.kept.Kept.{Kept}
 use Rattle.rtc_run_history.specs.declared.op.Op.{Op}
@@ -29,21 +28,22 @@ use Rattle.rtc_run_history.specs.declared.op_answer.OpAnswer.TheVariants.{Mid, C
 use Rattle.rtc_run_history.specs.declared.made.Made.{Made}
 use Rattle.rtc_run_history.specs.declared.made.Made.TheVariants.{NotAsked, Nothing, Offer, Alloc as MadeAlloc}
 use Rattle.rtc_run_history.specs.declared.step.Step.{Step}
-use Rattle.rtc_run_history.specs.declared.step.Step.TheVariants.{Negotiate, AcceptOffer, AcceptAnswer, Time, Datagram, Poll, Drain, Write, CloseChannel, Close}
+use Rattle.rtc_run_history.specs.declared.step.Step.TheVariants.{Negotiate, AcceptOffer, AcceptAnswer, Time, Datagram, Poll, Drain, Write, CloseChannel, Close, Rollback, ForeignOffer, ForeignAnswer, Raw}
 use Rattle.rtc_run_history.specs.declared.outcome.Outcome.{Outcome}
-use Rattle.rtc_run_history.specs.declared.outcome.Outcome.TheVariants.{Negotiated, Answered, Finished, Refused, NoSuch, Alloc}
+use Rattle.rtc_run_history.specs.declared.outcome.Outcome.TheVariants.{Negotiated, Answered, Finished, Done, Refused, NoSuch, Alloc}
 use Rattle.rtc_run_history.specs.declared.table.Table.{Table}
 use Rattle.rtc_run_history.specs.Memory.{answers_lack, is_fault}
 use Rattle.rtc_run_history.specs.Answers.{has_app_row}
-use Rattle.rtc_run_history.specs.Past.{Entry, MadeSdp, before, rows_or, remote_sdp}
-use Rattle.rtc_run_history.specs.Sides.{same_side, other_side, side_of}
-use Rattle.rtc_run_history.specs.Views.{Stances, init_in, tells_init, init_told_by}
+use Rattle.rtc_run_history.specs.Past.{Entry, MadeSdp}
+use Rattle.rtc_run_history.specs.Sides.{other_side, side_of}
+use Rattle.rtc_run_history.specs.Views.{Stances, tells_init, init_told_by}
 use Rattle.rtc_run_history.specs.PairState.{kept_remote_sdp, held_token}
 use Rattle.rtc_run_history.proofs.BothSides.{both_sides}
-use Rattle.rtc_run_laws.proofs.StanceSteps.{PairStance, StanceMakesOf, StancePerformsOps, StanceNegotiates, StanceStepAcceptsOffer, StanceStepAcceptsAnswer, StanceActs, StancePerforms, lent}
-use Rattle.rtc_run_laws.proofs.Tells.{Tells, same_side-self, same_side-other}
+use Rattle.rtc_run_laws.proofs.StanceSteps.{PairStance, StanceMakesOf, StancePerformsOps, StanceNegotiates, StanceStepAcceptsOffer, StanceStepAcceptsAnswer, StanceStepRollsBack, StanceActs, StancePerforms, lent}
+use Rattle.rtc_run_laws.proofs.Tells.{Tells, same_side-other}
 use Rattle.rtc_run_laws.proofs.Around.{entry, remote_sdp-told}
 use Rattle.rtc_run_laws.proofs.Entries.{said_at}
+use Rattle.rtc_run_laws.proofs.SeenTexts.{TellsOffer, TellsAnswer, tells_offer, tells_foreign, tells_answer, foreign_answer}
 use Rattle.rtc_run_laws.proofs.SeenSides.{SideSees, KeepsSide, side_parts, keeps_by, keeps_trans, sees_still, broken_start, sees_broken, sees_accepted, brought_by, known_after, other_sees}
 
 -- ---- ops
@@ -99,30 +99,19 @@ negotiates_keep_side at ops apply old new kept kept' outcome table h = absurd h
 
 -- ---- each kind of step
 
-here_is : {A : Type 0} (at : Side) (found : Option A) → cond (same_side at at) found None ≡ found
-here_is at found = rw (same_side-self at) refl
-
-here_breaks : (at : Side) (b : Bool) → b ≡ true → (same_side at at && b) ≡ true
-here_breaks at b is = rw (same_side-self at, is) refl
-
 -- an acceptance that the association's fault ends
 fault_breaks : (error : SctpError) → error ≡ Proto AssociationFault → is_fault (Sctp error) ≡ true
 fault_breaks error is = rw is refl
 
--- the rows that its table shows
-rows_here : (at : Side) (table : Table) (rows : List LineRow) → has_app_row (rows_or (same_side at at) (Some table) rows) ≡ has_app_row table.lines
-rows_here at table rows = ap (λ b. has_app_row (rows_or b (Some table) rows)) (same_side-self at)
-
-offer_sees : {E : Type 0} → (fresh : Stances) (past : List (Entry E)) (at : Side) (k : ℕ) (offer : Signalled) (old new : Stance) (kept kept' : List Kept) (outcome : Outcome E) (table : Option Table) (made : List MadeSdp) → remote_sdp true at k past ≡ offer
-    → StanceStepAcceptsOffer at offer old kept outcome table new kept' → SideSees fresh past at old → SideSees fresh (entry (AcceptOffer at k) outcome table made ∷ past) at new
-offer_sees fresh past at k NotMade old new kept kept' Alloc None made said h sees = sees_still fresh past _ at old new (keeps_by old new (ap side_parts h.peer)) refl sees
-offer_sees fresh past at k (Unreadable line) old new kept kept' Alloc None made said h sees = sees_still fresh past _ at old new (keeps_by old new (ap side_parts h.peer)) refl sees
-offer_sees fresh past at k (Readable sdp) old new kept kept' Alloc None made said h sees = sees_still fresh past _ at old new (keeps_by old new (ap side_parts h.peer)) refl sees
-offer_sees fresh past at k NotMade old new kept kept' NoSuch (Some table) made said h sees = sees_still fresh past _ at old new (keeps_by old new (ap side_parts h.0.peer)) refl sees
-offer_sees fresh past at k (Unreadable line) old new kept kept' (Refused error) (Some table) made said h sees =
-    sees_still fresh past _ at old new (keeps_by old new (ap side_parts h.1.peer)) refl sees
-offer_sees fresh past at k (Readable sdp) old new kept kept' (Answered n) (Some table) made said h sees =
-    let read : sdp_read (remote_sdp true at k past) ≡ Some sdp = ap sdp_read said in
+offer_sees : {E : Type 0} → (fresh : Stances) (past : List (Entry E)) (at : Side) (step : Step) (offer : Signalled) (old new : Stance) (kept kept' : List Kept) (outcome : Outcome E) (table : Option Table) (made : List MadeSdp) → TellsOffer E past at offer step
+    → StanceStepAcceptsOffer at offer old kept outcome table new kept' → SideSees fresh past at old → SideSees fresh (entry step outcome table made ∷ past) at new
+offer_sees fresh past at step NotMade old new kept kept' Alloc None made tells h sees = sees_still fresh past _ at old new (keeps_by old new (ap side_parts h.peer)) tells.lacking sees
+offer_sees fresh past at step (Unreadable line) old new kept kept' Alloc None made tells h sees = sees_still fresh past _ at old new (keeps_by old new (ap side_parts h.peer)) tells.lacking sees
+offer_sees fresh past at step (Readable sdp) old new kept kept' Alloc None made tells h sees = sees_still fresh past _ at old new (keeps_by old new (ap side_parts h.peer)) tells.lacking sees
+offer_sees fresh past at step NotMade old new kept kept' NoSuch (Some table) made tells h sees = sees_still fresh past _ at old new (keeps_by old new (ap side_parts h.0.peer)) tells.none sees
+offer_sees fresh past at step (Unreadable line) old new kept kept' (Refused error) (Some table) made tells h sees =
+    sees_still fresh past _ at old new (keeps_by old new (ap side_parts h.1.peer)) (tells.refused error) sees
+offer_sees fresh past at step (Readable sdp) old new kept kept' (Answered n) (Some table) made tells h sees =
     sees_accepted fresh past _ at old new sdp (has_app_row (table_after old.lines (parsed_lines sdp) true))
     (record {
       lite = ap (λ s. s.ice.lite) h.1.rest;
@@ -132,40 +121,39 @@ offer_sees fresh past at k (Readable sdp) old new kept kept' (Answered n) (Some 
       halves = h.1.halves;
       drops = false;
       snap = ap (λ s. s.snap) h.1.rest;
-      brings = λ uninited. brought_by (lent old) true true sdp h.1.halves h.1.joins refl uninited ∙ ap (init_in true) (sym read);
+      brings = λ uninited. brought_by (lent old) true true sdp h.1.halves h.1.joins refl uninited ∙ sym tells.brings;
     })
-    (here_is at (sdp_read (remote_sdp true at k past)) ∙ read)
-    (rows_here at table (before at past) ∙ ap has_app_row (h.4.lines ∙ ap (λ s. s.lines) h.1.rest)) sees
-offer_sees fresh past at k (Readable sdp) old new kept kept' (Refused (RemoteSdp why)) (Some table) made said h sees = sees_still fresh past _ at old new (keeps_by old new (ap side_parts h.0.1)) refl sees
-offer_sees fresh past at k (Readable sdp) old new kept kept' (Refused (SdpRefused error)) (Some table) made said h sees = sees_still fresh past _ at old new (keeps_by old new (ap side_parts h.0.1)) refl sees
-offer_sees fresh past at k (Readable sdp) old new kept kept' (Refused (Dtls Fault)) (Some table) made said h sees = sees_broken fresh past _ at old new h.0.1.breaks.lite (broken_start (lent old) new _ _ h.0.1.breaks) (here_breaks at true refl) refl sees
-offer_sees fresh past at k (Readable sdp) old new kept kept' (Refused (Sctp error)) (Some table) made said h sees = sees_broken fresh past _ at old new h.0.2.breaks.lite (broken_start (lent old) new _ _ h.0.2.breaks) (here_breaks at (is_fault (Sctp error)) (fault_breaks error h.0.0)) refl sees
-offer_sees fresh past at k (Readable sdp) old new kept kept' (Refused PeerAlloc) (Some table) made said h sees = sees_broken fresh past _ at old new h.0.breaks.lite (broken_start (lent old) new _ _ h.0.breaks) (here_breaks at true refl) refl sees
-offer_sees fresh past at k (Readable sdp) old new kept kept' (Refused (Dtls WouldBlock)) (Some table) made said h sees = absurd h.0
-offer_sees fresh past at k (Readable sdp) old new kept kept' (Refused (Dtls DtlsAlloc)) (Some table) made said h sees = absurd h.0
-offer_sees fresh past at k (Readable sdp) old new kept kept' (Refused ChangesOutOfOrder) (Some table) made said h sees = absurd h.0
-offer_sees fresh past at k (Readable sdp) old new kept kept' (Refused (Net cause)) (Some table) made said h sees = absurd h.0
-offer_sees fresh past at k (Readable sdp) old new kept kept' (Refused (MediaFailed cause)) (Some table) made said h sees = absurd h.0
-offer_sees fresh past at k (Readable sdp) old new kept kept' (Refused BadChannel) (Some table) made said h sees = absurd h.0
-offer_sees fresh past at k offer old new kept kept' outcome table made said h sees = absurd h
+    (tells.accepted n) (ap has_app_row (tells.shows (Answered n) table made ∙ h.4.lines ∙ ap (λ s. s.lines) h.1.rest)) sees
+offer_sees fresh past at step (Readable sdp) old new kept kept' (Refused (RemoteSdp why)) (Some table) made tells h sees = sees_still fresh past _ at old new (keeps_by old new (ap side_parts h.0.1.1)) (tells.refused (RemoteSdp why)) sees
+offer_sees fresh past at step (Readable sdp) old new kept kept' (Refused (SdpRefused error)) (Some table) made tells h sees = sees_still fresh past _ at old new (keeps_by old new (ap side_parts h.0.1.1)) (tells.refused (SdpRefused error)) sees
+offer_sees fresh past at step (Readable sdp) old new kept kept' (Refused (Dtls Fault)) (Some table) made tells h sees = sees_broken fresh past _ at old new h.0.1.breaks.lite (broken_start (lent old) new _ _ h.0.1.breaks) (tells.breaks (Dtls Fault) refl) (tells.refused (Dtls Fault)) sees
+offer_sees fresh past at step (Readable sdp) old new kept kept' (Refused (Sctp error)) (Some table) made tells h sees = sees_broken fresh past _ at old new h.0.2.breaks.lite (broken_start (lent old) new _ _ h.0.2.breaks) (tells.breaks (Sctp error) (fault_breaks error h.0.0)) (tells.refused (Sctp error)) sees
+offer_sees fresh past at step (Readable sdp) old new kept kept' (Refused PeerAlloc) (Some table) made tells h sees = sees_broken fresh past _ at old new h.0.breaks.lite (broken_start (lent old) new _ _ h.0.breaks) (tells.breaks PeerAlloc refl) (tells.refused PeerAlloc) sees
+offer_sees fresh past at step (Readable sdp) old new kept kept' (Refused (Dtls WouldBlock)) (Some table) made tells h sees = absurd h.0
+offer_sees fresh past at step (Readable sdp) old new kept kept' (Refused (Dtls DtlsAlloc)) (Some table) made tells h sees = absurd h.0
+offer_sees fresh past at step (Readable sdp) old new kept kept' (Refused ChangesOutOfOrder) (Some table) made tells h sees = absurd h.0
+offer_sees fresh past at step (Readable sdp) old new kept kept' (Refused (Net cause)) (Some table) made tells h sees = absurd h.0
+offer_sees fresh past at step (Readable sdp) old new kept kept' (Refused (MediaFailed cause)) (Some table) made tells h sees = absurd h.0
+offer_sees fresh past at step (Readable sdp) old new kept kept' (Refused BadChannel) (Some table) made tells h sees = absurd h.0
+offer_sees fresh past at step (Readable sdp) old new kept kept' (Refused Glare) (Some table) made tells h sees = sees_still fresh past _ at old new (keeps_by old new (ap side_parts h.0.1)) (tells.refused Glare) sees
+offer_sees fresh past at step offer old new kept kept' outcome table made tells h sees = absurd h
 
-answer_sees : {E : Type 0} → (fresh : Stances) (past : List (Entry E)) (at : Side) (t a : ℕ) (token : Option PendingOffer) (sdp : Signalled) (old new : Stance) (kept kept' : List Kept) (outcome : Outcome E) (table : Option Table) (made : List MadeSdp)
-    → remote_sdp false at a past ≡ sdp → ((one : PendingOffer) → token ≡ Some one → one.says_init ≡ init_told_by t past)
-    → StanceStepAcceptsAnswer t token sdp old kept outcome table new kept' → SideSees fresh past at old → SideSees fresh (entry (AcceptAnswer at t a) outcome table made ∷ past) at new
-answer_sees fresh past at t a None NotMade old new kept kept' Alloc None made said inits h sees = sees_still fresh past _ at old new (keeps_by old new (ap side_parts h.peer)) refl sees
-answer_sees fresh past at t a None (Unreadable line) old new kept kept' Alloc None made said inits h sees = sees_still fresh past _ at old new (keeps_by old new (ap side_parts h.peer)) refl sees
-answer_sees fresh past at t a None (Readable sdp) old new kept kept' Alloc None made said inits h sees = sees_still fresh past _ at old new (keeps_by old new (ap side_parts h.peer)) refl sees
-answer_sees fresh past at t a (Some token) NotMade old new kept kept' Alloc None made said inits h sees = sees_still fresh past _ at old new (keeps_by old new (ap side_parts h.peer)) refl sees
-answer_sees fresh past at t a (Some token) (Unreadable line) old new kept kept' Alloc None made said inits h sees = sees_still fresh past _ at old new (keeps_by old new (ap side_parts h.peer)) refl sees
-answer_sees fresh past at t a (Some token) (Readable sdp) old new kept kept' Alloc None made said inits h sees = sees_still fresh past _ at old new (keeps_by old new (ap side_parts h.peer)) refl sees
-answer_sees fresh past at t a None NotMade old new kept kept' NoSuch (Some table) made said inits h sees = sees_still fresh past _ at old new (keeps_by old new (ap side_parts h.0.peer)) refl sees
-answer_sees fresh past at t a None (Unreadable line) old new kept kept' NoSuch (Some table) made said inits h sees = sees_still fresh past _ at old new (keeps_by old new (ap side_parts h.0.peer)) refl sees
-answer_sees fresh past at t a None (Readable sdp) old new kept kept' NoSuch (Some table) made said inits h sees = sees_still fresh past _ at old new (keeps_by old new (ap side_parts h.0.peer)) refl sees
-answer_sees fresh past at t a (Some token) NotMade old new kept kept' NoSuch (Some table) made said inits h sees = sees_still fresh past _ at old new (keeps_by old new (ap side_parts h.0.peer)) refl sees
-answer_sees fresh past at t a (Some token) (Unreadable line) old new kept kept' (Refused error) (Some table) made said inits h sees =
-    sees_still fresh past _ at old new (keeps_by old new (ap side_parts h.1.peer)) refl sees
-answer_sees fresh past at t a (Some token) (Readable sdp) old new kept kept' Finished (Some table) made said inits h sees =
-    let read : sdp_read (remote_sdp false at a past) ≡ Some sdp = ap sdp_read said in
+answer_sees : {E : Type 0} → (fresh : Stances) (past : List (Entry E)) (at : Side) (step : Step) (t : ℕ) (token : Option PendingOffer) (sdp : Signalled) (old new : Stance) (kept kept' : List Kept) (outcome : Outcome E) (table : Option Table) (made : List MadeSdp)
+    → TellsAnswer E past at t sdp step → ((one : PendingOffer) → token ≡ Some one → one.says_init ≡ init_told_by t past)
+    → StanceStepAcceptsAnswer t token sdp old kept outcome table new kept' → SideSees fresh past at old → SideSees fresh (entry step outcome table made ∷ past) at new
+answer_sees fresh past at step t None NotMade old new kept kept' Alloc None made tells inits h sees = sees_still fresh past _ at old new (keeps_by old new (ap side_parts h.peer)) tells.lacking sees
+answer_sees fresh past at step t None (Unreadable line) old new kept kept' Alloc None made tells inits h sees = sees_still fresh past _ at old new (keeps_by old new (ap side_parts h.peer)) tells.lacking sees
+answer_sees fresh past at step t None (Readable sdp) old new kept kept' Alloc None made tells inits h sees = sees_still fresh past _ at old new (keeps_by old new (ap side_parts h.peer)) tells.lacking sees
+answer_sees fresh past at step t (Some token) NotMade old new kept kept' Alloc None made tells inits h sees = sees_still fresh past _ at old new (keeps_by old new (ap side_parts h.peer)) tells.lacking sees
+answer_sees fresh past at step t (Some token) (Unreadable line) old new kept kept' Alloc None made tells inits h sees = sees_still fresh past _ at old new (keeps_by old new (ap side_parts h.peer)) tells.lacking sees
+answer_sees fresh past at step t (Some token) (Readable sdp) old new kept kept' Alloc None made tells inits h sees = sees_still fresh past _ at old new (keeps_by old new (ap side_parts h.peer)) tells.lacking sees
+answer_sees fresh past at step t None NotMade old new kept kept' NoSuch (Some table) made tells inits h sees = sees_still fresh past _ at old new (keeps_by old new (ap side_parts h.0.peer)) tells.none sees
+answer_sees fresh past at step t None (Unreadable line) old new kept kept' NoSuch (Some table) made tells inits h sees = sees_still fresh past _ at old new (keeps_by old new (ap side_parts h.0.peer)) tells.none sees
+answer_sees fresh past at step t None (Readable sdp) old new kept kept' NoSuch (Some table) made tells inits h sees = sees_still fresh past _ at old new (keeps_by old new (ap side_parts h.0.peer)) tells.none sees
+answer_sees fresh past at step t (Some token) NotMade old new kept kept' NoSuch (Some table) made tells inits h sees = sees_still fresh past _ at old new (keeps_by old new (ap side_parts h.0.peer)) tells.none sees
+answer_sees fresh past at step t (Some token) (Unreadable line) old new kept kept' (Refused error) (Some table) made tells inits h sees =
+    sees_still fresh past _ at old new (keeps_by old new (ap side_parts h.1.peer)) (tells.refused error) sees
+answer_sees fresh past at step t (Some token) (Readable sdp) old new kept kept' Finished (Some table) made tells inits h sees =
     sees_accepted fresh past _ at old new sdp (has_app_row (table_after old.lines (parsed_lines sdp) false))
     (record {
       lite = ap (λ s. s.ice.lite) h.0.rest;
@@ -175,23 +163,40 @@ answer_sees fresh past at t a (Some token) (Readable sdp) old new kept kept' Fin
       halves = h.0.halves;
       drops = true;
       snap = ap (λ s. s.snap) h.0.rest;
-      brings = λ uninited. brought_by (lent old) token.says_init (init_told_by t past) sdp h.0.halves h.0.joins (inits token refl) uninited
-          ∙ ap (init_in (init_told_by t past)) (sym read);
+      brings = λ uninited. brought_by (lent old) token.says_init (init_told_by t past) sdp h.0.halves h.0.joins (inits token refl) uninited ∙ sym tells.brings;
     })
-    (here_is at (sdp_read (remote_sdp false at a past)) ∙ read)
-    (rows_here at table (before at past) ∙ ap has_app_row (h.2.lines ∙ ap (λ s. s.lines) h.0.rest)) sees
-answer_sees fresh past at t a (Some token) (Readable sdp) old new kept kept' (Refused ChangesOutOfOrder) (Some table) made said inits h sees = sees_still fresh past _ at old new (keeps_by old new (ap side_parts h.0.1)) refl sees
-answer_sees fresh past at t a (Some token) (Readable sdp) old new kept kept' (Refused (RemoteSdp why)) (Some table) made said inits h sees = sees_still fresh past _ at old new (keeps_by old new (ap side_parts h.0.1.1)) refl sees
-answer_sees fresh past at t a (Some token) (Readable sdp) old new kept kept' (Refused (SdpRefused error)) (Some table) made said inits h sees = sees_still fresh past _ at old new (keeps_by old new (ap side_parts h.0.1.1)) refl sees
-answer_sees fresh past at t a (Some token) (Readable sdp) old new kept kept' (Refused (Dtls Fault)) (Some table) made said inits h sees = sees_broken fresh past _ at old new h.0.2.lite (broken_start (lent old) new _ _ h.0.2) (here_breaks at true refl) refl sees
-answer_sees fresh past at t a (Some token) (Readable sdp) old new kept kept' (Refused (Sctp error)) (Some table) made said inits h sees = sees_broken fresh past _ at old new h.0.3.lite (broken_start (lent old) new _ _ h.0.3) (here_breaks at (is_fault (Sctp error)) (fault_breaks error h.0.1)) refl sees
-answer_sees fresh past at t a (Some token) (Readable sdp) old new kept kept' (Refused PeerAlloc) (Some table) made said inits h sees = sees_broken fresh past _ at old new h.0.1.lite (broken_start (lent old) new _ _ h.0.1) (here_breaks at true refl) refl sees
-answer_sees fresh past at t a (Some token) (Readable sdp) old new kept kept' (Refused (Dtls WouldBlock)) (Some table) made said inits h sees = absurd h.0
-answer_sees fresh past at t a (Some token) (Readable sdp) old new kept kept' (Refused (Dtls DtlsAlloc)) (Some table) made said inits h sees = absurd h.0
-answer_sees fresh past at t a (Some token) (Readable sdp) old new kept kept' (Refused (Net cause)) (Some table) made said inits h sees = absurd h.0
-answer_sees fresh past at t a (Some token) (Readable sdp) old new kept kept' (Refused (MediaFailed cause)) (Some table) made said inits h sees = absurd h.0
-answer_sees fresh past at t a (Some token) (Readable sdp) old new kept kept' (Refused BadChannel) (Some table) made said inits h sees = absurd h.0
-answer_sees fresh past at t a token sdp old new kept kept' outcome table made said inits h sees = absurd h
+    tells.accepted (ap has_app_row (tells.shows Finished table made ∙ h.2.lines ∙ ap (λ s. s.lines) h.0.rest)) sees
+answer_sees fresh past at step t (Some token) (Readable sdp) old new kept kept' (Refused ChangesOutOfOrder) (Some table) made tells inits h sees = sees_still fresh past _ at old new (keeps_by old new (ap side_parts h.0.1)) (tells.refused ChangesOutOfOrder) sees
+answer_sees fresh past at step t (Some token) (Readable sdp) old new kept kept' (Refused (RemoteSdp why)) (Some table) made tells inits h sees = sees_still fresh past _ at old new (keeps_by old new (ap side_parts h.0.1.1)) (tells.refused (RemoteSdp why)) sees
+answer_sees fresh past at step t (Some token) (Readable sdp) old new kept kept' (Refused (SdpRefused error)) (Some table) made tells inits h sees = sees_still fresh past _ at old new (keeps_by old new (ap side_parts h.0.1.1)) (tells.refused (SdpRefused error)) sees
+answer_sees fresh past at step t (Some token) (Readable sdp) old new kept kept' (Refused (Dtls Fault)) (Some table) made tells inits h sees = sees_broken fresh past _ at old new h.0.2.lite (broken_start (lent old) new _ _ h.0.2) (tells.breaks (Dtls Fault) refl) (tells.refused (Dtls Fault)) sees
+answer_sees fresh past at step t (Some token) (Readable sdp) old new kept kept' (Refused (Sctp error)) (Some table) made tells inits h sees = sees_broken fresh past _ at old new h.0.3.lite (broken_start (lent old) new _ _ h.0.3) (tells.breaks (Sctp error) (fault_breaks error h.0.1)) (tells.refused (Sctp error)) sees
+answer_sees fresh past at step t (Some token) (Readable sdp) old new kept kept' (Refused PeerAlloc) (Some table) made tells inits h sees = sees_broken fresh past _ at old new h.0.1.lite (broken_start (lent old) new _ _ h.0.1) (tells.breaks PeerAlloc refl) (tells.refused PeerAlloc) sees
+answer_sees fresh past at step t (Some token) (Readable sdp) old new kept kept' (Refused (Dtls WouldBlock)) (Some table) made tells inits h sees = absurd h.0
+answer_sees fresh past at step t (Some token) (Readable sdp) old new kept kept' (Refused (Dtls DtlsAlloc)) (Some table) made tells inits h sees = absurd h.0
+answer_sees fresh past at step t (Some token) (Readable sdp) old new kept kept' (Refused (Net cause)) (Some table) made tells inits h sees = absurd h.0
+answer_sees fresh past at step t (Some token) (Readable sdp) old new kept kept' (Refused (MediaFailed cause)) (Some table) made tells inits h sees = absurd h.0
+answer_sees fresh past at step t (Some token) (Readable sdp) old new kept kept' (Refused BadChannel) (Some table) made tells inits h sees = absurd h.0
+answer_sees fresh past at step t (Some token) (Readable sdp) old new kept kept' (Refused Glare) (Some table) made tells inits h sees = absurd h.0
+answer_sees fresh past at step t token sdp old new kept kept' outcome table made tells inits h sees = absurd h
+
+-- a rollback tells nothing of the other side
+rollback_keeps : {E : Type 0} → (t : ℕ) (token : Option PendingOffer) (old new : Stance) (kept kept' : List Kept) (outcome : Outcome E) (table : Option Table) → StanceStepRollsBack t token old kept outcome table new kept' → KeepsSide old new
+rollback_keeps t None old new kept kept' Alloc None h = keeps_by old new (ap side_parts h.peer)
+rollback_keeps t (Some token) old new kept kept' Alloc None h = keeps_by old new (ap side_parts h.peer)
+rollback_keeps t None old new kept kept' NoSuch (Some table) h = keeps_by old new (ap side_parts h.0.peer)
+rollback_keeps t (Some token) old new kept kept' Done (Some table) h = keeps_by old new (ap side_parts h.0.1)
+rollback_keeps t (Some token) old new kept kept' (Refused ChangesOutOfOrder) (Some table) h = keeps_by old new (ap side_parts h.0.1)
+rollback_keeps t (Some token) old new kept kept' (Refused (RemoteSdp why)) (Some table) h = absurd h.0
+rollback_keeps t (Some token) old new kept kept' (Refused (SdpRefused error)) (Some table) h = absurd h.0
+rollback_keeps t (Some token) old new kept kept' (Refused (Dtls error)) (Some table) h = absurd h.0
+rollback_keeps t (Some token) old new kept kept' (Refused (Sctp error)) (Some table) h = absurd h.0
+rollback_keeps t (Some token) old new kept kept' (Refused (Net cause)) (Some table) h = absurd h.0
+rollback_keeps t (Some token) old new kept kept' (Refused (MediaFailed cause)) (Some table) h = absurd h.0
+rollback_keeps t (Some token) old new kept kept' (Refused BadChannel) (Some table) h = absurd h.0
+rollback_keeps t (Some token) old new kept kept' (Refused PeerAlloc) (Some table) h = absurd h.0
+rollback_keeps t (Some token) old new kept kept' (Refused Glare) (Some table) h = absurd h.0
+rollback_keeps t token old new kept kept' outcome table h = absurd h
 
 acts_see : {E : Type 0} → (fresh : Stances) (past : List (Entry E)) (old new : PairStance) (step : Step) (outcome : Outcome E) (table : Option Table) (made : List MadeSdp) → Tells past old
     → StanceActs step (old.sides (side_of step)) old.sdps outcome table (new.sides (side_of step)) new.sdps → SideSees fresh past (side_of step) (old.sides (side_of step))
@@ -199,10 +204,22 @@ acts_see : {E : Type 0} → (fresh : Stances) (past : List (Entry E)) (old new :
 acts_see fresh past old new (Negotiate at ops apply) outcome table made tells acts sees =
     let keeps = negotiates_keep_side at ops apply (old.sides at) (new.sides at) old.sdps new.sdps outcome table acts in
     sees_still fresh past (entry (Negotiate at ops apply) outcome table made) at (old.sides at) (new.sides at) keeps refl sees
-acts_see fresh past old new (AcceptOffer at k) outcome table made tells acts sees =
-    offer_sees fresh past at k (kept_remote_sdp true old.sdps at k) (old.sides at) (new.sides at) old.sdps new.sdps outcome table made (remote_sdp-told past old true at k tells) acts sees
-acts_see fresh past old new (AcceptAnswer at t a) outcome table made tells acts sees =
-    answer_sees fresh past at t a (held_token old.sdps at t) (kept_remote_sdp false old.sdps at a) (old.sides at) (new.sides at) old.sdps new.sdps outcome table made (remote_sdp-told past old false at a tells)
+acts_see {E} fresh past old new (AcceptOffer at k) outcome table made tells acts sees =
+    offer_sees fresh past at (AcceptOffer at k) (kept_remote_sdp true old.sdps at k) (old.sides at) (new.sides at) old.sdps new.sdps outcome table made
+    (subst (λ (offer : Signalled). TellsOffer E past at offer (AcceptOffer at k)) (remote_sdp-told past old true at k tells) (tells_offer E past at k)) acts sees
+acts_see {E} fresh past old new (ForeignOffer at text) outcome table made tells acts sees =
+    offer_sees fresh past at (ForeignOffer at text) (foreign text) (old.sides at) (new.sides at) old.sdps new.sdps outcome table made (tells_foreign E past at text) acts sees
+acts_see fresh past old new (Rollback at t) outcome table made tells acts sees =
+    sees_still fresh past (entry (Rollback at t) outcome table made) at (old.sides at) (new.sides at)
+    (rollback_keeps t (held_token old.sdps at t) (old.sides at) (new.sides at) old.sdps new.sdps outcome table acts) refl sees
+acts_see fresh past old new (Raw at bytes now) outcome table made tells acts sees =
+    sees_still fresh past (entry (Raw at bytes now) outcome table made) at (old.sides at) (new.sides at) (keeps_by (old.sides at) (new.sides at) (ap side_parts acts.peer)) refl sees
+acts_see {E} fresh past old new (AcceptAnswer at t a) outcome table made tells acts sees =
+    answer_sees fresh past at (AcceptAnswer at t a) t (held_token old.sdps at t) (kept_remote_sdp false old.sdps at a) (old.sides at) (new.sides at) old.sdps new.sdps outcome table made
+    (subst (λ (answer : Signalled). TellsAnswer E past at t answer (AcceptAnswer at t a)) (remote_sdp-told past old false at a tells) (tells_answer E past at t a))
+    (λ one is. ((tells.sides at).tokens t).inits one is ∙ ap tells_init (sym (said_at past old t tells.says))) acts sees
+acts_see {E} fresh past old new (ForeignAnswer at t text) outcome table made tells acts sees =
+    answer_sees fresh past at (ForeignAnswer at t text) t (held_token old.sdps at t) (foreign text) (old.sides at) (new.sides at) old.sdps new.sdps outcome table made (foreign_answer E past at t text)
     (λ one is. ((tells.sides at).tokens t).inits one is ∙ ap tells_init (sym (said_at past old t tells.says))) acts sees
 acts_see fresh past old new (Time at now) outcome table made tells acts sees =
     sees_still fresh past (entry (Time at now) outcome table made) at (old.sides at) (new.sides at) (keeps_by (old.sides at) (new.sides at) (ap side_parts acts.peer)) refl sees

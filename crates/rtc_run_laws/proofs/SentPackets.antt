@@ -11,11 +11,11 @@ use Rattle.rtc_peer_transport.specs.declared.polled_peer.PolledPeer.{PolledPeer}
 use Rattle.rtc_peer_transport.specs.ChannelCalls.{open_stream_under}
 use Rattle.rtc_peer_transport.specs.Closing.{ClosesPeer}
 use Rattle.rtc_peer_polling.specs.Inputs.{HandlesInput}
-use Rattle.rtc_run_history.specs.Signalled.{Signalled, NotMade, Unreadable, Readable}
+use Rattle.rtc_run_history.specs.Signalled.{Signalled, NotMade, Unreadable, Readable, foreign}
 use Rattle.rtc_run_history.specs.declared.side.Side.{Side}
 use Rattle.rtc_run_history.specs.declared.op.Op.{Op}
 use Rattle.rtc_run_history.specs.declared.step.Step.{Step}
-use Rattle.rtc_run_history.specs.declared.step.Step.TheVariants.{Negotiate, AcceptOffer, AcceptAnswer, Time, Datagram, Poll, Drain, Write, CloseChannel, Close}
+use Rattle.rtc_run_history.specs.declared.step.Step.TheVariants.{Negotiate, AcceptOffer, AcceptAnswer, Time, Datagram, Poll, Drain, Write, CloseChannel, Close, Rollback, ForeignOffer, ForeignAnswer, Raw}
 use Rattle.rtc_run_history.specs.declared.poll_end.PollEnd.{PollEnd}
 use Rattle.rtc_run_history.specs.declared.poll_end.PollEnd.TheVariants.{Ended, Refused as EndRefused, NoRoom}
 use Rattle.rtc_run_history.specs.declared.sent_packet.SentPacket.{SentPacket}
@@ -26,10 +26,10 @@ use Rattle.rtc_run_history.specs.declared.outcome.Outcome.TheVariants.{Negotiate
 use Rattle.rtc_run_history.specs.declared.table.Table.{Table}
 use Rattle.rtc_run_history.specs.declared.kept.Kept.{Kept}
 use Rattle.rtc_run_history.specs.Past.{packets_in, packets_told}
-use Rattle.rtc_run_history.specs.PairState.{PairState, rtc_at, size_sent, kept_remote_sdp, held_token, remote_packet}
+use Rattle.rtc_run_history.specs.PairState.{PairState, addr_at, rtc_at, size_sent, kept_remote_sdp, held_token, remote_packet}
 use Rattle.rtc_run_history.specs.CallReplies.{StepCalls, FindsNone, StepWrites, StepClosesChannel, ClosesOpenChannel}
-use Rattle.rtc_run_history.specs.Performs.{HandlesRead, Negotiates, StepAcceptsOffer, StepAcceptsAnswer, StepTakesDatagram, PollsShown, PollsOnce, DrainsOn, DrainsPeer, StepPollsPeer, Performs, sent_packet}
-use Rattle.rtc_run_history.specs.Sides.{side_of}
+use Rattle.rtc_run_history.specs.Performs.{HandlesRead, Negotiates, StepAcceptsOffer, StepAcceptsAnswer, StepRollsBack, StepTakesDatagram, PollsShown, PollsOnce, DrainsOn, DrainsPeer, StepPollsPeer, Performs, raw_datagram, sent_packet}
+use Rattle.rtc_run_history.specs.Sides.{other_side, side_of}
 
 module _ {I D S M E X T W N : Type 0} (m : Meanings I D S M E X T W N) where
   -- ---- steps that show no datagram
@@ -67,6 +67,15 @@ module _ {I D S M E X T W N : Type 0} (m : Meanings I D S M E X T W N) where
   answer_quiet at t (Some token) (Readable sdp) old sdps Finished (Some table) new sdps' h = refl
   answer_quiet at t (Some token) (Readable sdp) old sdps (Refused error) (Some table) new sdps' h = refl
   answer_quiet at t token answer old sdps outcome table new sdps' h = absurd h
+
+  rollback_quiet : (at : Side) (t : ℕ) (token : Option PendingOffer) (old : Peer I D S M N) (sdps : List Kept) (outcome : Outcome E) (table : Option Table) (new : Peer I D S M N) (sdps' : List Kept)
+      → StepRollsBack m t token old sdps outcome table new sdps' → packets_told at outcome ≡ []
+  rollback_quiet at t None old sdps Alloc None new sdps' h = refl
+  rollback_quiet at t (Some token) old sdps Alloc None new sdps' h = refl
+  rollback_quiet at t None old sdps NoSuch (Some table) new sdps' h = refl
+  rollback_quiet at t (Some token) old sdps Done (Some table) new sdps' h = refl
+  rollback_quiet at t (Some token) old sdps (Refused error) (Some table) new sdps' h = refl
+  rollback_quiet at t token old sdps outcome table new sdps' h = absurd h
 
   calls_quiet : (at : Side) (call : PolledPeer I D S M N → _ → PolledPeer I D S M N → Type 0) (old : PolledPeer I D S M N) (outcome : Outcome E) (table : Option Table) (new : PolledPeer I D S M N)
       → StepCalls m call old outcome table new → packets_told at outcome ≡ []
@@ -183,6 +192,16 @@ module _ {I D S M E X T W N : Type 0} (m : Meanings I D S M E X T W N) where
   step_packets stun old (CloseChannel at channel) outcome table new performs =
       same_packets old.packets new.packets _ (close_channel_quiet at (open_stream_under channel (rtc_at at old)) channel (rtc_at at old) outcome table (rtc_at at new) performs.acts.0) performs.acts.2
   step_packets stun old (Close at) outcome table new performs = same_packets old.packets new.packets _ (calls_quiet at (ClosesPeer m) (rtc_at at old) outcome table (rtc_at at new) performs.acts.0) performs.acts.2
+  step_packets stun old (Rollback at t) outcome table new performs =
+      same_packets old.packets new.packets _ (rollback_quiet at t (held_token old.sdps at t) _ old.sdps outcome table _ new.sdps performs.acts.0) performs.acts.1.packets_kept
+  step_packets stun old (ForeignOffer at text) outcome table new performs =
+      same_packets old.packets new.packets _ (offer_quiet at (foreign text) _ old.sdps outcome table _ new.sdps performs.acts.0) performs.acts.1.packets_kept
+  step_packets stun old (ForeignAnswer at t text) outcome table new performs =
+      same_packets old.packets new.packets _ (answer_quiet at t (held_token old.sdps at t) (foreign text) _ old.sdps outcome table _ new.sdps performs.acts.0)
+      performs.acts.1.packets_kept
+  step_packets stun old (Raw at bytes now) outcome table new performs =
+      same_packets old.packets new.packets _
+      (hears_quiet at stun (Some (raw_datagram (addr_at (other_side at) old) (addr_at at old) bytes)) now (rtc_at at old) outcome table (rtc_at at new) performs.acts.0) performs.acts.2
 
   -- What a pair keeps after a step is what was shown before it, and what the step shows.
   pub packets_performed : (stun : List ℕ → Bool) (old new : PairState I D S M N) (step : Step) (outcome : Outcome E) (table : Option Table) (shown : List (Side × ℕ)) → map size_sent old.packets ≡ shown

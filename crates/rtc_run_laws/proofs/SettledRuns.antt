@@ -1,5 +1,5 @@
 -- In a settled pair a channel that one side announced is open at both.
-use Rattle.std.proofs.Common.{◌<◌, ◌+◌, ◌≡◌, ◌⊎◌, None, ℕ, Bool, false, List, [], Some, inl, inr}
+use Rattle.std.proofs.Common.{◌<◌, ◌+◌, ◌≡◌, ◌⊎◌, None, ℕ, Bool, true, false, List, [], Some, inl, inr}
 use Rattle.rtc_assoc_state.specs.Contents.{closed_here, generation_of, has_unread}
 use Rattle.rtc_assoc_state.specs.PlainMeaning.{plain_meaning}
 use Rattle.rtc_sctp_entries.specs.declared.stream_entry_state.StreamEntryState.TheVariants.{AwaitOpen}
@@ -13,8 +13,9 @@ use Rattle.rtc_plain_media.specs.declared.plain_media_event.PlainMediaEvent.{Pla
 use Rattle.rtc_part_values.specs.Draws.{Draws}
 use Rattle.rtc_run_history.specs.declared.side.Side.{Side}
 use Rattle.rtc_run_history.specs.declared.side.Side.TheVariants.{Left, Right}
+use Rattle.rtc_run_history.specs.Native.{go_forward}
 use Rattle.rtc_run_history.specs.PairState.{rtc_at}
-use Rattle.rtc_run_history.specs.Past.{Entry}
+use Rattle.rtc_run_history.specs.Past.{Entry, steps_of}
 use Rattle.rtc_run_history.specs.Performs.{Enters}
 use Rattle.rtc_run_history.specs.Runs.{Reached}
 use Rattle.rtc_run_history.specs.Sides.{other_side}
@@ -53,13 +54,13 @@ use Rattle.rtc_run_laws.proofs.SettledOpens.{side_open}
 
 module _ {N : Type 0} (draws : Draws N) where
   module _ (stun : List ℕ → Bool) (start : PlainPair N) (past : List (Entry PlainMediaEvent)) (pair : PlainPair N)
-      (ran : Reached (plain_over draws) stun start past pair) (h : PairTold draws start (λ x. []) (λ x s g. []) (λ x c s g. []))
+      (go : go_forward (steps_of past) ≡ true) (ran : Reached (plain_over draws) stun start past pair) (h : PairTold draws start (λ x. []) (λ x s g. []) (λ x c s g. []))
       (unused : AreUnused (plain_over draws) (plain_over_laws draws) start) (settled : IsSettledPair past pair) where
     abbrev pub uses : Side → List ChannelUse
     uses at = uses_of (plain_over draws) stun start at past pair ran
 
     pub told : PairTold draws pair uses (λ at. sent_over (plain_over draws) stun start at past pair ran) (λ at. told_over (plain_over draws) stun start at past pair ran)
-    told = reached_told draws stun start past pair ran h
+    told = reached_told draws stun start past pair go ran h
 
     empty : AreUnused (plain_over draws) (plain_over_laws draws) pair
     empty =
@@ -86,13 +87,13 @@ module _ {N : Type 0} (draws : Draws N) where
     pub settled_open : (at : Side) → AreOpenAtBoth draws (uses at) (rtc_at at pair) (uses (other_side at)) (rtc_at (other_side at) pair)
     settled_open Left =
         side_open draws told.acts.left told.acts.right (uses Left) (uses Right) pair.left pair.right told.left.side told.right.side (settled.peers Left)
-        (settled.peers Right) (heard Left) (heard Right) (pair_drained draws stun start past pair ran h unused Left (drained Left))
-        (pair_drained draws stun start past pair ran h unused Right (drained Right)) (λ s g. side_reads told.acts pair Right s g told.exchange)
+        (settled.peers Right) (heard Left) (heard Right) (pair_drained draws stun start past pair go ran h unused Left (drained Left))
+        (pair_drained draws stun start past pair go ran h unused Right (drained Right)) (λ s g. side_reads told.acts pair Right s g told.exchange)
         (λ s g. side_all told.acts pair Left s g told.exchange) (level Left)
     settled_open Right =
         side_open draws told.acts.right told.acts.left (uses Right) (uses Left) pair.right pair.left told.right.side told.left.side (settled.peers Right)
-        (settled.peers Left) (heard Right) (heard Left) (pair_drained draws stun start past pair ran h unused Right (drained Right))
-        (pair_drained draws stun start past pair ran h unused Left (drained Left)) (λ s g. side_reads told.acts pair Left s g told.exchange)
+        (settled.peers Left) (heard Right) (heard Left) (pair_drained draws stun start past pair go ran h unused Right (drained Right))
+        (pair_drained draws stun start past pair go ran h unused Left (drained Left)) (λ s g. side_reads told.acts pair Left s g told.exchange)
         (λ s g. side_all told.acts pair Right s g told.exchange) (level Right)
 
     none_taken : (at : Side) (s : ℕ) → AreInBandStreams s (rtc_at at pair) (rtc_at (other_side at) pair)
@@ -132,7 +133,7 @@ module _ {N : Type 0} (draws : Draws N) where
       known : (at : Side) → AreKnown plain_meaning (rtc_at at pair).core.sctp
       known at =
           known_at at
-          (run_known (plain_over draws) (plain_over_laws draws) plain_generations plain_unread stun start past pair ran (new_pair_known draws start new) at)
+          (run_known (plain_over draws) (plain_over_laws draws) plain_generations plain_unread stun start past pair go ran (new_pair_known draws start new) at)
 
       quiet : (at : Side) (s : ℕ) → closed_here (rtc_at at pair).core.sctp.association s ≡ false
           → IsOpeningRefused s (rtc_at at pair)
@@ -215,7 +216,7 @@ module _ {N : Type 0} (draws : Draws N) where
           → AreConfirmedSettled draws (λ c. WasConfirmed (plain_over draws) stun start at c past pair ran) (uses at) (rtc_at at pair)
           (uses (other_side at)) (rtc_at (other_side at) pair)
       settled_refused at idle = λ c s confirmed under band.
-          by_side at c s idle under band (run_begun (plain_over draws) (plain_over_laws draws) stun start past pair ran sound_start at c confirmed)
+          by_side at c s idle under band (run_begun (plain_over draws) (plain_over_laws draws) stun start past pair go ran sound_start at c confirmed)
 
       -- so it is open at both, where none is tried again
       open_unless : ((at : Side) (s : ℕ) → IsOpeningRefused s (rtc_at at pair) → ⊥) → (at : Side) (c s : ℕ) → EndsAt at c s

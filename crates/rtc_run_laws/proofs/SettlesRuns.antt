@@ -1,9 +1,11 @@
 -- Whatever run leaves a pair settled, its channels are open as the law tells.
-use Rattle.std.proofs.Common.{ℕ, Bool, List, sym, subst}
+use Rattle.std.proofs.Common.{◌≡◌, ◌∙◌, ℕ, Bool, true, List, sym, ap, subst}
 use Rattle.rtc_plain_media.specs.declared.plain_media_event.PlainMediaEvent.{PlainMediaEvent}
 use Rattle.rtc_part_values.specs.Draws.{Draws}
 use Rattle.rtc_run_history.specs.declared.reply.Reply.{Reply}
 use Rattle.rtc_run_history.specs.declared.step.Step.{Step}
+use Rattle.rtc_run_history.specs.Native.{go_forward}
+use Rattle.rtc_run_history.specs.Past.{steps_of}
 use Rattle.rtc_run_history.specs.Runs.{Reached, Runs}
 use Rattle.rtc_run_laws.specs.NewPairs.{IsNewPair}
 use Rattle.rtc_run_laws.specs.PlainPairs.{PlainPair, plain_over}
@@ -20,36 +22,38 @@ use Rattle.rtc_run_laws.proofs.BandedRuns.{settled_first, settled_in_band}
 
 module _ {N : Type 0} (draws : Draws N) where
   pub run_settles_open : (stun : List ℕ → Bool) (start pair : PlainPair N) (steps : List Step) (replies : List (Reply PlainMediaEvent))
-      → IsNewPair draws start → (run : Runs (plain_over draws) stun start steps replies pair) → SettlesOpen draws stun start steps replies pair run
-  run_settles_open stun start pair steps replies new run =
+      → IsNewPair draws start → go_forward steps ≡ true → (run : Runs (plain_over draws) stun start steps replies pair)
+      → SettlesOpen draws stun start steps replies pair run
+  run_settles_open stun start pair steps replies new forward run =
+      let go : go_forward (steps_of run.past) ≡ true = ap go_forward run.steps_are ∙ forward in
       let ran : Reached (plain_over draws) stun start run.past pair = reached_by (plain_over draws) stun start run.past pair run.went in
       record {
-        level = λ settled at s. settled_level draws stun start run.past pair ran (new_pair_told draws start new) (new_unused draws start new) settled at s;
-        opened = λ settled at. settled_open draws stun start run.past pair ran (new_pair_told draws start new) (new_unused draws start new) settled at;
+        level = λ settled at s. settled_level draws stun start run.past pair go ran (new_pair_told draws start new) (new_unused draws start new) settled at s;
+        opened = λ settled at. settled_open draws stun start run.past pair go ran (new_pair_told draws start new) (new_unused draws start new) settled at;
         answered = λ settled at.
-            settled_answered draws stun start run.past pair ran (new_pair_told draws start new) (new_unused draws start new) settled new at;
+            settled_answered draws stun start run.past pair go ran (new_pair_told draws start new) (new_unused draws start new) settled new at;
         idle = λ settled at later.
-            settled_idle draws stun start run.past pair ran (new_pair_told draws start new) (new_unused draws start new) settled at later;
+            settled_idle draws stun start run.past pair go ran (new_pair_told draws start new) (new_unused draws start new) settled at later;
         refused = λ settled at idle.
-            settled_refused draws stun start run.past pair ran (new_pair_told draws start new) (new_unused draws start new) settled new at idle;
+            settled_refused draws stun start run.past pair go ran (new_pair_told draws start new) (new_unused draws start new) settled new at idle;
         confirmed = λ settled still at.
-            settled_confirmed draws stun start run.past pair ran (new_pair_told draws start new) (new_unused draws start new) settled new still at;
+            settled_confirmed draws stun start run.past pair go ran (new_pair_told draws start new) (new_unused draws start new) settled new still at;
         later = λ settled soon at.
-            settled_later draws stun start run.past pair ran (new_pair_told draws start new) (new_unused draws start new) settled new soon at;
-        own = λ settled at. settled_own draws stun start run.past pair ran new settled at;
-        sides = λ settled at. settled_sides draws stun start run.past pair ran new settled at;
-        parted = λ settled at. settled_parted draws stun start run.past pair ran new settled at;
+            settled_later draws stun start run.past pair go ran (new_pair_told draws start new) (new_unused draws start new) settled new soon at;
+        own = λ settled at. settled_own draws stun start run.past pair go ran new settled at;
+        sides = λ settled at. settled_sides draws stun start run.past pair go ran new settled at;
+        parted = λ settled at. settled_parted draws stun start run.past pair go ran new settled at;
         waits_none = λ settled at.
-            settled_waits_none draws stun start run.past pair ran new (new_pair_told draws start new) (new_unused draws start new) settled at;
+            settled_waits_none draws stun start run.past pair go ran new (new_pair_told draws start new) (new_unused draws start new) settled at;
         alone = λ settled at idle.
-            settled_alone draws stun start run.past pair ran new (new_pair_told draws start new) (new_unused draws start new) settled at idle;
+            settled_alone draws stun start run.past pair go ran new (new_pair_told draws start new) (new_unused draws start new) settled at idle;
         unreset = λ settled at later.
-            settled_unreset draws stun start run.past pair ran new (new_pair_told draws start new) (new_unused draws start new) settled at later;
+            settled_unreset draws stun start run.past pair go ran new (new_pair_told draws start new) (new_unused draws start new) settled at later;
         in_band = λ none steps settled at s.
-            settled_in_band draws stun start run.past pair ran new none
+            settled_in_band draws stun start run.past pair go ran new none
             (subst (λ (l : List Step). AreInBandSteps l) (sym run.steps_are) steps) settled at s;
         all_in_band = λ none steps settled at later.
-            settled_first draws stun start run.past pair ran new none
+            settled_first draws stun start run.past pair go ran new none
             (subst (λ (l : List Step). AreInBandSteps l) (sym run.steps_are) steps) settled (new_pair_told draws start new)
             (new_unused draws start new) at later;
       }

@@ -15,7 +15,7 @@ use Rattle.rtc_sdp_values.specs.declared.direction.Direction.{Direction}
 use Rattle.std.specs.declared.alloc.AllocError.{AllocError}
 use Rattle.rtc_peer_core.specs.declared.peer.Peer.{Peer}
 use Rattle.rtc_peer_core.specs.declared.rtc_error.RtcError.{RtcError}
-use Rattle.rtc_peer_core.specs.declared.rtc_error.RtcError.TheVariants.{RemoteSdp, Sdp as SdpRefused, Dtls, Sctp, Net, Media as MediaFailed, ChangesOutOfOrder, BadChannel, Alloc as PeerAlloc}
+use Rattle.rtc_peer_core.specs.declared.rtc_error.RtcError.TheVariants.{RemoteSdp, Sdp as SdpRefused, Dtls, Sctp, Net, Media as MediaFailed, ChangesOutOfOrder, BadChannel, Alloc as PeerAlloc, Glare}
 use Rattle.rtc_peer_core.specs.Acceptances.{followed_restart, answer_ids, updates_for, init_answered}
 use Rattle.rtc_peer_core.specs.DrawnSources.{AreStagedUnused}
 use Rattle.rtc_peer_core.specs.MadeSdp.{answer_sdp}
@@ -76,8 +76,8 @@ alone_line (change ∷ changes) s = refl
 
 -- an offer or an answer that is not accepted
 unaccepted_offer : (s : Stance) (offer : Sdp) (error : RtcError) (t : Stance) → StanceAcceptsOffer s offer (Err error) t → t.line ≡ s.line
-unaccepted_offer s offer (RemoteSdp why) t h = ap (λ r. r.line) h.1
-unaccepted_offer s offer (SdpRefused error) t h = ap (λ r. r.line) h.1
+unaccepted_offer s offer (RemoteSdp why) t h = ap (λ r. r.line) h.1.1
+unaccepted_offer s offer (SdpRefused error) t h = ap (λ r. r.line) h.1.1
 unaccepted_offer s offer (Dtls Fault) t h = ap (λ r. r.line) h.1.breaks.rest
 unaccepted_offer s offer (Dtls WouldBlock) t h = absurd h
 unaccepted_offer s offer (Dtls DtlsAlloc) t h = absurd h
@@ -86,6 +86,7 @@ unaccepted_offer s offer ChangesOutOfOrder t h = absurd h
 unaccepted_offer s offer (Net cause) t h = absurd h
 unaccepted_offer s offer (MediaFailed cause) t h = absurd h
 unaccepted_offer s offer BadChannel t h = absurd h
+unaccepted_offer s offer Glare t h = ap (λ r. r.line) h.1
 unaccepted_offer s offer PeerAlloc t h = ap (λ r. r.line) h.breaks.rest
 
 unaccepted_answer : (s : Stance) (token : PendingOffer) (answer : Sdp) (error : RtcError) (t : Stance)
@@ -100,6 +101,7 @@ unaccepted_answer s token answer ChangesOutOfOrder t h = ap (λ r. r.line) h.1
 unaccepted_answer s token answer (Net cause) t h = absurd h
 unaccepted_answer s token answer (MediaFailed cause) t h = absurd h
 unaccepted_answer s token answer BadChannel t h = absurd h
+unaccepted_answer s token answer Glare t h = absurd h
 unaccepted_answer s token answer PeerAlloc t h = ap (λ r. r.line) h.1.rest
 
 -- ---- what the acting peer does

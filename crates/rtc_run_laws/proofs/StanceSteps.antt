@@ -2,7 +2,8 @@
 use Rattle.std.specs.Prelude.{◌≡◌, ◌+◌, ℕ, List, [], ◌∷◌, ◌++◌, Bool, true, false, not, ◌&&◌, Option, Some}
 use Rattle.std.specs.Prelude.{None, Ok, Err, length, alloc_error, slice_get}
 use Rattle.rtc_sdp_values.specs.declared.sdp.Sdp.{Sdp}
-use Rattle.rtc_change.specs.PendingOffer.{PendingOffer}
+use Rattle.rtc_channels.specs.Channels.{AreRising}
+use Rattle.rtc_change.specs.PendingOffer.{PendingOffer, new_channels}
 use Rattle.rtc_peer_rows.specs.RowChanges.{media_mid}
 use Rattle.rtc_peer_core.specs.declared.rtc_error.RtcError.TheVariants.{Sdp as SdpRefused, BadChannel, Alloc as PeerAlloc}
 use Rattle.rtc_peer_core.specs.Meanings.{Meanings}
@@ -18,20 +19,22 @@ use Rattle.rtc_peer_core.proofs.StanceCalls.{
   StanceStagesRestart,
   StanceApplies,
 }
-use Rattle.rtc_run_history.specs.Signalled.{Signalled, NotMade, Unreadable, Readable}
+use Rattle.rtc_peer_core.proofs.StanceRollbacks.{StanceRollsBack}
+use Rattle.rtc_peer_polling.specs.Numbers.{AreUnconfirmed}
+use Rattle.rtc_run_history.specs.Signalled.{Signalled, NotMade, Unreadable, Readable, foreign}
 use Rattle.rtc_sdp_values.specs.declared.sdp_error.SdpError.TheVariants.{Parse}
 use Rattle.rtc_run_history.specs.declared.side.Side.{Side}
 use Rattle.rtc_run_history.specs.declared.op.Op.{Op}
 use Rattle.rtc_run_history.specs.declared.op.Op.TheVariants.{AddMedia, SetDirection, StopMedia, AddChannel, IceRestart}
 use Rattle.rtc_run_history.specs.declared.step.Step.{Step}
-use Rattle.rtc_run_history.specs.declared.step.Step.TheVariants.{Negotiate, AcceptOffer, AcceptAnswer, Time, Datagram, Poll, Drain, Write, CloseChannel, Close}
+use Rattle.rtc_run_history.specs.declared.step.Step.TheVariants.{Negotiate, AcceptOffer, AcceptAnswer, Time, Datagram, Poll, Drain, Write, CloseChannel, Close, Rollback, ForeignOffer, ForeignAnswer, Raw}
 use Rattle.rtc_run_history.specs.declared.op_answer.OpAnswer.{OpAnswer}
 use Rattle.rtc_run_history.specs.declared.op_answer.OpAnswer.TheVariants.{Mid, Changed, NoLine, Channel, Creds}
 use Rattle.rtc_run_history.specs.declared.op_answer.OpAnswer.TheVariants.{BadChannel as NoChannel, Alloc as OpAlloc}
 use Rattle.rtc_run_history.specs.declared.made.Made.{Made}
 use Rattle.rtc_run_history.specs.declared.made.Made.TheVariants.{NotAsked, Nothing, Offer, Alloc as MadeAlloc}
 use Rattle.rtc_run_history.specs.declared.outcome.Outcome.{Outcome}
-use Rattle.rtc_run_history.specs.declared.outcome.Outcome.TheVariants.{Negotiated, Answered, Finished, Refused, NoSuch, Alloc}
+use Rattle.rtc_run_history.specs.declared.outcome.Outcome.TheVariants.{Negotiated, Answered, Finished, Done, Refused, NoSuch, Alloc}
 use Rattle.rtc_run_history.specs.declared.table.Table.{Table}
 use Rattle.rtc_run_history.specs.declared.kept.Kept.{Kept}
 use Rattle.rtc_run_history.specs.Memory.{answers_lack}
@@ -42,6 +45,8 @@ use Rattle.rtc_run_history.specs.Sound.{is_handled, is_heard, is_polled, is_writ
 use Rattle.rtc_run_history.specs.Views.{Stances}
 use Rattle.rtc_run_history.specs.PairState.{PairState, stances_of, kept_remote_sdp, held_token, spent}
 use Rattle.rtc_run_history.specs.Performs.{CallsLine, kept_offer, kept_answer, wanted, sdps_behind}
+use Rattle.rtc_run_history.specs.Undone.{channels_but}
+use Rattle.rtc_run_laws.proofs.CancelledRows.{AreCancellable, numbers_of}
 use Rattle.rtc_run_laws.proofs.NumberedChannels.{AreNumbered}
 
 -- what negotiation reads of both sides, the SDPs of the pair, and its size
@@ -58,7 +63,7 @@ abbrev pub made_by : PairStance → PairStance → List MadeSdp
 made_by old new = sdps_behind old.sdps new.sdps
 
 abbrev pub lent : Stance → Stance
-lent s = record s { staged = [] }
+lent s = record s { staged = []; undo = [] }
 
 -- whether channels that are staged need a line
 abbrev pub needs_app : Stance → Bool
@@ -149,17 +154,39 @@ StanceStepAcceptsAnswer t (Some token) (Readable sdp) old sdps (Refused error) (
     × StanceShows table new
 StanceStepAcceptsAnswer t token answer old sdps outcome table new sdps' = ⊥
 
+-- Where the numbers of channels rise and none of those of a token was confirmed, the rows that a rollback leaves are those of other channels.
+abbrev pub LeavesRows : PendingOffer → Stance → Stance → Type 0
+LeavesRows token old new =
+    AreRising 0 old.channels.rows → AreCancellable (new_channels token.changes) old.channels.rows
+    → new.rows ≡ channels_but (numbers_of (new_channels token.changes)) old.rows
+
+abbrev pub StanceStepRollsBack : {E : Type 0} → ℕ → Option PendingOffer → Stance → List Kept → Outcome E → Option Table → Stance → List Kept → Type 0
+StanceStepRollsBack t token old sdps Alloc None new sdps' = StanceStays old sdps new sdps'
+StanceStepRollsBack t None old sdps NoSuch (Some table) new sdps' = StanceStays old sdps new sdps' × StanceShows table old
+StanceStepRollsBack t (Some token) old sdps Done (Some table) new sdps' =
+    StanceRollsBack (lent old) token (Ok tt) new
+    × LeavesRows token old new
+    × (sdps' ≡ spent t sdps)
+    × StanceShows table new
+StanceStepRollsBack t (Some token) old sdps (Refused error) (Some table) new sdps' =
+    StanceRollsBack (lent old) token (Err error) new
+    × (sdps' ≡ spent t sdps)
+    × StanceShows table new
+StanceStepRollsBack t token old sdps outcome table new sdps' = ⊥
+
 -- what is shown of a step that negotiates nothing: that memory ran out and nothing changed, or an outcome that it may have, and the table
 abbrev pub RestTold : {E : Type 0} → (Outcome E → Bool) → Stance → Outcome E → Option Table → Stance → Type 0
 RestTold may old outcome None new = (outcome ≡ Alloc) × (new ≡ old)
 RestTold may old outcome (Some table) new = (may outcome ≡ true) × StanceShows table new
 
--- a step that negotiates nothing, an input, polls, a write or a close: it changes nothing but channels, and tells the numbers that it gives
+-- a step that negotiates nothing, an input, polls, a write or a close: it changes nothing but channels, confirms none, and tells the numbers
+-- that it gives
 pub record StanceRests {E : Type 0} (may : Outcome E → Bool) (old : Stance) (sdps : List Kept) (outcome : Outcome E) (table : Option Table)
     (new : Stance) (sdps' : List Kept) : Type 0 where
   pub peer : new ≡ record old { channels = new.channels; rows = new.rows }
   pub sdps_kept : sdps' ≡ sdps
   pub numbered : AreNumbered (numbers_in outcome) old.channels new.channels
+  pub unconfirmed : (id : ℕ) → AreUnconfirmed id old.channels.rows → AreUnconfirmed id new.channels.rows
   pub told : RestTold may old outcome table new
 
 abbrev pub StanceActs : {E : Type 0} → Step → Stance → List Kept → Outcome E → Option Table → Stance → List Kept → Type 0
@@ -175,6 +202,13 @@ StanceActs (Drain at) old sdps outcome table new sdps' = StanceRests is_polled o
 StanceActs (Write at channel binary bytes) old sdps outcome table new sdps' = StanceRests is_written old sdps outcome table new sdps'
 StanceActs (CloseChannel at channel) old sdps outcome table new sdps' = StanceRests is_channel_closed old sdps outcome table new sdps'
 StanceActs (Close at) old sdps outcome table new sdps' = StanceRests is_handled old sdps outcome table new sdps'
+StanceActs (Rollback at token) old sdps outcome table new sdps' =
+    StanceStepRollsBack token (held_token sdps at token) old sdps outcome table new sdps'
+StanceActs (ForeignOffer at text) old sdps outcome table new sdps' =
+    StanceStepAcceptsOffer at (foreign text) old sdps outcome table new sdps'
+StanceActs (ForeignAnswer at token text) old sdps outcome table new sdps' =
+    StanceStepAcceptsAnswer token (held_token sdps at token) (foreign text) old sdps outcome table new sdps'
+StanceActs (Raw at bytes now) old sdps outcome table new sdps' = StanceRests is_handled old sdps outcome table new sdps'
 
 pub record StancePerforms {E : Type 0} (old : PairStance) (step : Step) (outcome : Outcome E) (table : Option Table) (new : PairStance) : Type 0 where
   pub acts : StanceActs step (old.sides (side_of step)) old.sdps outcome table (new.sides (side_of step)) new.sdps

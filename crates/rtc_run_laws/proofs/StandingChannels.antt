@@ -17,6 +17,7 @@ use Rattle.rtc_peer_polling.proofs.KeptCalls.{keeps_by}
 use Rattle.rtc_peer_polling.proofs.StandingCalls.{stands_by}
 use Rattle.rtc_peer_polling.proofs.StandingInputs.{stance_by}
 use Rattle.rtc_peer_polling.specs.Kept.{KeepsStart}
+use Rattle.rtc_peer_polling.specs.Numbers.{AreUnconfirmed}
 use Rattle.rtc_peer_polling.proofs.StreamSizes.{SameSize, written_size, closed_size}
 use Rattle.rtc_peer_polling.proofs.StreamStarts.{closed_start}
 use Rattle.rtc_run_history.specs.declared.outcome.Outcome.{Outcome}
@@ -56,6 +57,7 @@ module _ {I D S M E X T W N : Type 0} (m : Meanings I D S M E X T W N) (laws : P
   streams_move p q is size start = record {
     peer = stance_by m p q (keeps_by p (with_sctp q.core.sctp p) q is refl) (stands_by m p (with_sctp q.core.sctp p) q is (refl, refl, refl, size, refl, start));
     numbered = same_numbers p.core.channels q.core.channels (ap (λ (x : PolledPeer I D S M N). x.core.channels) is);
+    unconfirmed = λ id none. subst (λ (x : PolledPeer I D S M N). AreUnconfirmed id x.core.channels.rows) (sym is) none;
     start = start;
   }
 

@@ -21,7 +21,7 @@ use Rattle.rtc_peer_transport.specs.declared.polled_peer.PolledPeer.{PolledPeer}
 use Rattle.rtc_peer_transport.specs.Closing.{ClosesPeer}
 use Rattle.rtc_peer_polling.specs.Inputs.{HandlesInput}
 use Rattle.rtc_peer_polling.specs.Walk.{PollsPeer}
-use Rattle.rtc_peer_polling.specs.Numbers.{ChannelNumbers, number_told}
+use Rattle.rtc_peer_polling.specs.Numbers.{AreUnconfirmed, ChannelNumbers, number_told}
 use Rattle.rtc_peer_polling.specs.Kept.{KeepsParts, KeepsStart}
 use Rattle.rtc_peer_polling.proofs.StreamStarts.{start_self, start_on}
 use Rattle.rtc_peer_polling.proofs.Keeping.{poll_keeps}
@@ -75,14 +75,20 @@ numbered_by None held held' numbers = record {
   rises = numbers.rises;
   few = omega (arith, numbers.unless_told refl);
   below = numbers.below;
+  rising = numbers.rising;
   told = λ below. All-nil (λ number. number < held'.given);
 }
 numbered_by (Some id) held held' numbers = record {
   rises = numbers.rises;
   few = numbers.one_more;
   below = numbers.below;
+  rising = numbers.rising;
   told = λ below. All-cons (λ number. number < held'.given) id [] (numbers.told_below below id refl) (All-nil (λ number. number < held'.given));
 }
+
+-- no channel is confirmed
+abbrev pub ConfirmsNone : Channels → Channels → Type 0
+ConfirmsNone held held' = (id : ℕ) → AreUnconfirmed id held.rows → AreUnconfirmed id held'.rows
 
 -- what is shown of an event tells the same number
 opened_is : {E : Type 0} → (event : PeerEvent E) → number_opened (Event event) ≡ numbers_of (number_told (Ok (polled.Event event)))
@@ -102,19 +108,22 @@ module _ {I D S M E X T W N : Type 0} (m : Meanings I D S M E X T W N) (laws : P
   pub shows_stands : (table : Table) (p : Peer I D S M N) → Shows m table p → StanceShows table (stance_of m p)
   shows_stands table p shows = record { lines = shows.lines; channels = shows.channels }
 
-  -- the stance stays but for the channels, which get numbers that are told, and the association stays started or unstarted
+  -- the stance stays but for the channels, which get numbers that are told, and of which none is confirmed, and the association stays started
+  -- or unstarted
   pub record Moves (numbers : List ℕ) (p q : PolledPeer I D S M N) : Type 0 where
     pub peer : stance_of m q.core ≡ record (stance_of m p.core) { channels = q.core.channels; rows = channel_rows m.association q.core.sctp q.core.channels }
     pub numbered : AreNumbered numbers p.core.channels q.core.channels
+    pub unconfirmed : ConfirmsNone p.core.channels q.core.channels
     pub start : KeepsStart m.association p.core.sctp q.core.sctp
 
   pub moves_none : (p q : PolledPeer I D S M N) → q ≡ p → Moves [] p q
-  moves_none p q same = rw same (record { peer = refl; numbered = same_numbers p.core.channels p.core.channels refl; start = start_self m.association p.core.sctp })
+  moves_none p q same = rw same (record { peer = refl; numbered = same_numbers p.core.channels p.core.channels refl; unconfirmed = λ id none. none; start = start_self m.association p.core.sctp })
 
   moves_on : (numbers more : List ℕ) (p between q : PolledPeer I D S M N) → Moves numbers p between → Moves more between q → Moves (numbers ++ more) p q
   moves_on numbers more p between q first rest = record {
     peer = rest.peer ∙ ap (λ (s : Stance). record s { channels = q.core.channels; rows = channel_rows m.association q.core.sctp q.core.channels }) first.peer;
     numbered = numbered_on numbers more p.core.channels between.core.channels q.core.channels first.numbered rest.numbered;
+    unconfirmed = λ id none. rest.unconfirmed id (first.unconfirmed id none);
     start = start_on m.association p.core.sctp between.core.sctp q.core.sctp first.start rest.start;
   }
 
@@ -124,6 +133,7 @@ module _ {I D S M E X T W N : Type 0} (m : Meanings I D S M E X T W N) (laws : P
       record {
         peer = stance_by m p q (poll_keeps m p answer q h) parts;
         numbered = numbered_by (number_told answer) p.core.channels q.core.channels (poll_numbers m p answer q h);
+        unconfirmed = (poll_numbers m p answer q h).unconfirmed;
         start = parts.5;
       }
 
@@ -133,6 +143,7 @@ module _ {I D S M E X T W N : Type 0} (m : Meanings I D S M E X T W N) (laws : P
       record {
         peer = stance_by m p q (input_keeps m input p r q h) parts;
         numbered = numbered_by None p.core.channels q.core.channels (input_numbers m input p r q h);
+        unconfirmed = (input_numbers m input p r q h).unconfirmed;
         start = parts.5;
       }
 
@@ -142,12 +153,13 @@ module _ {I D S M E X T W N : Type 0} (m : Meanings I D S M E X T W N) (laws : P
       record {
         peer = stance_by m p q (close_keeps m p r q h) parts;
         numbered = numbered_by None p.core.channels q.core.channels (close_numbers m p r q h);
+        unconfirmed = (close_numbers m p r q h).unconfirmed;
         start = parts.5;
       }
 
   pub rests_by : (may : Outcome E → Bool) (outcome : Outcome E) (table : Option Table) (old new : PolledPeer I D S M N) (sdps sdps' : List Kept) → Moves (numbers_in outcome) old new → sdps' ≡ sdps
       → RestTold may (stance_of m old.core) outcome table (stance_of m new.core) → StanceRests may (stance_of m old.core) sdps outcome table (stance_of m new.core) sdps'
-  rests_by may outcome table old new sdps sdps' moves kept told = record { peer = moves.peer; sdps_kept = kept; numbered = moves.numbered; told = told }
+  rests_by may outcome table old new sdps sdps' moves kept told = record { peer = moves.peer; sdps_kept = kept; numbered = moves.numbered; unconfirmed = moves.unconfirmed; told = told }
 
   pub same_stance : (old new : PolledPeer I D S M N) → new ≡ old → stance_of m new.core ≡ stance_of m old.core
   same_stance old new same = ap (λ (p : PolledPeer I D S M N). stance_of m p.core) same
@@ -181,7 +193,7 @@ module _ {I D S M E X T W N : Type 0} (m : Meanings I D S M E X T W N) (laws : P
   hears_rest stun (Some transmit) now old outcome table new sdps sdps' h kept =
       let does : StanceRests is_handled (stance_of m old.core) sdps outcome table (stance_of m new.core) sdps' =
       calls_rest (HandlesRead m (kind_by stun transmit.contents) transmit now) (read_moves (kind_by stun transmit.contents) transmit now) old outcome table new sdps sdps' h kept in
-      record { peer = does.peer; sdps_kept = does.sdps_kept; numbered = does.numbered; told = told_heard (stance_of m old.core) outcome table (stance_of m new.core) does.told }
+      record { peer = does.peer; sdps_kept = does.sdps_kept; numbered = does.numbered; unconfirmed = does.unconfirmed; told = told_heard (stance_of m old.core) outcome table (stance_of m new.core) does.told }
 
   -- ---- polls
 

@@ -14,10 +14,10 @@ use Rattle.rtc_change.specs.TableAfter.{table_after}
 use Rattle.rtc_change.specs.declared.change.Change.{Change}
 use Rattle.rtc_peer_core.specs.SdpHalves.{tells_half, kept_told}
 use Rattle.rtc_peer_core.specs.Stance.{Stance, held_by}
-use Rattle.rtc_peer_core.specs.declared.rtc_error.RtcError.TheVariants.{Net, Media as MediaFailed}
+use Rattle.rtc_peer_core.specs.declared.rtc_error.RtcError.TheVariants.{Net, Media as MediaFailed, Glare}
 use Rattle.rtc_peer_core.specs.declared.rtc_error.RtcError.TheVariants.{RemoteSdp, Sdp as SdpRefused, Dtls, Sctp, ChangesOutOfOrder, BadChannel, Alloc as PeerAlloc}
 use Rattle.rtc_peer_core.proofs.StanceCalls.{Breaks, inited_after, begun_by, stance_alone}
-use Rattle.rtc_run_history.specs.Signalled.{Signalled, NotMade, Unreadable, Readable}
+use Rattle.rtc_run_history.specs.Signalled.{Signalled, NotMade, Unreadable, Readable, foreign}
 use Rattle.rtc_run_history.specs.declared.side.Side.{Side}
 use Rattle.rtc_run_history.specs.declared.kept.Kept.{Kept}
 use Rattle.rtc_run_history.specs.declared.op.Op.{Op}
@@ -25,9 +25,9 @@ use Rattle.rtc_run_history.specs.declared.op_answer.OpAnswer.{OpAnswer}
 use Rattle.rtc_run_history.specs.declared.made.Made.{Made}
 use Rattle.rtc_run_history.specs.declared.made.Made.TheVariants.{NotAsked, Nothing, Offer, Alloc as MadeAlloc}
 use Rattle.rtc_run_history.specs.declared.step.Step.{Step}
-use Rattle.rtc_run_history.specs.declared.step.Step.TheVariants.{Negotiate, AcceptOffer, AcceptAnswer, Time, Datagram, Poll, Drain, Write, CloseChannel, Close}
+use Rattle.rtc_run_history.specs.declared.step.Step.TheVariants.{Negotiate, AcceptOffer, AcceptAnswer, Time, Datagram, Poll, Drain, Write, CloseChannel, Close, Rollback, ForeignOffer, ForeignAnswer, Raw}
 use Rattle.rtc_run_history.specs.declared.outcome.Outcome.{Outcome}
-use Rattle.rtc_run_history.specs.declared.outcome.Outcome.TheVariants.{Negotiated, Answered, Finished, Refused, NoSuch, Alloc}
+use Rattle.rtc_run_history.specs.declared.outcome.Outcome.TheVariants.{Negotiated, Answered, Finished, Done, Refused, NoSuch, Alloc}
 use Rattle.rtc_run_history.specs.declared.table.Table.{Table}
 use Rattle.rtc_run_history.specs.Answers.{has_app_row}
 use Rattle.rtc_run_history.specs.Fresh.{IsJustBuilt}
@@ -39,12 +39,13 @@ use Rattle.rtc_run_history.proofs.BothSides.{both_sides}
 use Rattle.rtc_run_laws.proofs.KeptApps.{app_stays}
 use Rattle.rtc_run_laws.proofs.PastTables.{past_table}
 use Rattle.rtc_run_laws.proofs.Reaches.{reached_tells, small_before}
+use Rattle.rtc_run_laws.proofs.RestoredApps.{restored_app}
 use Rattle.rtc_run_laws.proofs.SeenSides.{side_parts}
 use Rattle.rtc_run_laws.proofs.SeenSteps.{ops_keep_side}
 use Rattle.rtc_run_laws.proofs.StagedOps.{Stages}
 use Rattle.rtc_run_laws.proofs.Staging.{ops_stage}
 use Rattle.rtc_run_laws.proofs.StanceRuns.{IsFreshStance, StanceRan, ran_reached, ran_sound}
-use Rattle.rtc_run_laws.proofs.StanceSteps.{PairStance, StanceMakesOf, StancePerformsOps, StanceNegotiates, StanceStepAcceptsOffer, StanceStepAcceptsAnswer, StanceActs, StancePerforms, lent}
+use Rattle.rtc_run_laws.proofs.StanceSteps.{PairStance, StanceMakesOf, StancePerformsOps, StanceNegotiates, StanceStepAcceptsOffer, StanceStepAcceptsAnswer, StanceStepRollsBack, StanceActs, StancePerforms, lent}
 use Rattle.rtc_run_laws.proofs.StartHalves.{HasReadHalf, begun_none, told_read, begun_read}
 use Rattle.rtc_run_laws.proofs.Tells.{Tells}
 use Rattle.rtc_part_ice.specs.IceMeaning.{IceSettings}
@@ -146,9 +147,9 @@ offer_told at (Readable sdp) old new kept kept' (Answered n) (Some table) h rows
     accepted_told old new (table_after old.lines (parsed_lines sdp) true) h.1.halves false (ap (λ (x : Stance). x.lines) h.1.rest)
     (ap (λ (x : Stance). x.inited) h.1.rest) (ap (λ (x : Stance). x.snap) h.1.rest) (app_stays (held_by (lent old)) None sdp rows h.1.passes) told
 offer_told at (Readable sdp) old new kept kept' (Refused (RemoteSdp why)) (Some table) h rows told =
-    told_alike old new (ap (λ (x : Stance). has_app_row x.lines) h.0.1) (ap (λ (x : Stance). x.inited) h.0.1) (ap (λ (x : Stance). x.snap) h.0.1) told
+    told_alike old new (ap (λ (x : Stance). has_app_row x.lines) h.0.1.1) (ap (λ (x : Stance). x.inited) h.0.1.1) (ap (λ (x : Stance). x.snap) h.0.1.1) told
 offer_told at (Readable sdp) old new kept kept' (Refused (SdpRefused error)) (Some table) h rows told =
-    told_alike old new (ap (λ (x : Stance). has_app_row x.lines) h.0.1) (ap (λ (x : Stance). x.inited) h.0.1) (ap (λ (x : Stance). x.snap) h.0.1) told
+    told_alike old new (ap (λ (x : Stance). has_app_row x.lines) h.0.1.1) (ap (λ (x : Stance). x.inited) h.0.1.1) (ap (λ (x : Stance). x.snap) h.0.1.1) told
 offer_told at (Readable sdp) old new kept kept' (Refused (Dtls Fault)) (Some table) h rows told = broken_told (lent old) new _ _ h.0.1.breaks (lent_told old told)
 offer_told at (Readable sdp) old new kept kept' (Refused (Sctp error)) (Some table) h rows told = broken_told (lent old) new _ _ h.0.2.breaks (lent_told old told)
 offer_told at (Readable sdp) old new kept kept' (Refused PeerAlloc) (Some table) h rows told = broken_told (lent old) new _ _ h.0.breaks (lent_told old told)
@@ -158,6 +159,8 @@ offer_told at (Readable sdp) old new kept kept' (Refused ChangesOutOfOrder) (Som
 offer_told at (Readable sdp) old new kept kept' (Refused (Net cause)) (Some table) h rows told = absurd h.0
 offer_told at (Readable sdp) old new kept kept' (Refused (MediaFailed cause)) (Some table) h rows told = absurd h.0
 offer_told at (Readable sdp) old new kept kept' (Refused BadChannel) (Some table) h rows told = absurd h.0
+offer_told at (Readable sdp) old new kept kept' (Refused Glare) (Some table) h rows told =
+    told_alike old new (ap (λ (x : Stance). has_app_row x.lines) h.0.1) (ap (λ (x : Stance). x.inited) h.0.1) (ap (λ (x : Stance). x.snap) h.0.1) told
 offer_told at offer old new kept kept' outcome table h rows told = absurd h
 
 answer_told : {E : Type 0} → (t : ℕ) (token : Option PendingOffer) (answer : Signalled) (old new : Stance) (kept kept' : List Kept) (outcome : Outcome E) (table : Option Table)
@@ -191,7 +194,28 @@ answer_told t (Some token) (Readable sdp) old new kept kept' (Refused (Dtls Dtls
 answer_told t (Some token) (Readable sdp) old new kept kept' (Refused (Net cause)) (Some table) h rows told = absurd h.0
 answer_told t (Some token) (Readable sdp) old new kept kept' (Refused (MediaFailed cause)) (Some table) h rows told = absurd h.0
 answer_told t (Some token) (Readable sdp) old new kept kept' (Refused BadChannel) (Some table) h rows told = absurd h.0
+answer_told t (Some token) (Readable sdp) old new kept kept' (Refused Glare) (Some table) h rows told = absurd h.0
 answer_told t token answer old new kept kept' outcome table h rows told = absurd h
+
+rollback_told : {E : Type 0} → (t : ℕ) (token : Option PendingOffer) (old new : Stance) (kept kept' : List Kept) (outcome : Outcome E) (table : Option Table)
+    → StanceStepRollsBack t token old kept outcome table new kept' → IsStartTold old → IsStartTold new
+rollback_told t None old new kept kept' Alloc None h told = told_same old new h.peer told
+rollback_told t (Some token) old new kept kept' Alloc None h told = told_same old new h.peer told
+rollback_told t None old new kept kept' NoSuch (Some table) h told = told_same old new h.0.peer told
+rollback_told t (Some token) old new kept kept' Done (Some table) h told =
+    told_alike old new (ap (λ (x : Stance). has_app_row x.lines) h.0.1 ∙ restored_app token.undo old.lines) (ap (λ (x : Stance). x.inited) h.0.1) (ap (λ (x : Stance). x.snap) h.0.1) told
+rollback_told t (Some token) old new kept kept' (Refused ChangesOutOfOrder) (Some table) h told =
+    told_alike old new (ap (λ (x : Stance). has_app_row x.lines) h.0.1) (ap (λ (x : Stance). x.inited) h.0.1) (ap (λ (x : Stance). x.snap) h.0.1) told
+rollback_told t (Some token) old new kept kept' (Refused (RemoteSdp why)) (Some table) h told = absurd h.0
+rollback_told t (Some token) old new kept kept' (Refused (SdpRefused error)) (Some table) h told = absurd h.0
+rollback_told t (Some token) old new kept kept' (Refused (Dtls error)) (Some table) h told = absurd h.0
+rollback_told t (Some token) old new kept kept' (Refused (Sctp error)) (Some table) h told = absurd h.0
+rollback_told t (Some token) old new kept kept' (Refused (Net cause)) (Some table) h told = absurd h.0
+rollback_told t (Some token) old new kept kept' (Refused (MediaFailed cause)) (Some table) h told = absurd h.0
+rollback_told t (Some token) old new kept kept' (Refused BadChannel) (Some table) h told = absurd h.0
+rollback_told t (Some token) old new kept kept' (Refused PeerAlloc) (Some table) h told = absurd h.0
+rollback_told t (Some token) old new kept kept' (Refused Glare) (Some table) h told = absurd h.0
+rollback_told t token old new kept kept' outcome table h told = absurd h
 
 rest_told : (old new : Stance) → new ≡ record old { channels = new.channels; rows = new.rows } → IsStartTold old → IsStartTold new
 rest_told old new rest told =
@@ -203,6 +227,11 @@ acts_told (Negotiate at ops apply) old new kept kept' outcome table acts rows to
 acts_told (AcceptOffer at k) old new kept kept' outcome table acts rows told = offer_told at (kept_remote_sdp true kept at k) old new kept kept' outcome table acts rows told
 acts_told (AcceptAnswer at t a) old new kept kept' outcome table acts rows told =
     answer_told t (held_token kept at t) (kept_remote_sdp false kept at a) old new kept kept' outcome table acts rows told
+acts_told (Rollback at t) old new kept kept' outcome table acts rows told = rollback_told t (held_token kept at t) old new kept kept' outcome table acts told
+acts_told (ForeignOffer at text) old new kept kept' outcome table acts rows told = offer_told at (foreign text) old new kept kept' outcome table acts rows told
+acts_told (ForeignAnswer at t text) old new kept kept' outcome table acts rows told =
+    answer_told t (held_token kept at t) (foreign text) old new kept kept' outcome table acts rows told
+acts_told (Raw at bytes now) old new kept kept' outcome table acts rows told = rest_told old new acts.peer told
 acts_told (Time at now) old new kept kept' outcome table acts rows told = rest_told old new acts.peer told
 acts_told (Datagram at packet now) old new kept kept' outcome table acts rows told = rest_told old new acts.peer told
 acts_told (Poll at) old new kept kept' outcome table acts rows told = rest_told old new acts.peer told

@@ -1,5 +1,6 @@
 -- What each step of a side changes of its channels and of the entries of their streams.
-use Rattle.std.proofs.Common.{◌≡◌, ◌⊎◌, inl, inr, ℕ, Bool, true, false, List, [], Option, Result, Ok, Err, sym, subst}
+use Rattle.std.proofs.Common.{◌≡◌, ◌⊎◌, inl, inr, ℕ, Bool, true, false, true≢false, List, [], Option, Result, Ok, Err, sym, subst}
+use Rattle.rtc_wire.specs.declared.addr.Addr.{Addr}
 use Rattle.rtc_sctp_laws.specs.StreamMessages.{StreamMessage}
 use Rattle.rtc_peer_core.specs.declared.phase.Phase.TheVariants.{Closed}
 use Rattle.rtc_peer_core.specs.declared.rtc_error.RtcError.{RtcError}
@@ -28,8 +29,9 @@ use Rattle.rtc_run_history.specs.declared.side.Side.{Side}
 use Rattle.rtc_run_history.specs.declared.side.Side.TheVariants.{Left, Right}
 use Rattle.rtc_run_history.specs.declared.step.Step.{Step}
 use Rattle.rtc_run_history.specs.declared.step.Step.TheVariants.{Negotiate, AcceptOffer, AcceptAnswer, Time, Datagram, Poll, Drain}
-use Rattle.rtc_run_history.specs.declared.step.Step.TheVariants.{Write, CloseChannel, Close}
+use Rattle.rtc_run_history.specs.declared.step.Step.TheVariants.{Write, CloseChannel, Close, Rollback, ForeignOffer, ForeignAnswer, Raw}
 use Rattle.rtc_run_history.specs.declared.table.Table.{Table}
+use Rattle.rtc_run_history.specs.Native.{goes_forward}
 use Rattle.rtc_run_history.specs.PairState.{PairState, rtc_at, held_token, kept_remote_sdp, remote_packet}
 use Rattle.rtc_run_history.specs.Performs.{Acts}
 use Rattle.rtc_run_history.specs.Sides.{other_side}
@@ -91,33 +93,37 @@ module _ {I D S M E X T W N : Type 0} (m : Meanings I D S M E X T W N) where
     }
 
     -- each step, an arm each
-    pub acts_rows : (stun : List ℕ → Bool) (step : Step) (old : PolledPeer I D S M N) (sdps : List Kept) (packets : List SentPacket)
+    pub acts_rows : (stun : List ℕ → Bool) (other own : Addr) (step : Step) (old : PolledPeer I D S M N) (sdps : List Kept) (packets : List SentPacket)
         (outcome : Outcome E) (table : Option Table) (new : PolledPeer I D S M N) (sdps' : List Kept) (packets' : List SentPacket)
-        → Acts m stun step old sdps packets outcome table new sdps' packets' → StepRows old new
-    acts_rows stun (Negotiate at ops apply) old sdps packets outcome table new sdps' packets' h =
+        → goes_forward step ≡ true → Acts m stun other own step old sdps packets outcome table new sdps' packets' → StepRows old new
+    acts_rows stun other own (Negotiate at ops apply) old sdps packets outcome table new sdps' packets' go h =
         call_rows old new [] (negotiates_keep m at ops apply old sdps outcome table new sdps' h.0)
-    acts_rows stun (AcceptOffer at offer) old sdps packets outcome table new sdps' packets' h =
+    acts_rows stun other own (AcceptOffer at offer) old sdps packets outcome table new sdps' packets' go h =
         call_rows old new []
         (offer_step_keeps m laws.association at (kept_remote_sdp true sdps at offer) old sdps outcome table new sdps' h.0)
-    acts_rows stun (AcceptAnswer at token answer) old sdps packets outcome table new sdps' packets' h =
+    acts_rows stun other own (AcceptAnswer at token answer) old sdps packets outcome table new sdps' packets' go h =
         call_rows old new []
         (answer_step_keeps m laws.association token (held_token sdps at token) (kept_remote_sdp false sdps at answer) old sdps outcome table new
         sdps' h.0)
-    acts_rows stun (Time at now) old sdps packets outcome table new sdps' packets' h =
+    acts_rows stun other own (Time at now) old sdps packets outcome table new sdps' packets' go h =
         calls_keep m StepRows calls_rows (HandlesInput m (given.Timeout now))
         (λ p r q k. call_rows p q [] (input_keeps m laws.association (given.Timeout now) p r q k)) old outcome table new h.0
-    acts_rows stun (Datagram at packet now) old sdps packets outcome table new sdps' packets' h =
+    acts_rows stun other own (Datagram at packet now) old sdps packets outcome table new sdps' packets' go h =
         datagram_keep m StepRows calls_rows stun (remote_packet packets at packet) now old outcome table new h.0
-    acts_rows stun (Poll at) old sdps packets outcome table new sdps' packets' h =
+    acts_rows stun other own (Poll at) old sdps packets outcome table new sdps' packets' go h =
         poll_keep m StepRows calls_rows at old packets outcome table new packets' h.0
-    acts_rows stun (Drain at) old sdps packets outcome table new sdps' packets' h =
+    acts_rows stun other own (Drain at) old sdps packets outcome table new sdps' packets' go h =
         drain_keep m StepRows calls_rows at old packets outcome table new packets' h.0
-    acts_rows stun (Write at channel binary bytes) old sdps packets outcome table new sdps' packets' h =
+    acts_rows stun other own (Write at channel binary bytes) old sdps packets outcome table new sdps' packets' go h =
         write_keep m StepRows calls_rows (open_stream_under channel old) binary bytes old outcome table new h.0
-    acts_rows stun (CloseChannel at channel) old sdps packets outcome table new sdps' packets' h =
+    acts_rows stun other own (CloseChannel at channel) old sdps packets outcome table new sdps' packets' go h =
         close_keep m StepRows calls_rows (open_stream_under channel old) channel old outcome table new h.0
-    acts_rows stun (Close at) old sdps packets outcome table new sdps' packets' h =
+    acts_rows stun other own (Close at) old sdps packets outcome table new sdps' packets' go h =
         calls_keep m StepRows calls_rows (ClosesPeer m) (λ p r q k. call_rows p q [] (close_keeps m laws.association p r q k)) old outcome table new h.0
+    acts_rows stun other own (Rollback at token) old sdps packets outcome table new sdps' packets' go h = absurd (true≢false (sym go))
+    acts_rows stun other own (ForeignOffer at text) old sdps packets outcome table new sdps' packets' go h = absurd (true≢false (sym go))
+    acts_rows stun other own (ForeignAnswer at token text) old sdps packets outcome table new sdps' packets' go h = absurd (true≢false (sym go))
+    acts_rows stun other own (Raw at bytes now) old sdps packets outcome table new sdps' packets' go h = absurd (true≢false (sym go))
 
   -- the side that acts, and the other one
   pub rows_at : (at x : Side) (between pair : PairState I D S M N) → StepRows (rtc_at at between) (rtc_at at pair)

@@ -1,5 +1,6 @@
 -- Each step leaves the exchange of a pair.
-use Rattle.std.proofs.Common.{◌≡◌, ◌∷◌, ℕ, Bool, true, false, List, [], Option, Some, None, Result, Ok, Err, alloc_error, refl, sym, subst}
+use Rattle.std.proofs.Common.{◌≡◌, ◌∷◌, ℕ, Bool, true, false, true≢false, List, [], Option, Some, None, Result, Ok, Err, alloc_error, refl, sym, subst}
+use Rattle.rtc_wire.specs.declared.addr.Addr.{Addr}
 use Rattle.rtc_wire.specs.DatagramRecv.{kind_by}
 use Rattle.rtc_wire.specs.declared.multiplex_kind.MultiplexKind.{MultiplexKind}
 use Rattle.rtc_wire.specs.declared.net_error.NetError.{NetError}
@@ -39,16 +40,17 @@ use Rattle.rtc_run_history.specs.declared.shown.Shown.TheVariants.{Timeout, Pack
 use Rattle.rtc_run_history.specs.declared.side.Side.{Side}
 use Rattle.rtc_run_history.specs.declared.step.Step.{Step}
 use Rattle.rtc_run_history.specs.declared.step.Step.TheVariants.{Negotiate, AcceptOffer, AcceptAnswer, Time, Datagram, Poll, Drain}
-use Rattle.rtc_run_history.specs.declared.step.Step.TheVariants.{Write, CloseChannel, Close}
+use Rattle.rtc_run_history.specs.declared.step.Step.TheVariants.{Write, CloseChannel, Close, Rollback, ForeignOffer, ForeignAnswer, Raw}
 use Rattle.rtc_run_history.specs.declared.table.Table.{Table}
 use Rattle.rtc_run_history.specs.CallReplies.{ClosesOpenChannel, FindsNone, StepCalls, StepClosesChannel, StepWrites, StepWritesOpen}
-use Rattle.rtc_run_history.specs.PairState.{rtc_at, held_token, kept_remote_sdp, remote_packet}
+use Rattle.rtc_run_history.specs.Native.{is_native}
+use Rattle.rtc_run_history.specs.PairState.{addr_at, rtc_at, held_token, kept_remote_sdp, remote_packet}
 use Rattle.rtc_run_history.specs.Performs.{Acts, DrainsOn, DrainsPeer, HandlesRead, Performs, PollsOnce, PollsShown, StepPollsPeer, StepTakesDatagram}
 use Rattle.rtc_run_history.specs.Sides.{other_side, side_of}
 use Rattle.rtc_run_laws.specs.PlainPairs.{HasExchanged, PlainPair, PlainPolled, plain_over}
 use Rattle.rtc_run_laws.specs.SentContents.{contents_sent}
 use Rattle.rtc_run_laws.proofs.ContentsLemmas.{Carries, Shows, datagram_comes, nothing_comes, sent_among, shows_none, shows_one}
-use Rattle.rtc_run_laws.proofs.NegotiationActed.{answer_acts, negotiates_did, offer_acts}
+use Rattle.rtc_run_laws.proofs.NegotiationActed.{answer_acts, negotiates_did, offer_acts, rollback_acts}
 use Rattle.rtc_run_laws.proofs.StandingExchange.{Stands, StandsIn, call_stands, negotiation_stands, pair_stands, same_stands, stands_pair}
 
 pub plain_over_laws : {N : Type 0} (draws : Draws N) → PartsLaws (plain_over draws)
@@ -219,49 +221,55 @@ module _ {N : Type 0} (draws : Draws N) (at : Side) (b : PeerActs) (q : PlainPol
 
 module _ {N : Type 0} (draws : Draws N) (b : PeerActs) (q : PlainPolled N) where
   -- each step, an arm each
-  acts_stand : (stun : List ℕ → Bool) (step : Step) (old : PlainPolled N) (sdps : List Kept) (packets : List SentPacket)
+  acts_stand : (stun : List ℕ → Bool) (other own : Addr) (step : Step) (old : PlainPolled N) (sdps : List Kept) (packets : List SentPacket)
       (outcome : Outcome PlainMediaEvent) (table : Option Table) (new : PlainPolled N) (sdps' : List Kept) (packets' : List SentPacket)
-      → Acts (plain_over draws) stun step old sdps packets outcome table new sdps' packets' → Stands (side_of step) packets b q old
+      → is_native step ≡ true → Acts (plain_over draws) stun other own step old sdps packets outcome table new sdps' packets' → Stands (side_of step) packets b q old
       → Stands (side_of step) packets' b q new
-  acts_stand stun (Negotiate at ops apply) old sdps packets outcome table new sdps' packets' h stands =
+  acts_stand stun other own (Negotiate at ops apply) old sdps packets outcome table new sdps' packets' native h stands =
       negotiation_stands draws at packets packets' b q old new h.1.packets_kept
       (negotiates_did (plain_over draws) at ops apply old sdps outcome table new sdps' h.0) stands
-  acts_stand stun (AcceptOffer at offer) old sdps packets outcome table new sdps' packets' h stands =
+  acts_stand stun other own (AcceptOffer at offer) old sdps packets outcome table new sdps' packets' native h stands =
       negotiation_stands draws at packets packets' b q old new h.1.packets_kept
       (offer_acts (plain_over draws) at (kept_remote_sdp true sdps at offer) old sdps outcome table new sdps' h.0) stands
-  acts_stand stun (AcceptAnswer at token answer) old sdps packets outcome table new sdps' packets' h stands =
+  acts_stand stun other own (AcceptAnswer at token answer) old sdps packets outcome table new sdps' packets' native h stands =
       negotiation_stands draws at packets packets' b q old new h.1.packets_kept
       (answer_acts (plain_over draws) token (held_token sdps at token) (kept_remote_sdp false sdps at answer) old sdps outcome table new sdps' h.0) stands
-  acts_stand stun (Time at now) old sdps packets outcome table new sdps' packets' h stands =
+  acts_stand stun other own (Time at now) old sdps packets outcome table new sdps' packets' native h stands =
       calls_stand draws at b q (HandlesInput (plain_over draws) (given.Timeout now)) packets packets'
       (λ p r next handles s.
       heard_stands draws at b q packets packets' (given.Timeout now) p r next h.2 (nothing_comes (contents_sent (other_side at) packets)) handles s)
       old outcome table new h.2 h.0 stands
-  acts_stand stun (Datagram at packet now) old sdps packets outcome table new sdps' packets' h stands =
+  acts_stand stun other own (Datagram at packet now) old sdps packets outcome table new sdps' packets' native h stands =
       hears_stand draws at b q stun (remote_packet packets at packet) now packets packets' (λ transmit is. sent_among at packets packet transmit is)
       old outcome table new h.2 h.0 stands
-  acts_stand stun (Poll at) old sdps packets outcome table new sdps' packets' h stands =
+  acts_stand stun other own (Poll at) old sdps packets outcome table new sdps' packets' native h stands =
       polls_stand draws at b q (PollsOnce (plain_over draws) at old) old
       (λ from outputs end next to polls s. once_stands draws at b q old from outputs end next to polls s) packets outcome table new packets' h.0 stands
-  acts_stand stun (Drain at) old sdps packets outcome table new sdps' packets' h stands =
+  acts_stand stun other own (Drain at) old sdps packets outcome table new sdps' packets' native h stands =
       polls_stand draws at b q (DrainsPeer (plain_over draws) at old) old
       (λ from outputs end next to drains s. drains_stand draws at b q old from outputs end next to drains s) packets outcome table new packets' h.0 stands
-  acts_stand stun (Write at channel binary bytes) old sdps packets outcome table new sdps' packets' h stands =
+  acts_stand stun other own (Write at channel binary bytes) old sdps packets outcome table new sdps' packets' native h stands =
       writes_stand draws at b q packets packets' (open_stream_under channel old) binary bytes old outcome table new h.2 h.0 stands
-  acts_stand stun (CloseChannel at channel) old sdps packets outcome table new sdps' packets' h stands =
+  acts_stand stun other own (CloseChannel at channel) old sdps packets outcome table new sdps' packets' native h stands =
       channel_closes_stand draws at b q packets packets' (open_stream_under channel old) channel old outcome table new h.2 h.0 stands
-  acts_stand stun (Close at) old sdps packets outcome table new sdps' packets' h stands =
+  acts_stand stun other own (Close at) old sdps packets outcome table new sdps' packets' native h stands =
       calls_stand draws at b q (ClosesPeer (plain_over draws)) packets packets'
       (λ p r next closes s. closed_stands draws at b q packets packets' p r next h.2 closes s) old outcome table new h.2 h.0 stands
+  acts_stand stun other own (Rollback at token) old sdps packets outcome table new sdps' packets' native h stands =
+      negotiation_stands draws at packets packets' b q old new h.1.packets_kept
+      (rollback_acts (plain_over draws) token (held_token sdps at token) old sdps outcome table new sdps' h.0) stands
+  acts_stand stun other own (ForeignOffer at text) old sdps packets outcome table new sdps' packets' native h stands = absurd (true≢false (sym native))
+  acts_stand stun other own (ForeignAnswer at token text) old sdps packets outcome table new sdps' packets' native h stands = absurd (true≢false (sym native))
+  acts_stand stun other own (Raw at bytes now) old sdps packets outcome table new sdps' packets' native h stands = absurd (true≢false (sym native))
 
 module _ {N : Type 0} (draws : Draws N) where
   pub step_exchanges : (stun : List ℕ → Bool) (old : PlainPair N) (step : Step) (outcome : Outcome PlainMediaEvent) (table : Option Table)
-      (new : PlainPair N) → Performs (plain_over draws) stun old step outcome table new → HasExchanged old → HasExchanged new
-  step_exchanges stun old step outcome table new performs exchanged =
+      (new : PlainPair N) → is_native step ≡ true → Performs (plain_over draws) stun old step outcome table new → HasExchanged old → HasExchanged new
+  step_exchanges stun old step outcome table new native performs exchanged =
       let before : StandsIn (side_of step) old = pair_stands (side_of step) old exchanged in
       let after : Stands (side_of step) new.packets before.other (rtc_at (other_side (side_of step)) old) (rtc_at (side_of step) new) =
-      acts_stand draws before.other (rtc_at (other_side (side_of step)) old) stun step (rtc_at (side_of step) old) old.sdps old.packets outcome table
-      (rtc_at (side_of step) new) new.sdps new.packets performs.acts before.stands in
+      acts_stand draws before.other (rtc_at (other_side (side_of step)) old) stun (addr_at (other_side (side_of step)) old) (addr_at (side_of step) old) step (rtc_at (side_of step) old) old.sdps old.packets outcome table
+      (rtc_at (side_of step) new) new.sdps new.packets native performs.acts before.stands in
       stands_pair (side_of step) new
       (record {
         other = before.other;

@@ -1,5 +1,6 @@
 -- Each step keeps what holds of the channels that its side announced.
-use Rattle.std.proofs.Common.{◌≡◌, ◌++◌, ◌&&◌, ◌==◌, ◌∷◌, if◌then◌else◌, ℕ, Bool, true, false, List, [], append-nil, Option, Some, None, Result, Ok, Err, alloc_error, refl, ap}
+use Rattle.std.proofs.Common.{◌≡◌, ◌++◌, ◌&&◌, ◌==◌, ◌∷◌, if◌then◌else◌, ℕ, Bool, true, false, true≢false, List, [], append-nil, Option, Some, None, Result, Ok, Err, alloc_error, refl, sym, ap}
+use Rattle.rtc_wire.specs.declared.addr.Addr.{Addr}
 use Rattle.rtc_wire.specs.DatagramRecv.{kind_by}
 use Rattle.rtc_wire.specs.declared.multiplex_kind.MultiplexKind.{MultiplexKind}
 use Rattle.rtc_wire.specs.declared.net_error.NetError.{NetError}
@@ -39,9 +40,10 @@ use Rattle.rtc_run_history.specs.declared.sent_packet.SentPacket.{SentPacket}
 use Rattle.rtc_run_history.specs.declared.side.Side.{Side}
 use Rattle.rtc_run_history.specs.declared.step.Step.{Step}
 use Rattle.rtc_run_history.specs.declared.step.Step.TheVariants.{Negotiate, AcceptOffer, AcceptAnswer, Time, Datagram, Poll, Drain}
-use Rattle.rtc_run_history.specs.declared.step.Step.TheVariants.{Write, CloseChannel, Close}
+use Rattle.rtc_run_history.specs.declared.step.Step.TheVariants.{Write, CloseChannel, Close, Rollback, ForeignOffer, ForeignAnswer, Raw}
 use Rattle.rtc_run_history.specs.declared.table.Table.{Table}
 use Rattle.rtc_run_history.specs.CallReplies.{ClosesOpenChannel, FindsNone, StepCalls, StepClosesChannel, StepWrites, StepWritesOpen}
+use Rattle.rtc_run_history.specs.Native.{goes_forward}
 use Rattle.rtc_run_history.specs.PairState.{held_token, kept_remote_sdp, remote_packet}
 use Rattle.rtc_run_history.specs.Performs.{Acts, HandlesRead, StepTakesDatagram}
 use Rattle.rtc_run_history.specs.Sides.{other_side, side_of}
@@ -223,44 +225,49 @@ module _ {N : Type 0} (draws : Draws N) (at : Side) (b : PeerActs) (q : PlainPol
 
 module _ {N : Type 0} (draws : Draws N) (b : PeerActs) (q : PlainPolled N) where
   -- each step, an arm each
-  pub acts_stood : (stun : List ℕ → Bool) (step : Step) (old : PlainPolled N) (sdps : List Kept) (packets : List SentPacket)
+  pub acts_stood : (stun : List ℕ → Bool) (other own : Addr) (step : Step) (old : PlainPolled N) (sdps : List Kept) (packets : List SentPacket)
       (outcome : Outcome PlainMediaEvent) (table : Option Table) (new : PlainPolled N) (sdps' : List Kept) (packets' : List SentPacket)
-      (uses : List ChannelUse) (sent : Sent) (told : MessagesTold) (h : Acts (plain_over draws) stun step old sdps packets outcome table new sdps' packets')
+      (uses : List ChannelUse) (sent : Sent) (told : MessagesTold) → goes_forward step ≡ true
+      → (h : Acts (plain_over draws) stun other own step old sdps packets outcome table new sdps' packets')
       → Stood draws (side_of step) packets b q uses sent told old
-      → Stood draws (side_of step) packets' b q (uses_acted (plain_over draws) stun step old sdps packets outcome table new sdps' packets' h uses) (λ s g. sent_acted (plain_over draws) step outcome old s g (sent s g))
-      (by_step (plain_over draws) (told_shown (plain_over draws)) stun step old sdps packets outcome table new sdps' packets' h told) new
-  acts_stood stun (Negotiate at ops apply) old sdps packets outcome table new sdps' packets' uses sent told h stood =
+      → Stood draws (side_of step) packets' b q (uses_acted (plain_over draws) stun other own step old sdps packets outcome table new sdps' packets' h uses) (λ s g. sent_acted (plain_over draws) step outcome old s g (sent s g))
+      (by_step (plain_over draws) (told_shown (plain_over draws)) stun other own step old sdps packets outcome table new sdps' packets' h told) new
+  acts_stood stun other own (Negotiate at ops apply) old sdps packets outcome table new sdps' packets' uses sent told go h stood =
       quiet_stood draws at packets packets' b q old new _ _ uses sent told (begun_carries (contents_sent (other_side at) packets))
       (shows_none at packets packets' h.1.packets_kept)
       (negotiates_did (plain_over draws) at ops apply old sdps outcome table new sdps' h.0)
       (negotiates_keep (plain_over draws) at ops apply old sdps outcome table new sdps' h.0) stood
-  acts_stood stun (AcceptOffer at offer) old sdps packets outcome table new sdps' packets' uses sent told h stood =
+  acts_stood stun other own (AcceptOffer at offer) old sdps packets outcome table new sdps' packets' uses sent told go h stood =
       quiet_stood draws at packets packets' b q old new _ _ uses sent told (begun_carries (contents_sent (other_side at) packets))
       (shows_none at packets packets' h.1.packets_kept)
       (offer_acts (plain_over draws) at (kept_remote_sdp true sdps at offer) old sdps outcome table new sdps' h.0)
       (offer_step_keeps (plain_over draws) plain_laws at (kept_remote_sdp true sdps at offer) old sdps outcome table new sdps' h.0) stood
-  acts_stood stun (AcceptAnswer at token answer) old sdps packets outcome table new sdps' packets' uses sent told h stood =
+  acts_stood stun other own (AcceptAnswer at token answer) old sdps packets outcome table new sdps' packets' uses sent told go h stood =
       quiet_stood draws at packets packets' b q old new _ _ uses sent told (begun_carries (contents_sent (other_side at) packets))
       (shows_none at packets packets' h.1.packets_kept)
       (answer_acts (plain_over draws) token (held_token sdps at token) (kept_remote_sdp false sdps at answer) old sdps outcome table new sdps' h.0)
       (answer_step_keeps (plain_over draws) plain_laws token (held_token sdps at token) (kept_remote_sdp false sdps at answer) old sdps outcome table new sdps' h.0)
       stood
-  acts_stood stun (Time at now) old sdps packets outcome table new sdps' packets' uses sent told h stood =
+  acts_stood stun other own (Time at now) old sdps packets outcome table new sdps' packets' uses sent told go h stood =
       calls_stood draws at b q sent told (HandlesInput (plain_over draws) (given.Timeout now)) packets packets' uses
       (λ p r next handles s.
       heard_stood draws at b q sent told packets packets' (given.Timeout now) uses p r next h.2 (none_carries (contents_sent (other_side at) packets)) handles s)
       old outcome table new h.2 h.0 stood
-  acts_stood stun (Datagram at packet now) old sdps packets outcome table new sdps' packets' uses sent told h stood =
+  acts_stood stun other own (Datagram at packet now) old sdps packets outcome table new sdps' packets' uses sent told go h stood =
       hears_stood draws at b q sent told stun (remote_packet packets at packet) now packets packets' uses (λ transmit is. sent_among at packets packet transmit is)
       old outcome table new h.2 h.0 stood
-  acts_stood stun (Poll at) old sdps packets outcome table new sdps' packets' uses sent told h stood =
+  acts_stood stun other own (Poll at) old sdps packets outcome table new sdps' packets' uses sent told go h stood =
       poll_step_stood draws at b q sent old packets outcome table new packets' uses told h.0 stood
-  acts_stood stun (Drain at) old sdps packets outcome table new sdps' packets' uses sent told h stood =
+  acts_stood stun other own (Drain at) old sdps packets outcome table new sdps' packets' uses sent told go h stood =
       drain_step_stood draws at b q sent old packets outcome table new packets' uses told h.0 stood
-  acts_stood stun (Write at channel binary bytes) old sdps packets outcome table new sdps' packets' uses sent told h stood =
+  acts_stood stun other own (Write at channel binary bytes) old sdps packets outcome table new sdps' packets' uses sent told go h stood =
       writes_stood draws at b q sent told packets packets' channel (open_stream_under channel old) binary bytes uses old outcome table new h.2 refl h.0 stood
-  acts_stood stun (CloseChannel at channel) old sdps packets outcome table new sdps' packets' uses sent told h stood =
+  acts_stood stun other own (CloseChannel at channel) old sdps packets outcome table new sdps' packets' uses sent told go h stood =
       channel_closes_stood draws at b q sent told packets packets' (open_stream_under channel old) channel uses old outcome table new h.2 h.0 stood
-  acts_stood stun (Close at) old sdps packets outcome table new sdps' packets' uses sent told h stood =
+  acts_stood stun other own (Close at) old sdps packets outcome table new sdps' packets' uses sent told go h stood =
       calls_stood draws at b q sent told (ClosesPeer (plain_over draws)) packets packets' uses
       (λ p r next closes s. closed_stood draws at b q sent told packets packets' uses p r next h.2 closes s) old outcome table new h.2 h.0 stood
+  acts_stood stun other own (Rollback at token) old sdps packets outcome table new sdps' packets' uses sent told go h stood = absurd (true≢false (sym go))
+  acts_stood stun other own (ForeignOffer at text) old sdps packets outcome table new sdps' packets' uses sent told go h stood = absurd (true≢false (sym go))
+  acts_stood stun other own (ForeignAnswer at token text) old sdps packets outcome table new sdps' packets' uses sent told go h stood = absurd (true≢false (sym go))
+  acts_stood stun other own (Raw at bytes now) old sdps packets outcome table new sdps' packets' uses sent told go h stood = absurd (true≢false (sym go))

@@ -13,7 +13,7 @@ use Rattle.rtc_sdp_values.specs.declared.simulcast.Simulcast.{Simulcast}
 use Rattle.rtc_sdp_values.specs.declared.simulcast_layer.SimulcastLayer.{SimulcastLayer}
 use Rattle.rtc_sdp_attributes.specs.AttributeTexts.{rids_in}
 use Rattle.rtc_sdp_attributes.specs.PlainValues.{is_listed}
-use Rattle.rtc_sdp_reader.specs.PlainPayloads.{IsPayloadType}
+use Rattle.rtc_sdp_reader.specs.PlainPayloads.{IsPayloadType, IsPlainPayload}
 use Rattle.rtc_sdp_writer.specs.Plain.{IsLegible, IsLegibleLine, IsPlainRow, IsPlainExtension, IsPairOfLine, IsPlainLayer, IsPlainSimulcast}
 use Rattle.rtc_sdp_codecs.specs.FormedCodecs.{repair_numbers, payload_numbers, all_payload_numbers, AreFormedExtensions}
 use Rattle.rtc_sdp_codecs.proofs.AllLemmas.{all_joined}
@@ -24,17 +24,21 @@ repair_small : (pt : Option Pt) → IfSome pt IsPayloadType → AllByRecursion (
 repair_small None small = tt
 repair_small (Some pt) small = (small, tt)
 
-row_small : (row : PayloadRow) → IsPlainRow row → AllByRecursion (λ number. number ≤ 127) (payload_numbers row)
+row_small : (row : PayloadRow) → IsPlainPayload row → AllByRecursion (λ number. number ≤ 127) (payload_numbers row)
 row_small row plain =
-    all_joined (λ (number : ℕ). number ≤ 127) (repair_numbers row.red) (row.pt.0 ∷ repair_numbers row.rtx) (repair_small row.red plain.numbers.red)
-    (plain.numbers.pt, repair_small row.rtx plain.numbers.rtx)
+    all_joined (λ (number : ℕ). number ≤ 127) (repair_numbers row.red) (row.pt.0 ∷ repair_numbers row.rtx) (repair_small row.red plain.red)
+    (plain.pt, repair_small row.rtx plain.rtx)
 
-rows_small : (rows : List PayloadRow) → AllByRecursion IsPlainRow rows → AllByRecursion (λ number. number ≤ 127) (all_payload_numbers rows)
+pub rows_small : (rows : List PayloadRow) → AllByRecursion IsPlainPayload rows → AllByRecursion (λ number. number ≤ 127) (all_payload_numbers rows)
 rows_small [] plain = tt
 rows_small (row ∷ rows) plain =
     all_joined (λ (number : ℕ). number ≤ 127) (payload_numbers row) (all_payload_numbers rows) (row_small row plain.0) (rows_small rows plain.1)
 
-extensions_taken : (exts : List (ℕ × Extension)) → AllByRecursion IsPlainExtension exts → AreFormedExtensions exts
+numbers_plain : (rows : List PayloadRow) → AllByRecursion IsPlainRow rows → AllByRecursion IsPlainPayload rows
+numbers_plain [] plain = tt
+numbers_plain (row ∷ rows) plain = (plain.0.numbers, numbers_plain rows plain.1)
+
+pub extensions_taken : (exts : List (ℕ × Extension)) → AllByRecursion IsPlainExtension exts → AreFormedExtensions exts
 extensions_taken [] plain = tt
 extensions_taken (row ∷ exts) plain = ((let least : 1 ≤ row.0 = omega (arith, plain.0.0) in least, plain.0.1), extensions_taken exts plain.1)
 
@@ -84,7 +88,7 @@ some_layers [] [] some = absurd (some refl)
 some_layers [] (layer ∷ layers) some = omega arith
 some_layers (layer ∷ layers) recv some = omega arith
 
-layers_taken : (simulcast : Option Simulcast) → IfSome simulcast IsPlainSimulcast → IfSome simulcast IsFormedSimulcast
+pub layers_taken : (simulcast : Option Simulcast) → IfSome simulcast IsPlainSimulcast → IfSome simulcast IsFormedSimulcast
 layers_taken None plain = tt
 layers_taken (Some simulcast) plain = record {
   some = some_layers simulcast.send simulcast.recv plain.some;
@@ -95,7 +99,7 @@ layers_taken (Some simulcast) plain = record {
 line_taken : (line : MediaLine) → IsLegibleLine line → IsTakenLine line
 line_taken line legible = record {
   payloads = record {
-    small = rows_small line.payloads legible.payloads;
+    small = rows_small line.payloads (numbers_plain line.payloads legible.payloads);
     apart = subst (IsApart (λ x y. x == y)) (sym (formats_same line.payloads)) legible.payloads_apart;
   };
   exts = extensions_taken line.exts legible.exts;

@@ -3,7 +3,7 @@ use Rattle.std.proofs.Common.{◌≡◌, ◌≤◌, ◌<◌, ◌+◌, ◌^◌, �
 use Rattle.std.specs.Prelude.{slice_get, is_some, option_map}
 use Rattle.std.proofs.lemmas.Bool.{ne_eqb}
 use Rattle.rtc_change.specs.PendingOffer.{PendingOffer, added_rows, staged_restart}
-use Rattle.rtc_channels.specs.Channels.{AreBelow}
+use Rattle.rtc_channels.specs.Channels.{AreBelow, AreRising}
 use Rattle.rtc_peer_core.specs.Stance.{Stance}
 use Rattle.rtc_peer_core.specs.Calls.{raised}
 use Rattle.rtc_run_history.specs.declared.side.Side.{Side}
@@ -26,11 +26,12 @@ pub record TokenTells {E : Type 0} (past : List (Entry E)) (at : Side) (counter 
   pub restarts : (token : PendingOffer) → token_for at kept ≡ Some token → is_some (staged_restart token.changes) ≡ restarts_by t past
   pub inits : (token : PendingOffer) → token_for at kept ≡ Some token → token.says_init ≡ tells_init (option_map made_sdp kept)
 
--- What a past says of the channels of a side: their rows, and that its numbers were given and tell how many were given at most.
+-- What a past says of the channels of a side: their rows, and that its numbers rise, were given, and tell how many were given at most.
 pub record ChannelsTell {E : Type 0} (past : List (Entry E)) (at : Side) (s : Stance) : Type 0 where
   pub shown : s.rows ≡ channels_shown at past
   pub few : s.channels.given ≤ length (numbers_told at past)
   pub below : AreBelow s.channels.given s.channels.rows
+  pub rising : AreRising 0 s.channels.rows
   pub told : AreLess s.channels.given (numbers_told at past)
 
 -- What a past says of a side.
@@ -94,7 +95,7 @@ token_kept past e at counter t kept untold still told =
       inits = told.inits;
     }
 
-not_next : (counter id : ℕ) → id + 1 ≤ counter → (counter + 1 == id + 1) ≡ false
+pub not_next : (counter id : ℕ) → id + 1 ≤ counter → (counter + 1 == id + 1) ≡ false
 not_next counter id older = ne_eqb (counter + 1) (id + 1) (λ e. omega arith)
 
 token_moved : {E : Type 0} → (past : List (Entry E)) (e : Entry E) (at : Side) (counter t : ℕ) (kept : Option Kept) → IsUntold past e at t
@@ -165,6 +166,7 @@ channels_stay past e at s another tell =
       shown = tell.shown ∙ sym (ap (λ b. channel_rows_or b e.table (channels_shown at past)) another);
       few = rw same tell.few;
       below = tell.below;
+      rising = tell.rising;
       told = rw same tell.told;
     }
 

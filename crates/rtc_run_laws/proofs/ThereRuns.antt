@@ -1,5 +1,5 @@
 -- In runs of new pairs each stream that is there in its first generation has an entry past its opening, or is held.
-use Rattle.std.proofs.Common.{◌≡◌, ◌⊎◌, inl, inr, ℕ, Bool, true≢false, List, [], ◌∷◌, refl, sym, ap, subst}
+use Rattle.std.proofs.Common.{◌≡◌, ◌⊎◌, inl, inr, ℕ, Bool, true, true≢false, List, [], ◌∷◌, refl, sym, ap, subst}
 use Rattle.rtc_part_association.specs.AssociationActs.{Stirred, LimitsSet}
 use Rattle.rtc_part_values.specs.Why.{Other}
 use Rattle.rtc_assoc_state.specs.Contents.{Contents, fresh_contents}
@@ -23,8 +23,9 @@ use Rattle.rtc_sctp.specs.Streams.{SctpStreams}
 use Rattle.rtc_sctp_laws.specs.GenerationLaws.{GenerationLaws}
 use Rattle.rtc_run_history.specs.declared.side.Side.{Side}
 use Rattle.rtc_run_history.specs.declared.side.Side.TheVariants.{Left, Right}
+use Rattle.rtc_run_history.specs.Native.{go_forward}
 use Rattle.rtc_run_history.specs.PairState.{PairState, rtc_at}
-use Rattle.rtc_run_history.specs.Past.{Entry}
+use Rattle.rtc_run_history.specs.Past.{Entry, steps_of}
 use Rattle.rtc_run_history.specs.Runs.{Reached}
 use Rattle.rtc_run_laws.specs.NewPairs.{IsNewPair, IsNewPeer}
 use Rattle.rtc_run_laws.specs.PlainPairs.{PlainPair, PlainPolled, plain_over}
@@ -32,6 +33,7 @@ use Rattle.rtc_run_laws.proofs.StepsExchange.{plain_over_laws}
 use Rattle.rtc_run_laws.proofs.ConfirmedRuns.{last_rows}
 use Rattle.rtc_run_laws.proofs.ThereRows.{rows_there}
 use Rattle.rtc_run_laws.proofs.StepRows.{StepRows}
+use Rattle.rtc_run_laws.proofs.ForwardSteps.{forward_entry}
 
 module _ {I D S M E X T W N : Type 0} (m : Meanings I D S M E X T W N) (laws : PartsLaws m) (v : GenerationLaws m.association)
     (keeps : S → ℕ → Type 0) (u : KeepingLaws m.association keeps) where
@@ -48,10 +50,10 @@ module _ {I D S M E X T W N : Type 0} (m : Meanings I D S M E X T W N) (laws : P
       by (inr changed) = inr (rows_there m.association laws.association v keeps u p.core.channels p.core.sctp q.core.channels q.core.sctp changed begun)
 
   pub run_there : (stun : List ℕ → Bool) (start : PairState I D S M N) (past : List (Entry E)) (pair : PairState I D S M N)
-      → Reached m stun start past pair → ((at : Side) → SideThere (rtc_at at start)) → (at : Side) → SideThere (rtc_at at pair)
-  run_there stun start [] pair ran h at = subst (λ (x : PairState I D S M N). SideThere (rtc_at at x)) (sym ran) (h at)
-  run_there stun start (entry ∷ past) pair ran h at =
-      there_on (rtc_at at ran.0) (rtc_at at pair) (last_rows m laws stun start entry past pair ran at) (run_there stun start past ran.0 ran.1 h at)
+      → go_forward (steps_of past) ≡ true → Reached m stun start past pair → ((at : Side) → SideThere (rtc_at at start)) → (at : Side) → SideThere (rtc_at at pair)
+  run_there stun start [] pair go ran h at = subst (λ (x : PairState I D S M N). SideThere (rtc_at at x)) (sym ran) (h at)
+  run_there stun start (entry ∷ past) pair go ran h at =
+      there_on (rtc_at at ran.0) (rtc_at at pair) (last_rows m laws stun start entry past pair go ran at) (run_there stun start past ran.0 (forward_entry entry past go).0 ran.1 h at)
 
 -- ---- new peers
 

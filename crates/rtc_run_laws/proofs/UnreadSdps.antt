@@ -40,7 +40,7 @@ use Rattle.rtc_change.specs.Plans.{
 }
 use Rattle.rtc_peer_core.specs.declared.rtc_error.RtcError.{RtcError}
 use Rattle.rtc_peer_core.specs.declared.rtc_error.RtcError.TheVariants.{Sdp as SdpRefused}
-use Rattle.rtc_run_history.specs.Past.{is_unread_for, is_unread}
+use Rattle.rtc_run_history.specs.Past.{is_unread_for, is_unread, is_glare}
 
 -- it is no refusal of a text that cannot be read
 abbrev IsRead : Option Refusal → Type 0
@@ -148,3 +148,6 @@ peer_reads held asked sdp error is = subst IsRead is (verdict_read held asked sd
 -- no peer was called with what could not be read
 pub uncalled_unread : (line : ℕ) (error : RtcError) → error ≡ SdpRefused (Parse line) → not (is_unread error) ≡ false
 uncalled_unread line error is = rw is refl
+
+pub uncalled_offer : (line : ℕ) (error : RtcError) → error ≡ SdpRefused (Parse line) → not (is_unread error || is_glare error) ≡ false
+uncalled_offer line error is = rw is refl

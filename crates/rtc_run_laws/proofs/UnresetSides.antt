@@ -1,5 +1,5 @@
 -- In a settled pair each confirmed channel with a stream that was never reset is open at both sides.
-use Rattle.std.proofs.Common.{◌≡◌, ◌⊎◌, inl, inr, ℕ, Bool, List, []}
+use Rattle.std.proofs.Common.{◌≡◌, ◌⊎◌, inl, inr, ℕ, Bool, true, List, []}
 use Rattle.rtc_part_association.specs.AssociationWords.{written}
 use Rattle.rtc_assoc_state.specs.Contents.{generation_of}
 use Rattle.rtc_assoc_state.specs.PlainMeaning.{plain_meaning}
@@ -12,8 +12,9 @@ use Rattle.rtc_sctp_laws.proofs.PlainGenerations.{plain_generations}
 use Rattle.rtc_sctp_laws.proofs.ThereStreams.{AreBegunStreams}
 use Rattle.rtc_run_history.specs.declared.side.Side.{Side}
 use Rattle.rtc_run_history.specs.declared.side.Side.TheVariants.{Left, Right}
+use Rattle.rtc_run_history.specs.Native.{go_forward}
 use Rattle.rtc_run_history.specs.PairState.{rtc_at}
-use Rattle.rtc_run_history.specs.Past.{Entry}
+use Rattle.rtc_run_history.specs.Past.{Entry, steps_of}
 use Rattle.rtc_run_history.specs.Runs.{Reached}
 use Rattle.rtc_run_history.specs.Sides.{other_side}
 use Rattle.rtc_run_laws.proofs.EmptyStreams.{AreUnused}
@@ -45,7 +46,7 @@ side_parts acts pair x Right s g h none =
     x.joined.run s g h none
 
 module _ {N : Type 0} (draws : Draws N) (stun : List ℕ → Bool) (start : PlainPair N) (past : List (Entry PlainMediaEvent)) (pair : PlainPair N)
-    (ran : Reached (plain_over draws) stun start past pair) (new : IsNewPair draws start)
+    (go : go_forward (steps_of past) ≡ true) (ran : Reached (plain_over draws) stun start past pair) (new : IsNewPair draws start)
     (h : PairTold draws start (λ x. []) (λ x s g. []) (λ x c s g. [])) (unused : AreUnused (plain_over draws) (plain_over_laws draws) start)
     (settled : IsSettledPair past pair) where
   there_by : (at : Side) → SideThere (plain_over draws) (plain_over_laws draws) plain_generations IsKept plain_keeping (rtc_at at pair)
@@ -56,7 +57,7 @@ module _ {N : Type 0} (draws : Draws N) (stun : List ℕ → Bool) (start : Plai
   begun_at : (at : Side) → AreBegunStreams plain_meaning IsKept (rtc_at at pair).core.sctp
   begun_at at =
       there_by at
-      (run_there (plain_over draws) (plain_over_laws draws) plain_generations IsKept plain_keeping stun start past pair ran
+      (run_there (plain_over draws) (plain_over_laws draws) plain_generations IsKept plain_keeping stun start past pair go ran
       (new_pair_there draws start new) at)
 
   -- the other side opened a stream whose opening is refused alone
@@ -64,19 +65,19 @@ module _ {N : Type 0} (draws : Draws N) (stun : List ℕ → Bool) (start : Plai
       → IsRefusedAlone s (rtc_at at pair) (rtc_at (other_side at) pair) → generation_of (rtc_at at pair).core.sctp.association s ≡ 0
       → WaitsForAnswer s (rtc_at (other_side at) pair).core.sctp.entries
   waits_there Left s band alone first =
-      let k = told draws stun start past pair ran h unused settled in
-      alone_waits draws k.acts.left k.acts.right (uses draws stun start past pair ran h unused settled Left)
-      (uses draws stun start past pair ran h unused settled Right) pair.left pair.right k.left.side k.right.side (settled.peers Left)
-      (settled.peers Right) (heard draws stun start past pair ran h unused settled Right) (begun_at Left)
+      let k = told draws stun start past pair go ran h unused settled in
+      alone_waits draws k.acts.left k.acts.right (uses draws stun start past pair go ran h unused settled Left)
+      (uses draws stun start past pair go ran h unused settled Right) pair.left pair.right k.left.side k.right.side (settled.peers Left)
+      (settled.peers Right) (heard draws stun start past pair go ran h unused settled Right) (begun_at Left)
       (λ t g. side_all k.acts pair Right t g k.exchange) (side_parts k.acts pair k.exchange Left) s
-      (kept_streams draws stun start past pair ran h unused settled Left s band) alone first
+      (kept_streams draws stun start past pair go ran h unused settled Left s band) alone first
   waits_there Right s band alone first =
-      let k = told draws stun start past pair ran h unused settled in
-      alone_waits draws k.acts.right k.acts.left (uses draws stun start past pair ran h unused settled Right)
-      (uses draws stun start past pair ran h unused settled Left) pair.right pair.left k.right.side k.left.side (settled.peers Right)
-      (settled.peers Left) (heard draws stun start past pair ran h unused settled Left) (begun_at Right)
+      let k = told draws stun start past pair go ran h unused settled in
+      alone_waits draws k.acts.right k.acts.left (uses draws stun start past pair go ran h unused settled Right)
+      (uses draws stun start past pair go ran h unused settled Left) pair.right pair.left k.right.side k.left.side (settled.peers Right)
+      (settled.peers Left) (heard draws stun start past pair go ran h unused settled Left) (begun_at Right)
       (λ t g. side_all k.acts pair Left t g k.exchange) (side_parts k.acts pair k.exchange Right) s
-      (kept_streams draws stun start past pair ran h unused settled Right s band) alone first
+      (kept_streams draws stun start past pair go ran h unused settled Right s band) alone first
 
   pub settled_unreset : (at : Side) → HasNothingDue at past pair
       → AreConfirmedUnreset draws (λ c. WasConfirmed (plain_over draws) stun start at c past pair ran)
@@ -84,8 +85,8 @@ module _ {N : Type 0} (draws : Draws N) (stun : List ℕ → Bool) (start : Plai
       (uses_of (plain_over draws) stun start (other_side at) past pair ran) (rtc_at (other_side at) pair)
   settled_unreset at later = λ c s confirmed under band channels first.
       by c s band channels first
-      (settled_alone draws stun start past pair ran new h unused settled at
-      (settled_idle draws stun start past pair ran h unused settled at later) c s confirmed under band channels)
+      (settled_alone draws stun start past pair go ran new h unused settled at
+      (settled_idle draws stun start past pair go ran h unused settled at later) c s confirmed under band channels)
     where
       by : (c s : ℕ) → AreInBandStreams s (rtc_at at pair) (rtc_at (other_side at) pair)
           → AreInBandChannels s (rtc_at at pair) (rtc_at (other_side at) pair) → generation_of (rtc_at at pair).core.sctp.association s ≡ 0
@@ -97,5 +98,5 @@ module _ {N : Type 0} (draws : Draws N) (stun : List ℕ → Bool) (start : Plai
       by c s band channels first (inl opened) = opened
       by c s band channels first (inr alone) =
           absurd
-          (settled_parted draws stun start past pair ran new settled at s channels (refused_here s (rtc_at at pair) alone.0)
+          (settled_parted draws stun start past pair go ran new settled at s channels (refused_here s (rtc_at at pair) alone.0)
           (waits_opening s (rtc_at (other_side at) pair).core.sctp.entries (waits_there at s band alone first)))

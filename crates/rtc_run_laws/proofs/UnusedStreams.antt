@@ -22,7 +22,7 @@ use Rattle.rtc_change.specs.PendingOffer.{PendingOffer}
 use Rattle.rtc_change.specs.TableAfter.{table_after}
 use Rattle.rtc_peer_core.specs.declared.peer.Peer.{Peer}
 use Rattle.rtc_peer_core.specs.declared.rtc_error.RtcError.{RtcError}
-use Rattle.rtc_peer_core.specs.declared.rtc_error.RtcError.TheVariants.{Net, Media as MediaFailed}
+use Rattle.rtc_peer_core.specs.declared.rtc_error.RtcError.TheVariants.{Net, Media as MediaFailed, Glare}
 use Rattle.rtc_peer_core.specs.declared.rtc_error.RtcError.TheVariants.{RemoteSdp, Sdp as SdpRefused, Dtls, Sctp, ChangesOutOfOrder, BadChannel, Alloc as PeerAlloc}
 use Rattle.rtc_peer_core.specs.Acceptances.{AcceptsOffer, AcceptsAnswer}
 use Rattle.rtc_peer_core.specs.Calls.{raised}
@@ -33,7 +33,6 @@ use Rattle.rtc_peer_core.specs.SdpMoves.{StartsBySdp, halves_for, answer_ids}
 use Rattle.rtc_peer_core.proofs.PartMovesLemmas.{role_taken}
 use Rattle.rtc_peer_core.proofs.StoppedPeers.{stopped_dtls, stopped_sctp}
 use Rattle.rtc_peer_polling.proofs.StreamStarts.{IsEmptyBefore}
-use Rattle.rtc_run_history.specs.declared.outcome.Outcome.TheVariants.{Alloc}
 use Rattle.rtc_run_laws.proofs.OpParts.{counting_parts}
 
 -- ---- a start
@@ -143,8 +142,8 @@ module _ {I D S M E X T W N : Type 0} (m : Meanings I D S M E X T W N) (laws : P
     empty = sdp_unused p true offer (offer_halves m p offer) (Ok tt) q.sctp h.sctp_starts unused.empty;
     role = λ s. begun_role p offer (Ok tt) q.dtls h.dtls_starts;
   }
-  offer_unused p offer (Err (RemoteSdp why)) q h unused = parts_unused p q (ap counting_parts h.1) unused
-  offer_unused p offer (Err (SdpRefused error)) q h unused = parts_unused p q (ap counting_parts h.1) unused
+  offer_unused p offer (Err (RemoteSdp why)) q h unused = parts_unused p q (ap counting_parts h.1.1) unused
+  offer_unused p offer (Err (SdpRefused error)) q h unused = parts_unused p q (ap counting_parts h.1.1) unused
   offer_unused p offer (Err (Dtls Fault)) q h unused = record {
     empty = subst (λ (s : SctpStreams S). IsEmptyBefore m.association s) (sym (ap (λ (x : Peer I D S M N). x.sctp) h.rest)) unused.empty;
     role = λ s. begun_role p offer (Err Fault) q.dtls h.dtls_fails;
@@ -159,14 +158,15 @@ module _ {I D S M E X T W N : Type 0} (m : Meanings I D S M E X T W N) (laws : P
   offer_unused p offer (Err (Net cause)) q h unused = absurd h
   offer_unused p offer (Err (MediaFailed cause)) q h unused = absurd h
   offer_unused p offer (Err BadChannel) q h unused = absurd h
+  offer_unused p offer (Err Glare) q h unused = same_unused p q h.1 unused
   offer_unused p offer (Err PeerAlloc) q h unused =
-      let sctp = stopped_sctp m (record p { counter = raised p.counter }) _ _ _ _ _ _ q h.stops in
+      let sctp = stopped_sctp m (record p { counter = raised p.counter; outstanding = false }) _ _ _ _ _ _ q h.stops in
       record {
-        empty = stopped_unused (record p { counter = raised p.counter }) true offer (offer_halves m p offer) q.sctp sctp unused.empty;
+        empty = stopped_unused (record p { counter = raised p.counter; outstanding = false }) true offer (offer_halves m p offer) q.sctp sctp unused.empty;
         role = λ s.
-            stopped_role (record p { counter = raised p.counter }) offer q.dtls (m.association.started p.sctp.association ≡ true)
-            (stopped_dtls m (record p { counter = raised p.counter }) _ _ _ _ _ _ q h.stops) unused.role
-            (sym (stopped_started (record p { counter = raised p.counter }) true offer (offer_halves m p offer) q.sctp sctp) ∙ s);
+            stopped_role (record p { counter = raised p.counter; outstanding = false }) offer q.dtls (m.association.started p.sctp.association ≡ true)
+            (stopped_dtls m (record p { counter = raised p.counter; outstanding = false }) _ _ _ _ _ _ q h.stops) unused.role
+            (sym (stopped_started (record p { counter = raised p.counter; outstanding = false }) true offer (offer_halves m p offer) q.sctp sctp) ∙ s);
       }
 
   pub answer_unused : (p : Peer I D S M N) (token : PendingOffer) (answer : Sdp) (r : Result (Unit {0}) RtcError) (q : Peer I D S M N)
@@ -191,11 +191,12 @@ module _ {I D S M E X T W N : Type 0} (m : Meanings I D S M E X T W N) (laws : P
   answer_unused p token answer (Err (Net cause)) q h unused = absurd h
   answer_unused p token answer (Err (MediaFailed cause)) q h unused = absurd h
   answer_unused p token answer (Err BadChannel) q h unused = absurd h
+  answer_unused p token answer (Err Glare) q h unused = absurd h
   answer_unused p token answer (Err PeerAlloc) q h unused =
-      let sctp = stopped_sctp m p _ _ _ _ _ _ q h.stops in
+      let sctp = stopped_sctp m (record p { outstanding = false }) _ _ _ _ _ _ q h.stops in
       record {
         empty = stopped_unused p false answer (answer_halves m p token answer) q.sctp sctp unused.empty;
         role = λ s.
-            stopped_role p answer q.dtls (m.association.started p.sctp.association ≡ true) (stopped_dtls m p _ _ _ _ _ _ q h.stops) unused.role
+            stopped_role p answer q.dtls (m.association.started p.sctp.association ≡ true) (stopped_dtls m (record p { outstanding = false }) _ _ _ _ _ _ q h.stops) unused.role
             (sym (stopped_started p false answer (answer_halves m p token answer) q.sctp sctp) ∙ s);
       }

@@ -8,7 +8,7 @@ use Rattle.rtc_run_history.specs.declared.shown.Shown.{Shown}
 use Rattle.rtc_run_history.specs.declared.shown.Shown.TheVariants.{Timeout, Packet, Event as EventShown}
 use Rattle.rtc_run_history.specs.declared.side.Side.{Side}
 use Rattle.rtc_run_history.specs.declared.step.Step.{Step}
-use Rattle.rtc_run_history.specs.declared.step.Step.TheVariants.{Time, Datagram, Poll, Drain}
+use Rattle.rtc_run_history.specs.declared.step.Step.TheVariants.{Time, Datagram, Poll, Drain, Raw}
 use Rattle.rtc_run_history.specs.Past.{Entry}
 use Rattle.rtc_run_history.specs.Sides.{same_side, side_of}
 
@@ -32,6 +32,7 @@ DrainedByOutcome outcome earlier = earlier
 abbrev pub DrainedByStep : {E : Type 0} → Step → Outcome E → (earlier : Type 0) → Type 0
 DrainedByStep (Time at now) outcome earlier = ⊥
 DrainedByStep (Datagram at packet now) outcome earlier = ⊥
+DrainedByStep (Raw at bytes now) outcome earlier = ⊥
 DrainedByStep (Poll at) outcome earlier = DrainedByOutcome outcome earlier
 DrainedByStep (Drain at) outcome earlier = DrainedByOutcome outcome earlier
 DrainedByStep step outcome earlier = earlier

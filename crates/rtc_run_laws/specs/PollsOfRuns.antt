@@ -1,5 +1,6 @@
 -- What polls of a side told in a run, taken up in order, each with the peer as that poll left it.
 use Rattle.std.specs.Prelude.{ℕ, Bool, List, [], ◌∷◌, Option, Some}
+use Rattle.rtc_wire.specs.declared.addr.Addr.{Addr}
 use Rattle.rtc_peer_core.specs.Meanings.{Meanings}
 use Rattle.rtc_peer_transport.specs.declared.polled_peer.PolledPeer.{PolledPeer}
 use Rattle.rtc_run_history.specs.declared.kept.Kept.{Kept}
@@ -51,10 +52,11 @@ module _ {I D S M E X T W N : Type 0} (m : Meanings I D S M E X T W N) {A : Type
   by_drain_step at old packets outcome table new packets' h got = got
 
   -- by a step of the side: what does not poll tells nothing
-  abbrev pub by_step : (stun : List ℕ → Bool) (step : Step) (old : PolledPeer I D S M N) (sdps : List Kept) (packets : List SentPacket)
-      (outcome : Outcome E) (table : Option Table) (new : PolledPeer I D S M N) (sdps' : List Kept) (packets' : List SentPacket)
-      → Acts m stun step old sdps packets outcome table new sdps' packets' → A → A
-  by_step stun (Poll at) old sdps packets outcome table new sdps' packets' h got = by_poll_step outcome new got
-  by_step stun (Drain at) old sdps packets outcome table new sdps' packets' h got =
+  abbrev pub by_step : (stun : List ℕ → Bool) (other own : Addr) (step : Step) (old : PolledPeer I D S M N) (sdps : List Kept)
+      (packets : List SentPacket) (outcome : Outcome E) (table : Option Table) (new : PolledPeer I D S M N) (sdps' : List Kept)
+      (packets' : List SentPacket)
+      → Acts m stun other own step old sdps packets outcome table new sdps' packets' → A → A
+  by_step stun other own (Poll at) old sdps packets outcome table new sdps' packets' h got = by_poll_step outcome new got
+  by_step stun other own (Drain at) old sdps packets outcome table new sdps' packets' h got =
       by_drain_step at old packets outcome table new packets' h.0 got
-  by_step stun step old sdps packets outcome table new sdps' packets' h got = got
+  by_step stun other own step old sdps packets outcome table new sdps' packets' h got = got

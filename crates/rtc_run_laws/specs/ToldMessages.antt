@@ -10,10 +10,10 @@ use Rattle.rtc_peer_transport.specs.declared.polled_peer.PolledPeer.{PolledPeer}
 use Rattle.rtc_run_history.specs.declared.shown.Shown.{Shown}
 use Rattle.rtc_run_history.specs.declared.shown.Shown.TheVariants as shows
 use Rattle.rtc_run_history.specs.declared.side.Side.{Side}
-use Rattle.rtc_run_history.specs.PairState.{PairState, rtc_at}
+use Rattle.rtc_run_history.specs.PairState.{PairState, addr_at, rtc_at}
 use Rattle.rtc_run_history.specs.Past.{Entry}
 use Rattle.rtc_run_history.specs.Runs.{Reached}
-use Rattle.rtc_run_history.specs.Sides.{same_side, side_of}
+use Rattle.rtc_run_history.specs.Sides.{same_side, side_of, other_side}
 use Rattle.rtc_run_laws.specs.PollsOfRuns.{by_step}
 
 -- messages, each with whether it is binary, by the channel, its stream and the generation of this
@@ -44,6 +44,7 @@ module _ {I D S M E X T W N : Type 0} (m : Meanings I D S M E X T W N) where
   told_over stun start at [] pair ran = λ c s g. []
   told_over stun start at (entry ∷ past) pair ran =
       if same_side (side_of entry.step) at
-      then by_step m told_shown stun entry.step (rtc_at (side_of entry.step) ran.0) ran.0.sdps ran.0.packets entry.outcome entry.table
+      then by_step m told_shown stun (addr_at (other_side (side_of entry.step)) ran.0) (addr_at (side_of entry.step) ran.0) entry.step
+      (rtc_at (side_of entry.step) ran.0) ran.0.sdps ran.0.packets entry.outcome entry.table
       (rtc_at (side_of entry.step) pair) pair.sdps pair.packets ran.2.performs.acts (told_over stun start at past ran.0 ran.1)
       else told_over stun start at past ran.0 ran.1

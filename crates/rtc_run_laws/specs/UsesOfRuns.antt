@@ -1,5 +1,6 @@
 -- The channels that a side announced in a run, and what it sent and got over each.
 use Rattle.std.specs.Prelude.{ℕ, ◌≡◌, Bool, true, if◌then◌else◌, List, [], ◌∷◌, Option}
+use Rattle.rtc_wire.specs.declared.addr.Addr.{Addr}
 use Rattle.rtc_peer_core.specs.Meanings.{Meanings}
 use Rattle.rtc_peer_transport.specs.declared.polled_peer.PolledPeer.{PolledPeer}
 use Rattle.rtc_run_history.specs.declared.kept.Kept.{Kept}
@@ -11,11 +12,11 @@ use Rattle.rtc_run_history.specs.declared.side.Side.{Side}
 use Rattle.rtc_run_history.specs.declared.step.Step.{Step}
 use Rattle.rtc_run_history.specs.declared.step.Step.TheVariants.{Write}
 use Rattle.rtc_run_history.specs.declared.table.Table.{Table}
-use Rattle.rtc_run_history.specs.PairState.{PairState, rtc_at}
+use Rattle.rtc_run_history.specs.PairState.{PairState, addr_at, rtc_at}
 use Rattle.rtc_run_history.specs.Past.{Entry}
 use Rattle.rtc_run_history.specs.Performs.{Acts}
 use Rattle.rtc_run_history.specs.Runs.{EntersSoundly, Reached, Runs, Went}
-use Rattle.rtc_run_history.specs.Sides.{same_side, side_of}
+use Rattle.rtc_run_history.specs.Sides.{same_side, side_of, other_side}
 use Rattle.rtc_run_laws.specs.ChannelUses.{ChannelUse, uses_shown, with_sent_message}
 use Rattle.rtc_run_laws.specs.PollsOfRuns.{by_step}
 
@@ -26,13 +27,14 @@ uses_written channel binary bytes outcome uses = uses
 
 module _ {I D S M E X T W N : Type 0} (m : Meanings I D S M E X T W N) where
   -- behind a step of the side: what was announced, sent and got
-  abbrev pub uses_acted : (stun : List ℕ → Bool) (step : Step) (old : PolledPeer I D S M N) (sdps : List Kept) (packets : List SentPacket)
-      (outcome : Outcome E) (table : Option Table) (new : PolledPeer I D S M N) (sdps' : List Kept) (packets' : List SentPacket)
-      → Acts m stun step old sdps packets outcome table new sdps' packets' → List ChannelUse → List ChannelUse
-  uses_acted stun (Write at channel binary bytes) old sdps packets outcome table new sdps' packets' h uses =
+  abbrev pub uses_acted : (stun : List ℕ → Bool) (other own : Addr) (step : Step) (old : PolledPeer I D S M N) (sdps : List Kept)
+      (packets : List SentPacket) (outcome : Outcome E) (table : Option Table) (new : PolledPeer I D S M N) (sdps' : List Kept)
+      (packets' : List SentPacket)
+      → Acts m stun other own step old sdps packets outcome table new sdps' packets' → List ChannelUse → List ChannelUse
+  uses_acted stun other own (Write at channel binary bytes) old sdps packets outcome table new sdps' packets' h uses =
       uses_written channel binary bytes outcome uses
-  uses_acted stun step old sdps packets outcome table new sdps' packets' h uses =
-      by_step m (uses_shown m) stun step old sdps packets outcome table new sdps' packets' h uses
+  uses_acted stun other own step old sdps packets outcome table new sdps' packets' h uses =
+      by_step m (uses_shown m) stun other own step old sdps packets outcome table new sdps' packets' h uses
 
   -- The channels that a side announced in a run, in order, by the peers that the run goes through.
   abbrev pub uses_of : (stun : List ℕ → Bool) (start : PairState I D S M N) (at : Side) (past : List (Entry E)) (pair : PairState I D S M N)
@@ -40,7 +42,8 @@ module _ {I D S M E X T W N : Type 0} (m : Meanings I D S M E X T W N) where
   uses_of stun start at [] pair ran = []
   uses_of stun start at (entry ∷ past) pair ran =
       if same_side (side_of entry.step) at
-      then uses_acted stun entry.step (rtc_at (side_of entry.step) ran.0) ran.0.sdps ran.0.packets entry.outcome entry.table
+      then uses_acted stun (addr_at (other_side (side_of entry.step)) ran.0) (addr_at (side_of entry.step) ran.0) entry.step
+      (rtc_at (side_of entry.step) ran.0) ran.0.sdps ran.0.packets entry.outcome entry.table
       (rtc_at (side_of entry.step) pair) pair.sdps pair.packets ran.2.performs.acts (uses_of stun start at past ran.0 ran.1)
       else uses_of stun start at past ran.0 ran.1
 

@@ -1,11 +1,12 @@
 //! The messages that channels hand out in a run of two peers over plain parts.
-ghost use Rattle.std.specs.Prelude.{ℕ, Bool, List};
+ghost use Rattle.std.specs.Prelude.{◌≡◌, ℕ, Bool, true, List};
 ghost use Rattle.rtc_plain_media.specs.declared.plain_media_event.PlainMediaEvent.{PlainMediaEvent};
 ghost use Rattle.rtc_run_history.specs.declared.reply.Reply.{Reply};
 ghost use Rattle.rtc_run_history.specs.declared.side.Side.{Side};
 ghost use Rattle.rtc_run_history.specs.declared.step.Step.{Step};
 ghost use Rattle.rtc_run_history.specs.PairState.{rtc_at};
-ghost use Rattle.rtc_run_history.specs.Past.{Entry};
+ghost use Rattle.rtc_run_history.specs.Past.{Entry, steps_of};
+ghost use Rattle.rtc_run_history.specs.Native.{go_forward};
 ghost use Rattle.rtc_run_history.specs.Runs.{Reached, Runs};
 ghost use Rattle.rtc_run_history.specs.Sides.{other_side};
 ghost use Rattle.rtc_run_laws.specs.NewPairs.{IsNewPair};
@@ -26,32 +27,34 @@ use rtc_part_values::Ids;
 /// that generation, and a prefix of what the other sent over its own since. It is all of that where both channels stay open, the
 /// writer has no unacknowledged item of the stream, and no whole message of the generation stands unread at the reader. None does
 /// where the reader was drained: since its last input, and since a channel was last told to be open, a poll of it answered a timeout.
+///
+/// No step brings in a text or bytes of anybody, and none rolls an offer back.
 pub fn channels_hand_out_prefixes<N: Ids>()
     ensures reached { (stun : List ℕ → Bool) (start pair : PlainPair N) (past : List (Entry PlainMediaEvent)) → IsNewPair N.ids start
-        → (ran : Reached (plain_over N.ids) stun start past pair) → (at : Side)
+        → go_forward (steps_of past) ≡ true → (ran : Reached (plain_over N.ids) stun start past pair) → (at : Side)
         → AreHandedOut (uses_of (plain_over N.ids) stun start at past pair ran)
         (uses_of (plain_over N.ids) stun start (other_side at) past pair ran) }
     ensures once { (stun : List ℕ → Bool) (start pair : PlainPair N) (past : List (Entry PlainMediaEvent)) → IsNewPair N.ids start
-        → (ran : Reached (plain_over N.ids) stun start past pair) → (at : Side)
+        → go_forward (steps_of past) ≡ true → (ran : Reached (plain_over N.ids) stun start past pair) → (at : Side)
         → AreAnnouncedOnce (uses_of (plain_over N.ids) stun start at past pair ran) }
     ensures whole { (stun : List ℕ → Bool) (start pair : PlainPair N) (past : List (Entry PlainMediaEvent)) → IsNewPair N.ids start
-        → (ran : Reached (plain_over N.ids) stun start past pair) → (at : Side)
+        → go_forward (steps_of past) ≡ true → (ran : Reached (plain_over N.ids) stun start past pair) → (at : Side)
         → AreSentWhole (uses_of (plain_over N.ids) stun start at past pair ran)
         (sent_over (plain_over N.ids) stun start at past pair ran) }
     ensures told { (stun : List ℕ → Bool) (start pair : PlainPair N) (past : List (Entry PlainMediaEvent)) → IsNewPair N.ids start
-        → (ran : Reached (plain_over N.ids) stun start past pair) → (at : Side)
+        → go_forward (steps_of past) ≡ true → (ran : Reached (plain_over N.ids) stun start past pair) → (at : Side)
         → AreToldWhole (uses_of (plain_over N.ids) stun start at past pair ran)
         (uses_of (plain_over N.ids) stun start (other_side at) past pair ran)
         (told_over (plain_over N.ids) stun start at past pair ran) }
     ensures all { (stun : List ℕ → Bool) (start pair : PlainPair N) (past : List (Entry PlainMediaEvent)) → IsNewPair N.ids start
-        → (ran : Reached (plain_over N.ids) stun start past pair) → (at : Side)
+        → go_forward (steps_of past) ≡ true → (ran : Reached (plain_over N.ids) stun start past pair) → (at : Side)
         → AreWhollyHandedOut N.ids (uses_of (plain_over N.ids) stun start at past pair ran) (rtc_at at pair)
         (uses_of (plain_over N.ids) stun start (other_side at) past pair ran) (rtc_at (other_side at) pair) }
     ensures drained { (stun : List ℕ → Bool) (start pair : PlainPair N) (past : List (Entry PlainMediaEvent)) → IsNewPair N.ids start
-        → (ran : Reached (plain_over N.ids) stun start past pair) → (at : Side) → IsDrained at past
+        → go_forward (steps_of past) ≡ true → (ran : Reached (plain_over N.ids) stun start past pair) → (at : Side) → IsDrained at past
         → AreAllHandedOut N.ids (uses_of (plain_over N.ids) stun start at past pair ran) (rtc_at at pair)
         (uses_of (plain_over N.ids) stun start (other_side at) past pair ran) (rtc_at (other_side at) pair) }
     ensures ran { (stun : List ℕ → Bool) (start pair : PlainPair N) (steps : List Step) (replies : List (Reply PlainMediaEvent))
-        → IsNewPair N.ids start → (run : Runs (plain_over N.ids) stun start steps replies pair)
+        → IsNewPair N.ids start → go_forward steps ≡ true → (run : Runs (plain_over N.ids) stun start steps replies pair)
         → HandsOut N.ids stun start steps replies pair run }
 {}

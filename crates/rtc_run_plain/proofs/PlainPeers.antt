@@ -115,6 +115,7 @@ program_fresh alloc settings cert first addr config built p h =
       staged = ap (λ (q : PlainPeer). q.staged) h.rest ∙ ap (λ (q : PlainPeer). q.staged) h.builds.rest;
       channels = ap (λ (q : PlainPeer). q.channels) h.rest ∙ ap (λ (q : PlainPeer). q.channels) h.builds.rest;
       counter = ap (λ (q : PlainPeer). q.counter) h.rest ∙ ap (λ (q : PlainPeer). q.counter) h.builds.rest;
+      outstanding = ap (λ (q : PlainPeer). q.outstanding) h.rest ∙ ap (λ (q : PlainPeer). q.outstanding) h.builds.rest;
       remote = ap (λ (ice : IceContents). ice.settings.remote) h.added.1 ∙ added_remote (host_at addr) built.ice ∙ built_alone alloc config first built h.builds;
       fingerprint = ap (λ (q : PlainPeer). q.fingerprint) h.rest ∙ ap (λ (q : PlainPeer). q.fingerprint) h.builds.rest;
       uninited = ap (λ (s : SctpStreams Contents). is_started s.association) streams ∙ built_unstarted alloc config first built h.builds;

@@ -55,6 +55,7 @@ program_config settings cert = record default_config {
   ice = record default_ice { lite = settings.lite };
   dtls = record default_dtls { cert = Some cert };
   stats_interval = settings.stats_interval;
+  polite = settings.polite;
   sctp = record {
     max_buffered_amount = settings.max_buffered;
     max_message_size = settings.max_message_size;

@@ -15,4 +15,6 @@ pub struct PeerSettings {
     pub max_message_size: u32,
     /// The time between two rounds of statistics, where they are reported.
     pub stats_interval: Option<Span>,
+    /// Its role where two offers cross, if one is set: whether it is the polite one (RFC 3264, section 4).
+    pub polite: Option<bool>,
 }

@@ -44,7 +44,8 @@ fn make_config(alloc: Global, settings: PeerSettings, name: &str) -> Result<RtcC
             .set_snap_enabled(settings.snap)
             .set_sctp_max_buffered_amount(settings.max_buffered)
             .set_sctp_max_message_size(settings.max_message_size)
-            .set_stats_interval(settings.stats_interval),
+            .set_stats_interval(settings.stats_interval)
+            .set_polite(settings.polite),
     )
 }
 

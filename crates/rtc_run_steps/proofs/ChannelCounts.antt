@@ -13,7 +13,7 @@ use Rattle.rtc_peer_rows.proofs.RowChangeLemmas.{KeepsRow, changed_of_alike, len
 use Rattle.rtc_peer_core.specs.declared.peer.Peer.{Peer}
 use Rattle.rtc_peer_core.specs.declared.rtc_error.RtcError.{RtcError}
 use Rattle.rtc_peer_core.specs.declared.rtc_error.RtcError.TheVariants.{Net, Media as MediaFailed}
-use Rattle.rtc_peer_core.specs.declared.rtc_error.RtcError.TheVariants.{RemoteSdp, Sdp as SdpRefused, Dtls, Sctp, ChangesOutOfOrder, BadChannel, Alloc as PeerAlloc}
+use Rattle.rtc_peer_core.specs.declared.rtc_error.RtcError.TheVariants.{RemoteSdp, Sdp as SdpRefused, Dtls, Sctp, ChangesOutOfOrder, BadChannel, Alloc as PeerAlloc, Glare}
 use Rattle.rtc_part_dtls.specs.declared.dtls_error.DtlsError.TheVariants.{WouldBlock, Fault, Alloc as DtlsAlloc}
 use Rattle.rtc_peer_core.specs.Acceptances.{AcceptsOffer, AcceptsAnswer}
 use Rattle.rtc_peer_core.specs.Calls.{ChangesLine, after_channels_alone, fitting_channels}
@@ -129,8 +129,8 @@ module _ {I D S M E X T W N : Type 0} (m : Meanings I D S M E X T W N) where
   pub offer_channels : (p q : Peer I D S M N) (offer : Sdp) (result : Result Sdp RtcError) → AcceptsOffer m p offer result q
       → length q.channels.rows ≡ length p.channels.rows
   offer_channels p q offer (Ok answer) h = ap (λ p. length p.channels.rows) h.rest
-  offer_channels p q offer (Err (RemoteSdp why)) h = ap (λ p. length p.channels.rows) h.1
-  offer_channels p q offer (Err (SdpRefused error)) h = ap (λ p. length p.channels.rows) h.1
+  offer_channels p q offer (Err (RemoteSdp why)) h = ap (λ p. length p.channels.rows) h.1.1
+  offer_channels p q offer (Err (SdpRefused error)) h = ap (λ p. length p.channels.rows) h.1.1
   offer_channels p q offer (Err (Dtls Fault)) h = ap (λ p. length p.channels.rows) h.rest
   offer_channels p q offer (Err (Dtls WouldBlock)) h = absurd h
   offer_channels p q offer (Err (Dtls DtlsAlloc)) h = absurd h
@@ -139,6 +139,7 @@ module _ {I D S M E X T W N : Type 0} (m : Meanings I D S M E X T W N) where
   offer_channels p q offer (Err (Net cause)) h = absurd h
   offer_channels p q offer (Err (MediaFailed cause)) h = absurd h
   offer_channels p q offer (Err BadChannel) h = absurd h
+  offer_channels p q offer (Err Glare) h = ap (λ p. length p.channels.rows) h.1
   offer_channels p q offer (Err PeerAlloc) h = ap (λ p. length p.channels.rows) h.rest
 
   pub answer_channels : (p q : Peer I D S M N) (token : PendingOffer) (answer : Sdp) (result : Result (Unit {0}) RtcError)
@@ -154,4 +155,5 @@ module _ {I D S M E X T W N : Type 0} (m : Meanings I D S M E X T W N) where
   answer_channels p q token answer (Err (Net cause)) h = absurd h
   answer_channels p q token answer (Err (MediaFailed cause)) h = absurd h
   answer_channels p q token answer (Err BadChannel) h = absurd h
+  answer_channels p q token answer (Err Glare) h = absurd h
   answer_channels p q token answer (Err PeerAlloc) h = ap (λ p. length p.channels.rows) h.rest

@@ -5,6 +5,7 @@ pub mod Staged
 pub mod Negotiated
 pub mod Lent
 pub mod RowsLeft
+pub mod RolledBack
 pub mod AnsweredOffers
 pub mod Drained
 pub mod PollsKeep

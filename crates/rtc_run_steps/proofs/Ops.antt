@@ -12,7 +12,7 @@ use Rattle.rtc_peer_rows.specs.RowChanges.{media_mid}
 use Rattle.rtc_peer_core.specs.declared.peer.Peer.{Peer}
 use Rattle.rtc_peer_core.specs.declared.rtc_error.RtcError.{RtcError}
 use Rattle.rtc_peer_core.specs.declared.rtc_error.RtcError.TheVariants.{Net, Media as MediaFailed}
-use Rattle.rtc_peer_core.specs.declared.rtc_error.RtcError.TheVariants.{RemoteSdp, Sdp, Dtls, Sctp, ChangesOutOfOrder, BadChannel, Alloc as PeerAlloc}
+use Rattle.rtc_peer_core.specs.declared.rtc_error.RtcError.TheVariants.{RemoteSdp, Sdp, Dtls, Sctp, ChangesOutOfOrder, BadChannel, Alloc as PeerAlloc, Glare}
 use Rattle.rtc_part_values.proofs.LaterLemmas.{later_none}
 use Rattle.rtc_peer_core.specs.Calls.{AddsMedia, AddsChannel, SetsDirection, StopsMedia, StagesRestart}
 use Rattle.rtc_run_history.specs.declared.op.Op.{Op}
@@ -95,6 +95,7 @@ module _ {I D S M E X T W N : Type 0} (m : Meanings I D S M E X T W N) where
   no_channel p r config ChangesOutOfOrder h = absurd h
   no_channel p r config BadChannel h = (r, h, refl)
   no_channel p r config PeerAlloc h = h
+  no_channel p r config Glare h = absurd h
 
   pub channel_refused : (p r : Peer I D S M N) (config copy : ChannelConfig) (error : RtcError) (answer : OpAnswer) → copy ≡ config → AddsChannel m p copy (Err error) r → answer ≡ refused_channel error → PerformsOps m p (AddChannel config ∷ []) (answer ∷ []) r
   channel_refused p r config copy error answer same h is =

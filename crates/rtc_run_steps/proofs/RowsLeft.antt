@@ -9,7 +9,7 @@ use Rattle.rtc_change.specs.TableAfter.{table_after}
 use Rattle.rtc_peer_core.specs.declared.peer.Peer.{Peer}
 use Rattle.rtc_peer_core.specs.declared.rtc_error.RtcError.{RtcError}
 use Rattle.rtc_peer_core.specs.declared.rtc_error.RtcError.TheVariants.{Net, Media as MediaFailed}
-use Rattle.rtc_peer_core.specs.declared.rtc_error.RtcError.TheVariants.{RemoteSdp, Sdp as SdpRefused, Dtls, Sctp, ChangesOutOfOrder, BadChannel, Alloc as PeerAlloc}
+use Rattle.rtc_peer_core.specs.declared.rtc_error.RtcError.TheVariants.{RemoteSdp, Sdp as SdpRefused, Dtls, Sctp, ChangesOutOfOrder, BadChannel, Alloc as PeerAlloc, Glare}
 use Rattle.rtc_part_dtls.specs.declared.dtls_error.DtlsError.TheVariants.{WouldBlock, Fault, Alloc as DtlsAlloc}
 use Rattle.rtc_peer_core.specs.Acceptances.{AcceptsOffer, AcceptsAnswer}
 use Rattle.rtc_change.proofs.TableAfterLemmas.{length_table_after}
@@ -27,8 +27,8 @@ module _ {I D S M E X T W N : Type 0} (m : Meanings I D S M E X T W N) where
       let most : length (table_after p.lines (parsed_lines offer) true) ≤ length p.lines + length offer.lines = rows_of_taken p.lines offer true in
       let rows : length q.lines ≡ length (table_after p.lines (parsed_lines offer) true) = ap (λ p. length p.lines) h.rest in
       omega (arith, most, rows)
-  offer_rows p q offer (Err (RemoteSdp why)) h = same_rows p q offer (ap (λ p. p.lines) h.1)
-  offer_rows p q offer (Err (SdpRefused error)) h = same_rows p q offer (ap (λ p. p.lines) h.1)
+  offer_rows p q offer (Err (RemoteSdp why)) h = same_rows p q offer (ap (λ p. p.lines) h.1.1)
+  offer_rows p q offer (Err (SdpRefused error)) h = same_rows p q offer (ap (λ p. p.lines) h.1.1)
   offer_rows p q offer (Err (Dtls Fault)) h = same_rows p q offer (ap (λ p. p.lines) h.rest)
   offer_rows p q offer (Err (Dtls WouldBlock)) h = absurd h
   offer_rows p q offer (Err (Dtls DtlsAlloc)) h = absurd h
@@ -37,6 +37,7 @@ module _ {I D S M E X T W N : Type 0} (m : Meanings I D S M E X T W N) where
   offer_rows p q offer (Err (Net cause)) h = absurd h
   offer_rows p q offer (Err (MediaFailed cause)) h = absurd h
   offer_rows p q offer (Err BadChannel) h = absurd h
+  offer_rows p q offer (Err Glare) h = same_rows p q offer (ap (λ p. p.lines) h.1)
   offer_rows p q offer (Err PeerAlloc) h = same_rows p q offer (ap (λ p. p.lines) h.rest)
 
   pub answer_rows : (p q : Peer I D S M N) (token : PendingOffer) (answer : Sdp) (result : Result (Unit {0}) RtcError) → AcceptsAnswer m p token answer result q → length q.lines ≤ length p.lines + length answer.lines
@@ -53,5 +54,6 @@ module _ {I D S M E X T W N : Type 0} (m : Meanings I D S M E X T W N) where
   answer_rows p q token answer (Err (Net cause)) h = absurd h
   answer_rows p q token answer (Err (MediaFailed cause)) h = absurd h
   answer_rows p q token answer (Err BadChannel) h = absurd h
+  answer_rows p q token answer (Err Glare) h = absurd h
   answer_rows p q token answer (Err ChangesOutOfOrder) h = same_rows p q answer (ap (λ p. p.lines) h.1)
   answer_rows p q token answer (Err PeerAlloc) h = same_rows p q answer (ap (λ p. p.lines) h.rest)

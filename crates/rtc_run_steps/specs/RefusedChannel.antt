@@ -1,6 +1,6 @@
 -- The answer to an op that adds a channel where the peer makes none: it refuses the config, or memory ran out.
 use Rattle.rtc_peer_core.specs.declared.rtc_error.RtcError.{RtcError}
-use Rattle.rtc_peer_core.specs.declared.rtc_error.RtcError.TheVariants.{Net, Media as MediaFailed}
+use Rattle.rtc_peer_core.specs.declared.rtc_error.RtcError.TheVariants.{Net, Media as MediaFailed, Glare}
 use Rattle.rtc_peer_core.specs.declared.rtc_error.RtcError.TheVariants.{RemoteSdp, Sdp, Dtls, Sctp, ChangesOutOfOrder, BadChannel, Alloc}
 use Rattle.rtc_run_history.specs.declared.op_answer.OpAnswer.{OpAnswer}
 use Rattle.rtc_run_history.specs.declared.op_answer.OpAnswer.TheVariants.{BadChannel as NoChannel, Alloc as OpAlloc}
@@ -15,3 +15,4 @@ refused_channel (MediaFailed cause) = OpAlloc
 refused_channel ChangesOutOfOrder = OpAlloc
 refused_channel BadChannel = NoChannel
 refused_channel Alloc = OpAlloc
+refused_channel Glare = OpAlloc

@@ -89,7 +89,13 @@ fn accept_offer<I: IceAgent, D: DtlsInstance, S: Association, M: MediaSession, N
 }
 
 // Has a peer accept or refuse an offer that was delivered, where there is memory for the reply.
-fn accept_delivered_offer<I: IceAgent, D: DtlsInstance, S: Association, M: MediaSession, N: Ids>(
+pub(crate) fn accept_delivered_offer<
+    I: IceAgent,
+    D: DtlsInstance,
+    S: Association,
+    M: MediaSession,
+    N: Ids,
+>(
     alloc: Global,
     rtc: &mut Rtc<I, D, S, M, N>,
     sdps: &mut Vec<Kept>,
@@ -143,7 +149,7 @@ pub fn deliver_and_accept_offer<
 }
 
 // Whether a side holds the token of a number.
-fn has_token(sdps: &[Kept], at: Side, number: u32) -> bool
+pub(crate) fn has_token(sdps: &[Kept], at: Side, number: u32) -> bool
     ensures some { result ≡ is_some (held_token sdps.now at number) }
     ensures within { IsTrue result → number < length sdps.now }
     ensures side { IsTrue result → IfSome (slice_get sdps.now number) (λ kept. same_side kept.at at ≡ true) }
@@ -155,7 +161,7 @@ fn has_token(sdps: &[Kept], at: Side, number: u32) -> bool
 }
 
 // The token of a number, if this side holds it. It is spent then.
-fn take_token(sdps: &mut Vec<Kept>, at: Side, number: u32) -> Option<SdpPendingOffer>
+pub(crate) fn take_token(sdps: &mut Vec<Kept>, at: Side, number: u32) -> Option<SdpPendingOffer>
     ensures token { result ≡ held_token sdps.old.items at number }
     ensures spent { OnSome result (sdps.new.items ≡ spent number sdps.old.items) }
     ensures none { IfNone result (sdps.new.items ≡ sdps.old.items) }
@@ -182,7 +188,13 @@ fn accept_answer<I: IceAgent, D: DtlsInstance, S: Association, M: MediaSession, 
 }
 
 // Has a peer accept or refuse an answer that was delivered, with the token of a number, where there is memory for the reply.
-fn accept_delivered_answer<I: IceAgent, D: DtlsInstance, S: Association, M: MediaSession, N: Ids>(
+pub(crate) fn accept_delivered_answer<
+    I: IceAgent,
+    D: DtlsInstance,
+    S: Association,
+    M: MediaSession,
+    N: Ids,
+>(
     alloc: Global,
     rtc: &mut Rtc<I, D, S, M, N>,
     sdps: &mut Vec<Kept>,

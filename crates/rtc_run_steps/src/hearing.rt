@@ -4,7 +4,7 @@ ghost use Rattle.std.specs.Option.{option_copied};
 ghost use Rattle.rtc_wire.specs.DatagramRecv.{kind_by};
 ghost use Rattle.rtc_run_history.specs.PairState.{remote_packet};
 ghost use Rattle.rtc_run_history.specs.CallReplies.{StepCalls};
-ghost use Rattle.rtc_run_history.specs.Performs.{HandlesRead, StepTakesDatagram};
+ghost use Rattle.rtc_run_history.specs.Performs.{HandlesRead, StepTakesDatagram, raw_datagram};
 ghost use Rattle.rtc_run_steps.specs.OutcomeOf.{outcome_of};
 ghost use Rattle.rtc_peer_core.specs.Meanings.{meanings};
 ghost use Rattle.rtc_peer_transport.specs.Closing.{ClosesPeer};
@@ -14,7 +14,7 @@ ghost use Rattle.rtc_peer_transport.specs.declared.input.Input.TheVariants as gi
 use crate::{is_same_side, reply_no_memory, reply_no_such, reply_with, room_for};
 use rtc_peer::{Association, DtlsInstance, IceAgent, Ids, Input, MediaSession, Rtc, RtcError};
 use rtc_run_history::{Outcome, Reply, SentPacket, Side};
-use rtc_wire::{Moment, Receive, Transmit};
+use rtc_wire::{Addr, Moment, Protocol, Receive, Transmit};
 use std::alloc::Global;
 
 /// The outcome of a call that answers nothing but whether it is refused.
@@ -97,6 +97,47 @@ pub fn take_datagram<I: IceAgent, D: DtlsInstance, S: Association, M: MediaSessi
         return reply_no_memory();
     };
     let answer = give_datagram(rtc, transmit, now);
+    reply_with(outcome_of(answer), room, rtc)
+}
+
+// Gives a peer bytes as a UDP datagram, if they have the form of their kind.
+#[tactic(auto, using(crate::proofs::PollsKeep::lines_after_input))]
+fn give_raw<I: IceAgent, D: DtlsInstance, S: Association, M: MediaSession, N: Ids>(
+    rtc: &mut Rtc<I, D, S, M, N>,
+    other: Addr,
+    own: Addr,
+    bytes: &[u8],
+    now: Moment,
+) -> Result<(), RtcError>
+    ensures handles { HandlesRead (meanings I.ice D.dtls S.association M.media N.ids)
+        (kind_by I.stun bytes.now) (raw_datagram other own bytes.now) now rtc.old result rtc.new }
+    ensures lines { rtc.new.core.lines ≡ rtc.old.core.lines }
+    ensures channels { length rtc.new.core.channels.rows ≤ length rtc.old.core.channels.rows }
+{
+    match Receive::new::<I>(Protocol::Udp, other, own, bytes) {
+        Ok(datagram) => rtc.handle_input(&Input::Receive(now, datagram)),
+        Err(why) => Err(RtcError::Net(why)),
+    }
+}
+
+/// Gives a peer bytes of anybody, as a UDP datagram from the address of the other side to its own.
+pub fn take_raw<I: IceAgent, D: DtlsInstance, S: Association, M: MediaSession, N: Ids>(
+    alloc: Global,
+    rtc: &mut Rtc<I, D, S, M, N>,
+    other: Addr,
+    own: Addr,
+    bytes: &[u8],
+    now: Moment,
+) -> Reply<M::E>
+    ensures { StepCalls (meanings I.ice D.dtls S.association M.media N.ids)
+        (HandlesRead (meanings I.ice D.dtls S.association M.media N.ids)
+        (kind_by I.stun bytes.now) (raw_datagram other own bytes.now) now)
+        rtc.old result.outcome result.table rtc.new }
+{
+    let Ok(room) = room_for(alloc, rtc, 0, 0) else {
+        return reply_no_memory();
+    };
+    let answer = give_raw(rtc, other, own, bytes, now);
     reply_with(outcome_of(answer), room, rtc)
 }
 

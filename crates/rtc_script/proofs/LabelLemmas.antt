@@ -1,5 +1,5 @@
 -- The word of a label is that of one label.
-use Rattle.std.proofs.Common.{◌≡◌, ◌≢◌, ◌<◌, ◌∙◌, ℕ, zero, suc, Bool, true, false, ltb, List, [], ◌∷◌, ◌++◌, length, Option, Some, None, Result, Ok, Err, IfOk, IfSome, IfNone, inl, inr, ◌⊎◌, IsTrue, refl, ap, sym, subst, codes, arith}
+use Rattle.std.proofs.Common.{◌≡◌, ◌≢◌, ◌<◌, ◌≤◌, ◌∙◌, ℕ, zero, suc, Bool, true, false, ltb, List, [], ◌∷◌, ◌++◌, length, Option, Some, None, Result, Ok, Err, IfOk, IfSome, IfNone, inl, inr, ◌⊎◌, IsTrue, refl, ap, sym, subst, codes, arith}
 use Rattle.std.specs.Prelude.{◌↔◌}
 use Rattle.std.specs.List.{AllByRecursion}
 use Rattle.std.specs.Str.{IsUtf8}
@@ -92,6 +92,11 @@ no_bytes word [] none same = absurd (omega (arith, ap length (sym none ∙ same)
 no_bytes word (byte ∷ bytes) none same = absurd (omega (arith, length-encode_with lower_digits (byte ∷ bytes), ap length (sym none ∙ same)))
 
 -- ---- words
+
+-- the word of some bytes is no shorter than they are
+pub word_long : (bytes : List ℕ) → length bytes ≤ length (hex_word bytes)
+word_long [] = omega arith
+word_long (byte ∷ bytes) = omega (arith, length-encode_with lower_digits (byte ∷ bytes))
 
 -- a word of some digits is that of no bytes where its digits are
 no_word : (word : List ℕ) → word ≢ codes "-" → ((bytes : List ℕ) → IsBytes bytes → word ≢ encode_lower bytes) → (bytes : List ℕ) → IsBytes bytes → word ≢ hex_word bytes

@@ -1,4 +1,5 @@
 pub mod MessageWords
+pub mod OpWords
 pub mod LineLemmas
 pub mod ChannelOpLemmas
 pub mod SixParts

@@ -9,7 +9,7 @@ use Rattle.rtc_script.specs.Steps.{AreAllSettings, StepsFailAt, FailsAt}
 use Rattle.rtc_script.specs.Words.{side_text}
 use Rattle.rtc_script.specs.declared.script.Script.{Script}
 use Rattle.rtc_script.specs.declared.setting.Setting.{Setting}
-use Rattle.rtc_script.proofs.LineLemmas.{same_letter}
+use Rattle.rtc_script.proofs.OpWords.{same_letter}
 use Rattle.rtc_script.proofs.ZipLemmas.{texts, front_zip}
 use Rattle.rtc_run_history.specs.Sides.{side_of}
 use Rattle.rtc_run_history.specs.declared.side.Side.{Side}

@@ -2,6 +2,7 @@
 use Rattle.std.specs.Prelude.{◌≡◌, ◌≢◌, ◌<◌, ◌≤◌, ◌^◌, ℕ, Bool, true, false, List, [], ◌∷◌, codes}
 use Rattle.std.specs.Fmt.{decimal}
 use Rattle.std.specs.List.{AllZip}
+use Rattle.std.specs.Str.{IsUtf8}
 use Rattle.hex.specs.Hex.{IsBytes}
 use Rattle.rtc_wire_text.specs.Words.{parts, words}
 use Rattle.rtc_run_history.specs.Sides.{side_of}
@@ -10,12 +11,12 @@ use Rattle.rtc_run_history.specs.declared.op.Op.TheVariants.{AddMedia, SetDirect
 use Rattle.rtc_run_history.specs.declared.side.Side.{Side}
 use Rattle.rtc_run_history.specs.declared.step.Step.{Step}
 use Rattle.rtc_run_history.specs.declared.step.Step.TheVariants.{Negotiate, AcceptOffer, AcceptAnswer, Time, Datagram, Poll, Drain}
-use Rattle.rtc_run_history.specs.declared.step.Step.TheVariants.{Write, CloseChannel, Close}
+use Rattle.rtc_run_history.specs.declared.step.Step.TheVariants.{Write, CloseChannel, Close, Rollback, ForeignOffer, ForeignAnswer, Raw}
 use Rattle.rtc_script.specs.Numbers.{AreLongNumbers, AreNumbers}
 use Rattle.rtc_script.specs.ChannelParts.{AreChannelParts}
-use Rattle.rtc_script.specs.Words.{side_text, kind_text, direction_text, hex_word, keep_text, message_kind_text}
+use Rattle.rtc_script.specs.Words.{side_text, kind_text, direction_text, hex_word, keep_text, message_kind_text, role_text}
 use Rattle.rtc_script.specs.declared.setting.Setting.{Setting}
-use Rattle.rtc_script.specs.declared.setting.Setting.TheVariants.{Lite, Snap, Buffer, MaxMessage, Stats}
+use Rattle.rtc_script.specs.declared.setting.Setting.TheVariants.{Lite, Snap, Buffer, MaxMessage, Stats, Polite}
 
 -- the parts of an op's word
 abbrev pub AreOpParts : List (List ℕ) → Op → Type 0
@@ -38,6 +39,18 @@ abbrev pub AreMessageWords : List (List ℕ) → (channel : ℕ) → (binary : B
 AreMessageWords found channel binary bytes =
     (found ≡ decimal channel ∷ message_kind_text binary ∷ hex_word bytes ∷ []) × (channel < 2 ^ 64) × IsBytes bytes
 
+-- a text that anybody wrote, which is UTF-8
+abbrev pub AreTextWords : List (List ℕ) → (text : List ℕ) → Type 0
+AreTextWords found text = (found ≡ hex_word text ∷ []) × IsUtf8 text
+
+-- the number of a token, and such a text
+abbrev pub AreTokenWords : List (List ℕ) → (token : ℕ) → (text : List ℕ) → Type 0
+AreTokenWords found token text = (found ≡ decimal token ∷ hex_word text ∷ []) × (token < 2 ^ 32) × IsUtf8 text
+
+-- a moment, and the bytes of a datagram
+abbrev pub AreRawWords : List (List ℕ) → (now : ℕ) → (bytes : List ℕ) → Type 0
+AreRawWords found now bytes = (found ≡ decimal now ∷ hex_word bytes ∷ []) × (now < 2 ^ 64) × IsBytes bytes
+
 -- the verb of ops that are applied, and of those that are not
 abbrev pub ops_verb : Bool → List ℕ
 ops_verb true = codes "offer"
@@ -55,11 +68,23 @@ IsAct verb rest (Drain at) = (verb ≡ codes "drain") × (rest ≡ [])
 IsAct verb rest (Write at channel binary bytes) = (verb ≡ codes "write") × AreMessageWords rest channel binary bytes
 IsAct verb rest (CloseChannel at channel) = (verb ≡ codes "closechannel") × AreLongNumbers rest (channel ∷ [])
 IsAct verb rest (Close at) = (verb ≡ codes "close") × (rest ≡ [])
+IsAct verb rest (Rollback at token) = (verb ≡ codes "rollback") × AreNumbers rest (token ∷ [])
+IsAct verb rest (ForeignOffer at text) = (verb ≡ codes "foreignoffer") × AreTextWords rest text
+IsAct verb rest (ForeignAnswer at token text) = (verb ≡ codes "foreignanswer") × AreTokenWords rest token text
+IsAct verb rest (Raw at bytes now) = (verb ≡ codes "raw") × AreRawWords rest now bytes
 
 -- a verb of no negotiation
 abbrev pub IsNoVerbOfNegotiation : List ℕ → Type 0
 IsNoVerbOfNegotiation verb =
-    (verb ≢ codes "offer") × (verb ≢ codes "stage") × (verb ≢ codes "accept") × (verb ≢ codes "answer")
+    (verb ≢ codes "offer")
+    × (verb ≢ codes "stage")
+    × (verb ≢ codes "accept")
+    × (verb ≢ codes "answer")
+    × (verb ≢ codes "rollback")
+
+-- a verb of no foreign text and no bytes of anybody
+abbrev pub IsNoVerbOfForeign : List ℕ → Type 0
+IsNoVerbOfForeign verb = (verb ≢ codes "foreignoffer") × (verb ≢ codes "foreignanswer") × (verb ≢ codes "raw")
 
 -- a step that takes no words
 abbrev pub IsSingle : Step → Type 0
@@ -73,6 +98,10 @@ IsSingle (Drain at) = Unit {0}
 IsSingle (Write at channel binary bytes) = ⊥
 IsSingle (CloseChannel at channel) = ⊥
 IsSingle (Close at) = Unit {0}
+IsSingle (Rollback at token) = ⊥
+IsSingle (ForeignOffer at text) = ⊥
+IsSingle (ForeignAnswer at token text) = ⊥
+IsSingle (Raw at bytes now) = ⊥
 
 -- the letter of the side that acts, and then its act
 abbrev pub AreStepWords : List (List ℕ) → Step → Type 0
@@ -92,6 +121,7 @@ IsAllowed Snap = Unit {0}
 IsAllowed (Buffer size) = size ≤ 1000000000
 IsAllowed (MaxMessage size) = size < 2 ^ 32
 IsAllowed (Stats millis) = (1 ≤ millis) × (millis ≤ 1000000000)
+IsAllowed (Polite polite) = Unit {0}
 
 -- the words of a setting
 abbrev pub setting_words : Setting → List (List ℕ)
@@ -100,6 +130,7 @@ setting_words Snap = codes "snap" ∷ []
 setting_words (Buffer size) = codes "buffer" ∷ decimal size ∷ []
 setting_words (MaxMessage size) = codes "maxmsg" ∷ decimal size ∷ []
 setting_words (Stats millis) = codes "stats" ∷ decimal millis ∷ []
+setting_words (Polite polite) = role_text polite ∷ []
 
 -- the words of a setting that is allowed
 abbrev pub AreValueWords : List (List ℕ) → Setting → Type 0

@@ -4,7 +4,7 @@ use Rattle.std.specs.List.{list_any}
 use Rattle.rtc_run_history.specs.declared.side.Side.{Side}
 use Rattle.rtc_run_history.specs.Sides.{same_side}
 use Rattle.rtc_script.specs.declared.setting.Setting.{Setting}
-use Rattle.rtc_script.specs.declared.setting.Setting.TheVariants.{Lite, Snap, Buffer, MaxMessage, Stats}
+use Rattle.rtc_script.specs.declared.setting.Setting.TheVariants.{Lite, Snap, Buffer, MaxMessage, Stats, Polite}
 use Rattle.rtc_script.specs.declared.side_settings.SideSettings.{SideSettings}
 
 abbrev pub is_lite_setting : Setting → Bool
@@ -13,6 +13,7 @@ is_lite_setting Snap = false
 is_lite_setting (Buffer size) = false
 is_lite_setting (MaxMessage size) = false
 is_lite_setting (Stats millis) = false
+is_lite_setting (Polite polite) = false
 
 abbrev pub makes_lite : Side → Side × Setting → Bool
 makes_lite at setting = same_side setting.0 at && is_lite_setting setting.1
@@ -27,6 +28,7 @@ is_snap_setting Snap = true
 is_snap_setting (Buffer size) = false
 is_snap_setting (MaxMessage size) = false
 is_snap_setting (Stats millis) = false
+is_snap_setting (Polite polite) = false
 
 abbrev pub allows_snap : Side → Side × Setting → Bool
 allows_snap at setting = same_side setting.0 at && is_snap_setting setting.1
@@ -50,6 +52,7 @@ buffer_by Snap size = size
 buffer_by (Buffer set) size = set
 buffer_by (MaxMessage set) size = size
 buffer_by (Stats millis) size = size
+buffer_by (Polite polite) size = size
 
 -- how many bytes a side may buffer by the settings, 131072 where none says so
 abbrev pub buffer_set : Side → List (Side × Setting) → ℕ
@@ -62,6 +65,7 @@ max_message_by Snap size = size
 max_message_by (Buffer set) size = size
 max_message_by (MaxMessage set) size = set
 max_message_by (Stats millis) size = size
+max_message_by (Polite polite) size = size
 
 -- the longest message that a side takes by the settings, 262144 bytes where none says so
 abbrev pub max_message_set : Side → List (Side × Setting) → ℕ
@@ -74,6 +78,7 @@ interval_by Snap interval = interval
 interval_by (Buffer size) interval = interval
 interval_by (MaxMessage size) interval = interval
 interval_by (Stats millis) interval = Some (millis * 1000000)
+interval_by (Polite polite) interval = interval
 
 abbrev pub interval_after : Side → Side × Setting → Option ℕ → Option ℕ
 interval_after at setting interval = if same_side setting.0 at then interval_by setting.1 interval else interval
@@ -86,6 +91,26 @@ interval_from at (setting ∷ settings) interval = interval_from at settings (in
 abbrev pub interval_set : Side → List (Side × Setting) → Option ℕ
 interval_set at settings = interval_from at settings None
 
+-- the role where two offers cross by a setting, or else as before
+abbrev pub role_by : Setting → Option Bool → Option Bool
+role_by Lite role = role
+role_by Snap role = role
+role_by (Buffer size) role = role
+role_by (MaxMessage size) role = role
+role_by (Stats millis) role = role
+role_by (Polite polite) role = Some polite
+
+abbrev pub role_after : Side → Side × Setting → Option Bool → Option Bool
+role_after at setting role = if same_side setting.0 at then role_by setting.1 role else role
+
+abbrev pub role_from : Side → List (Side × Setting) → Option Bool → Option Bool
+role_from at [] role = role
+role_from at (setting ∷ settings) role = role_from at settings (role_after at setting role)
+
+-- the role of a side where two offers cross by the settings; it has none where none says so
+abbrev pub role_set : Side → List (Side × Setting) → Option Bool
+role_set at settings = role_from at settings None
+
 -- what a side is set to by the settings
 abbrev pub side_settings : Side → List (Side × Setting) → SideSettings
 side_settings at settings = record {
@@ -94,4 +119,5 @@ side_settings at settings = record {
   max_buffered = buffer_set at settings;
   max_message_size = max_message_set at settings;
   stats_interval = interval_set at settings;
+  polite = role_set at settings;
 }

@@ -39,3 +39,8 @@ message_kind_text false = codes "text"
 abbrev pub keep_text : Bool → List ℕ
 keep_text true = codes "keep"
 keep_text false = codes "new"
+
+-- the role of a side where two offers cross
+abbrev pub role_text : Bool → List ℕ
+role_text true = codes "polite"
+role_text false = codes "impolite"

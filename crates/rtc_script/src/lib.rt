@@ -5,6 +5,7 @@ mod acts;
 mod channel_parts;
 mod cutting;
 mod directions;
+mod foreign;
 mod kinds;
 mod labels;
 mod lines;

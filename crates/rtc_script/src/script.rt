@@ -25,6 +25,7 @@ impl Script {
             max_buffered: DEFAULT_MAX_BUFFERED_AMOUNT,
             max_message_size: LOCAL_MAX_MESSAGE_SIZE,
             stats_interval: None,
+            polite: None,
         };
         for setting in settings {
             side.take_at(at, setting);

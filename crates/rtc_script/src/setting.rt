@@ -13,4 +13,6 @@ pub enum Setting {
     MaxMessage { size: u32 },
     /// The time between two rounds of statistics in milliseconds, 1 to 1000000000.
     Stats { millis: u32 },
+    /// Whether it is the polite one where two offers cross, or else the impolite one (RFC 3264, section 4).
+    Polite(bool),
 }

@@ -21,6 +21,10 @@ fn read_one_word(word: &[u8]) -> Option<Setting>
         Some(Setting::Lite)
     } else if is_word(word, "snap") {
         Some(Setting::Snap)
+    } else if is_word(word, "polite") {
+        Some(Setting::Polite(true))
+    } else if is_word(word, "impolite") {
+        Some(Setting::Polite(false))
     } else {
         None
     }

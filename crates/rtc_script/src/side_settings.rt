@@ -1,7 +1,7 @@
 //! What settings set a side to.
 ghost use Rattle.std.specs.Prelude.{◌≡◌, ◌||◌};
 ghost use Rattle.rtc_script.specs.Settings.{is_lite_setting, makes_lite, is_snap_setting, allows_snap, buffer_by, max_message_by};
-ghost use Rattle.rtc_script.specs.Settings.{interval_by, interval_after, number_after};
+ghost use Rattle.rtc_script.specs.Settings.{interval_by, interval_after, number_after, role_by, role_after};
 
 use crate::Setting;
 use rtc_run_history::Side;
@@ -20,6 +20,8 @@ pub struct SideSettings {
     pub max_message_size: u32,
     /// The time between two rounds of statistics, where they are reported.
     pub stats_interval: Option<Span>,
+    /// Its role where two offers cross, if one is set: whether it is the polite one (RFC 3264, section 4).
+    pub polite: Option<bool>,
 }
 
 impl SideSettings {
@@ -30,6 +32,7 @@ impl SideSettings {
           max_buffered = buffer_by setting self.old.max_buffered;
           max_message_size = max_message_by setting self.old.max_message_size;
           stats_interval = interval_by setting self.old.stats_interval;
+          polite = role_by setting self.old.polite;
         } }
     {
         match setting {
@@ -40,6 +43,7 @@ impl SideSettings {
             Setting::Stats { millis } => {
                 self.stats_interval = Some(Span::from_nanos(millis as u64 * 1_000_000));
             }
+            Setting::Polite(polite) => self.polite = Some(polite),
         }
     }
 
@@ -51,6 +55,7 @@ impl SideSettings {
           max_buffered = number_after buffer_by at setting.now self.old.max_buffered;
           max_message_size = number_after max_message_by at setting.now self.old.max_message_size;
           stats_interval = interval_after at setting.now self.old.stats_interval;
+          polite = role_after at setting.now self.old.polite;
         } }
     {
         match (setting.0, at) {

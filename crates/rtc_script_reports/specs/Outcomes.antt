@@ -4,7 +4,7 @@ use Rattle.std.specs.Fmt.{decimal}
 use Rattle.rtc_peer_core.specs.RtcErrorText.{rtc_error_text}
 use Rattle.rtc_peer_core.specs.declared.rtc_error.RtcError.{RtcError}
 use Rattle.rtc_peer_core.specs.declared.rtc_error.RtcError.TheVariants.{RemoteSdp, Sdp, Net, Dtls, Sctp, Media}
-use Rattle.rtc_peer_core.specs.declared.rtc_error.RtcError.TheVariants.{ChangesOutOfOrder, BadChannel, Alloc as PeerAlloc}
+use Rattle.rtc_peer_core.specs.declared.rtc_error.RtcError.TheVariants.{ChangesOutOfOrder, BadChannel, Alloc as PeerAlloc, Glare}
 use Rattle.rtc_run_history.specs.declared.made.Made.{Made}
 use Rattle.rtc_run_history.specs.declared.made.Made.TheVariants.{NotAsked, Nothing, Offer, Alloc as MadeAlloc}
 use Rattle.rtc_run_history.specs.declared.op_answer.OpAnswer.{OpAnswer}
@@ -60,6 +60,7 @@ refusal_text (Media error) = codes "refused 6 " ++ rtc_error_text (Media error)
 refusal_text ChangesOutOfOrder = codes "refused 7 " ++ rtc_error_text ChangesOutOfOrder
 refusal_text BadChannel = codes "refused 8 " ++ rtc_error_text BadChannel
 refusal_text PeerAlloc = no_memory
+refusal_text Glare = codes "refused 10 " ++ rtc_error_text Glare
 
 -- the words of an outcome
 abbrev pub outcome_text : {E : Type 0} → Outcome E → List ℕ

@@ -7,7 +7,7 @@ use Rattle.rtc_plain_media.specs.declared.plain_media_event.PlainMediaEvent.{Pla
 use Rattle.rtc_peer_core.specs.RtcErrorText.{rtc_error_text}
 use Rattle.rtc_peer_core.specs.declared.rtc_error.RtcError.{RtcError}
 use Rattle.rtc_peer_core.specs.declared.rtc_error.RtcError.TheVariants.{RemoteSdp, Sdp, Net, Dtls, Sctp, Media}
-use Rattle.rtc_peer_core.specs.declared.rtc_error.RtcError.TheVariants.{ChangesOutOfOrder, BadChannel, Alloc as PeerAlloc}
+use Rattle.rtc_peer_core.specs.declared.rtc_error.RtcError.TheVariants.{ChangesOutOfOrder, BadChannel, Alloc as PeerAlloc, Glare}
 use Rattle.rtc_run_history.specs.declared.outcome.Outcome.{Outcome}
 use Rattle.rtc_run_history.specs.declared.outcome.Outcome.TheVariants.{Negotiated, Answered, Finished, Done, Wrote, Polled}
 use Rattle.rtc_run_history.specs.declared.outcome.Outcome.TheVariants.{Refused, NoSuch, Alloc}
@@ -59,6 +59,7 @@ error_line (Media error) = codes "error 6 " ++ rtc_error_text (Media error) ++ c
 error_line ChangesOutOfOrder = codes "error 7 " ++ rtc_error_text ChangesOutOfOrder ++ codes "\n"
 error_line BadChannel = codes "error 8 " ++ rtc_error_text BadChannel ++ codes "\n"
 error_line PeerAlloc = no_memory ++ codes "\n"
+error_line Glare = codes "error 10 " ++ rtc_error_text Glare ++ codes "\n"
 
 -- the line of what ended polls; none where that was the last output
 abbrev pub end_line : PollEnd → List ℕ

@@ -105,6 +105,7 @@ fn push_error(out: &mut String, error: &RtcError) -> Result<(), AllocError>
         RtcError::ChangesOutOfOrder => push_error_line(out, "error 7 ", error),
         RtcError::BadChannel => push_error_line(out, "error 8 ", error),
         RtcError::Alloc => out.push_str("nomemory\n"),
+        RtcError::Glare => push_error_line(out, "error 10 ", error),
     }
 }
 

@@ -28,5 +28,6 @@ pub fn push_refusal(out: &mut String, error: &RtcError) -> Result<(), AllocError
         RtcError::ChangesOutOfOrder => push_error_text(out, "refused 7 ", error),
         RtcError::BadChannel => push_error_text(out, "refused 8 ", error),
         RtcError::Alloc => out.push_str("nomemory"),
+        RtcError::Glare => push_error_text(out, "refused 10 ", error),
     }
 }

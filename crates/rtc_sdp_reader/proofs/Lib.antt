@@ -11,3 +11,5 @@ pub mod PutLaws
 pub mod Resume
 mod StandardFacts
 mod FirstLine
+pub mod GivenLemmas
+pub mod ReadPayloads

@@ -11,3 +11,7 @@ pub mod Orders
 pub mod Passing
 pub mod Law
 pub mod StreamLemmas
+pub mod Lacking
+pub mod ReadForms
+pub mod ReadAttributes
+pub mod ReadLines

@@ -5,3 +5,4 @@ pub mod SessionRows
 pub mod AsRead
 pub mod Plain
 pub mod StreamNames
+pub mod ReadLines

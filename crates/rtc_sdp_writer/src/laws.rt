@@ -1,9 +1,11 @@
 //! The laws of writing and reading.
-ghost use Rattle.std.specs.Prelude.{◌≡◌, Ok};
+ghost use Rattle.std.specs.Prelude.{◌≡◌, ℕ, List, Ok};
+ghost use Rattle.std.specs.List.{AllByRecursion};
 ghost use Rattle.rtc_sdp_values.specs.declared.sdp.Sdp.{Sdp};
 ghost use Rattle.rtc_sdp_reader.specs.Reading.{reading};
 ghost use Rattle.rtc_sdp_writer.specs.AsRead.{as_read};
 ghost use Rattle.rtc_sdp_writer.specs.Plain.{IsLegible, IsPlain};
+ghost use Rattle.rtc_sdp_writer.specs.ReadLines.{IsReadLine};
 ghost use Rattle.rtc_sdp_writer.specs.SessionRows.{written_sdp};
 
 /// The text of a legible value reads as that value with the sources that its lines give, also where sources repeat.
@@ -15,4 +17,10 @@ pub fn written_text_reads_again()
 pub fn written_text_reads_back()
     ensures back { (sdp : Sdp) → IsPlain sdp → reading (written_sdp sdp) ≡ Ok sdp }
     ensures itself { (sdp : Sdp) → IsPlain sdp → as_read sdp ≡ sdp }
+{}
+
+/// Each line of a text that is read, whoever wrote it, has a mid that is a short token, payload types that do not repeat, extension ids in
+/// range, and layers with names of their own.
+pub fn read_lines_are_plain()
+    ensures { (text : List ℕ) (sdp : Sdp) → reading text ≡ Ok sdp → AllByRecursion IsReadLine sdp.lines }
 {}

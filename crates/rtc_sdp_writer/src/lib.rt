@@ -12,5 +12,5 @@ mod semantic_text;
 mod session_text;
 mod source_text;
 
-pub use laws::{written_text_reads_again, written_text_reads_back};
+pub use laws::{read_lines_are_plain, written_text_reads_again, written_text_reads_back};
 pub use session_text::write;

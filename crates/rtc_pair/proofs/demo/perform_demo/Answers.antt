@@ -7,4 +7,4 @@ returns-clause-done g c =
 
 pub returns-clause-write : goal.returns-clause-write
 returns-clause-write g c =
-    λ ended. demo_off _ _ _ _ _ _ _ _ _ _ c.in-Ok.ensures.script c.in-Ok-run_script.ensures (rw (c.as_slice-steps.ensures, c.as_slice.ensures) at (c.tell_counts.ensures.write ended))
+    λ ended. demo_off _ _ _ _ _ _ _ _ _ _ c.requires c.in-Ok.ensures.script c.in-Ok-run_script.ensures (rw (c.as_slice-steps.ensures, c.as_slice.ensures) at (c.tell_counts.ensures.write ended))

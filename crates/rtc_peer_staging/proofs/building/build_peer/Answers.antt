@@ -4,7 +4,7 @@ use Rattle.rtc_peer_staging.proofs.building.build_peer.Goals as goal
 
 pub returns : goal.returns
 returns g c =
-    let is = rw (c.take_formats-formats.ensures, c.draw-session_id.ensures.value, c.in-Ok.ensures.after, c.draw-session_id.ensures.after) at c.empty_peer.ensures in
+    let is = rw (c.take_formats-formats.ensures, c.polite-polite.ensures, c.draw-session_id.ensures.value, c.in-Ok.ensures.after, c.draw-session_id.ensures.after) at c.empty_peer.ensures in
     let version = rw c.dtls_version.ensures at c.set_version.ensures in
     let lite = rw c.ice_lite.ensures at c.set_ice_lite.ensures in
     let creds = rw (c.in-Ok.ensures.creds, c.draw-session_id.ensures.after) at c.set_local_credentials.ensures in

@@ -7,43 +7,43 @@ use Rattle.rtc_run_laws.proofs.RunsTold.{new_pair_told, pair_handed, pair_once, 
 use Rattle.rtc_run_laws.proofs.handing.channels_hand_out_prefixes.Goals as goal
 
 pub returns-clause-reached : goal.returns-clause-reached
-returns-clause-reached g c = λ stun start pair past new ran at.
+returns-clause-reached g c = λ stun start pair past new go ran at.
     pair_handed g.N.Ids.ids pair (λ x. uses_of (plain_over g.N.Ids.ids) stun start x past pair ran)
     (λ x. sent_over (plain_over g.N.Ids.ids) stun start x past pair ran)
     (λ x. told_over (plain_over g.N.Ids.ids) stun start x past pair ran) at
-    (reached_told g.N.Ids.ids stun start past pair ran (new_pair_told g.N.Ids.ids start new))
+    (reached_told g.N.Ids.ids stun start past pair go ran (new_pair_told g.N.Ids.ids start new))
 
 pub returns-clause-once : goal.returns-clause-once
-returns-clause-once g c = λ stun start pair past new ran at.
+returns-clause-once g c = λ stun start pair past new go ran at.
     pair_once g.N.Ids.ids pair (λ x. uses_of (plain_over g.N.Ids.ids) stun start x past pair ran)
     (λ x. sent_over (plain_over g.N.Ids.ids) stun start x past pair ran)
     (λ x. told_over (plain_over g.N.Ids.ids) stun start x past pair ran) at
-    (reached_told g.N.Ids.ids stun start past pair ran (new_pair_told g.N.Ids.ids start new))
+    (reached_told g.N.Ids.ids stun start past pair go ran (new_pair_told g.N.Ids.ids start new))
 
 pub returns-clause-whole : goal.returns-clause-whole
-returns-clause-whole g c = λ stun start pair past new ran at.
+returns-clause-whole g c = λ stun start pair past new go ran at.
     pair_whole g.N.Ids.ids pair (λ x. uses_of (plain_over g.N.Ids.ids) stun start x past pair ran)
     (λ x. sent_over (plain_over g.N.Ids.ids) stun start x past pair ran)
     (λ x. told_over (plain_over g.N.Ids.ids) stun start x past pair ran) at
-    (reached_told g.N.Ids.ids stun start past pair ran (new_pair_told g.N.Ids.ids start new))
+    (reached_told g.N.Ids.ids stun start past pair go ran (new_pair_told g.N.Ids.ids start new))
 
 pub returns-clause-told : goal.returns-clause-told
-returns-clause-told g c = λ stun start pair past new ran at.
+returns-clause-told g c = λ stun start pair past new go ran at.
     pair_told_whole g.N.Ids.ids pair (λ x. uses_of (plain_over g.N.Ids.ids) stun start x past pair ran)
     (λ x. sent_over (plain_over g.N.Ids.ids) stun start x past pair ran)
     (λ x. told_over (plain_over g.N.Ids.ids) stun start x past pair ran) at
-    (reached_told g.N.Ids.ids stun start past pair ran (new_pair_told g.N.Ids.ids start new))
+    (reached_told g.N.Ids.ids stun start past pair go ran (new_pair_told g.N.Ids.ids start new))
 
 pub returns-clause-all : goal.returns-clause-all
-returns-clause-all g c = λ stun start pair past new ran at.
+returns-clause-all g c = λ stun start pair past new go ran at.
     pair_wholly g.N.Ids.ids pair (λ x. uses_of (plain_over g.N.Ids.ids) stun start x past pair ran)
     (λ x. sent_over (plain_over g.N.Ids.ids) stun start x past pair ran)
     (λ x. told_over (plain_over g.N.Ids.ids) stun start x past pair ran) at
-    (reached_told g.N.Ids.ids stun start past pair ran (new_pair_told g.N.Ids.ids start new))
+    (reached_told g.N.Ids.ids stun start past pair go ran (new_pair_told g.N.Ids.ids start new))
 
 pub returns-clause-drained : goal.returns-clause-drained
-returns-clause-drained g c = λ stun start pair past new ran at drained.
-    pair_drained g.N.Ids.ids stun start past pair ran (new_pair_told g.N.Ids.ids start new) (new_unused g.N.Ids.ids start new) at drained
+returns-clause-drained g c = λ stun start pair past new go ran at drained.
+    pair_drained g.N.Ids.ids stun start past pair go ran (new_pair_told g.N.Ids.ids start new) (new_unused g.N.Ids.ids start new) at drained
 
 pub returns-clause-ran : goal.returns-clause-ran
-returns-clause-ran g c = λ stun start pair steps replies new run. run_hands_out g.N.Ids.ids stun start pair steps replies new run
+returns-clause-ran g c = λ stun start pair steps replies new go run. run_hands_out g.N.Ids.ids stun start pair steps replies new go run

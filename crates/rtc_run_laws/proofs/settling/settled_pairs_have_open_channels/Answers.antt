@@ -9,63 +9,63 @@ use Rattle.rtc_run_laws.proofs.SettledRuns.{settled_answered, settled_confirmed,
 use Rattle.rtc_run_laws.proofs.settling.settled_pairs_have_open_channels.Goals as goal
 
 pub returns-clause-level : goal.returns-clause-level
-returns-clause-level g c = λ stun start pair past new ran settled at s.
-    settled_level g.N.Ids.ids stun start past pair ran (new_pair_told g.N.Ids.ids start new) (new_unused g.N.Ids.ids start new) settled at s
+returns-clause-level g c = λ stun start pair past new go ran settled at s.
+    settled_level g.N.Ids.ids stun start past pair go ran (new_pair_told g.N.Ids.ids start new) (new_unused g.N.Ids.ids start new) settled at s
 
 pub returns-clause-reached : goal.returns-clause-reached
-returns-clause-reached g c = λ stun start pair past new ran settled at.
-    settled_open g.N.Ids.ids stun start past pair ran (new_pair_told g.N.Ids.ids start new) (new_unused g.N.Ids.ids start new) settled at
+returns-clause-reached g c = λ stun start pair past new go ran settled at.
+    settled_open g.N.Ids.ids stun start past pair go ran (new_pair_told g.N.Ids.ids start new) (new_unused g.N.Ids.ids start new) settled at
 
 pub returns-clause-answered : goal.returns-clause-answered
-returns-clause-answered g c = λ stun start pair past new ran settled at.
-    settled_answered g.N.Ids.ids stun start past pair ran (new_pair_told g.N.Ids.ids start new) (new_unused g.N.Ids.ids start new) settled new at
+returns-clause-answered g c = λ stun start pair past new go ran settled at.
+    settled_answered g.N.Ids.ids stun start past pair go ran (new_pair_told g.N.Ids.ids start new) (new_unused g.N.Ids.ids start new) settled new at
 
 pub returns-clause-idle : goal.returns-clause-idle
-returns-clause-idle g c = λ stun start pair past new ran settled at later.
-    settled_idle g.N.Ids.ids stun start past pair ran (new_pair_told g.N.Ids.ids start new) (new_unused g.N.Ids.ids start new) settled at later
+returns-clause-idle g c = λ stun start pair past new go ran settled at later.
+    settled_idle g.N.Ids.ids stun start past pair go ran (new_pair_told g.N.Ids.ids start new) (new_unused g.N.Ids.ids start new) settled at later
 
 pub returns-clause-refused : goal.returns-clause-refused
-returns-clause-refused g c = λ stun start pair past new ran settled at idle.
-    settled_refused g.N.Ids.ids stun start past pair ran (new_pair_told g.N.Ids.ids start new) (new_unused g.N.Ids.ids start new) settled new at idle
+returns-clause-refused g c = λ stun start pair past new go ran settled at idle.
+    settled_refused g.N.Ids.ids stun start past pair go ran (new_pair_told g.N.Ids.ids start new) (new_unused g.N.Ids.ids start new) settled new at idle
 
 pub returns-clause-confirmed : goal.returns-clause-confirmed
-returns-clause-confirmed g c = λ stun start pair past new ran settled still at.
-    settled_confirmed g.N.Ids.ids stun start past pair ran (new_pair_told g.N.Ids.ids start new) (new_unused g.N.Ids.ids start new) settled new still at
+returns-clause-confirmed g c = λ stun start pair past new go ran settled still at.
+    settled_confirmed g.N.Ids.ids stun start past pair go ran (new_pair_told g.N.Ids.ids start new) (new_unused g.N.Ids.ids start new) settled new still at
 
 pub returns-clause-later : goal.returns-clause-later
-returns-clause-later g c = λ stun start pair past new ran settled soon at.
-    settled_later g.N.Ids.ids stun start past pair ran (new_pair_told g.N.Ids.ids start new) (new_unused g.N.Ids.ids start new) settled new soon at
+returns-clause-later g c = λ stun start pair past new go ran settled soon at.
+    settled_later g.N.Ids.ids stun start past pair go ran (new_pair_told g.N.Ids.ids start new) (new_unused g.N.Ids.ids start new) settled new soon at
 
 pub returns-clause-own : goal.returns-clause-own
-returns-clause-own g c = λ stun start pair past new ran settled at. settled_own g.N.Ids.ids stun start past pair ran new settled at
+returns-clause-own g c = λ stun start pair past new go ran settled at. settled_own g.N.Ids.ids stun start past pair go ran new settled at
 
 pub returns-clause-sides : goal.returns-clause-sides
-returns-clause-sides g c = λ stun start pair past new ran settled at. settled_sides g.N.Ids.ids stun start past pair ran new settled at
+returns-clause-sides g c = λ stun start pair past new go ran settled at. settled_sides g.N.Ids.ids stun start past pair go ran new settled at
 
 pub returns-clause-parted : goal.returns-clause-parted
-returns-clause-parted g c = λ stun start pair past new ran settled at. settled_parted g.N.Ids.ids stun start past pair ran new settled at
+returns-clause-parted g c = λ stun start pair past new go ran settled at. settled_parted g.N.Ids.ids stun start past pair go ran new settled at
 
 pub returns-clause-waits_none : goal.returns-clause-waits_none
-returns-clause-waits_none g c = λ stun start pair past new ran settled at.
-    settled_waits_none g.N.Ids.ids stun start past pair ran new (new_pair_told g.N.Ids.ids start new) (new_unused g.N.Ids.ids start new) settled at
+returns-clause-waits_none g c = λ stun start pair past new go ran settled at.
+    settled_waits_none g.N.Ids.ids stun start past pair go ran new (new_pair_told g.N.Ids.ids start new) (new_unused g.N.Ids.ids start new) settled at
 
 pub returns-clause-alone : goal.returns-clause-alone
-returns-clause-alone g c = λ stun start pair past new ran settled at idle.
-    settled_alone g.N.Ids.ids stun start past pair ran new (new_pair_told g.N.Ids.ids start new) (new_unused g.N.Ids.ids start new) settled at idle
+returns-clause-alone g c = λ stun start pair past new go ran settled at idle.
+    settled_alone g.N.Ids.ids stun start past pair go ran new (new_pair_told g.N.Ids.ids start new) (new_unused g.N.Ids.ids start new) settled at idle
 
 pub returns-clause-unreset : goal.returns-clause-unreset
-returns-clause-unreset g c = λ stun start pair past new ran settled at later.
-    settled_unreset g.N.Ids.ids stun start past pair ran new (new_pair_told g.N.Ids.ids start new) (new_unused g.N.Ids.ids start new) settled at
+returns-clause-unreset g c = λ stun start pair past new go ran settled at later.
+    settled_unreset g.N.Ids.ids stun start past pair go ran new (new_pair_told g.N.Ids.ids start new) (new_unused g.N.Ids.ids start new) settled at
     later
 
 pub returns-clause-in_band : goal.returns-clause-in_band
-returns-clause-in_band g c = λ stun start pair past new none ran steps settled at s.
-    settled_in_band g.N.Ids.ids stun start past pair ran new none steps settled at s
+returns-clause-in_band g c = λ stun start pair past new go none ran steps settled at s.
+    settled_in_band g.N.Ids.ids stun start past pair go ran new none steps settled at s
 
 pub returns-clause-all_in_band : goal.returns-clause-all_in_band
-returns-clause-all_in_band g c = λ stun start pair past new none ran steps settled at later.
-    settled_first g.N.Ids.ids stun start past pair ran new none steps settled (new_pair_told g.N.Ids.ids start new)
+returns-clause-all_in_band g c = λ stun start pair past new go none ran steps settled at later.
+    settled_first g.N.Ids.ids stun start past pair go ran new none steps settled (new_pair_told g.N.Ids.ids start new)
     (new_unused g.N.Ids.ids start new) at later
 
 pub returns-clause-ran : goal.returns-clause-ran
-returns-clause-ran g c = λ stun start pair steps replies new run. run_settles_open g.N.Ids.ids stun start pair steps replies new run
+returns-clause-ran g c = λ stun start pair steps replies new go run. run_settles_open g.N.Ids.ids stun start pair steps replies new go run

@@ -1,4 +1,4 @@
-use Rattle.std.proofs.Common.{◌∙◌, ap, arith, length, ℕ, List, Option, Some, None, cond, ◌==◌}
+use Rattle.std.proofs.Common.{◌∙◌, ap, arith, length, ℕ, List, Option, Some, None, cond, ◌==◌, false}
 use Rattle.std.proofs.lemmas.Grind.{common_steps}
 use Rattle.rtc_channels.specs.Channels.{Channels}
 use Rattle.std.specs.Prelude.{slice_get}
@@ -42,7 +42,7 @@ invariant_of-self-2 c =
 pub returns-clause-given : goal.returns-clause-given
 returns-clause-given c =
     give_view c.self.inside.given 0 c.self.inside.rows.items c.self.inside.kept.items c.self.inside.grants c.self.invariant c.args.self.now c.self.view_is
-    c.give.new.grants c.args.stream c.args.place c.index_mut.result.now c.index_mut.ensures.value c.requires.bare c.requires.free (record { negotiated = None; config = None }) c.in_ok-give.ensures.holds
+    c.give.new.grants c.args.stream c.args.place c.index_mut.result.now c.index_mut.ensures.value c.requires.bare c.requires.free (record { negotiated = None; config = None; confirmed = false }) c.in_ok-give.ensures.holds
 
 pub returns-clause-taken : goal.returns-clause-taken
 returns-clause-taken c =

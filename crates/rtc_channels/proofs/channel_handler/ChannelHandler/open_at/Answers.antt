@@ -1,4 +1,4 @@
-use Rattle.std.proofs.Common.{◌∙◌, ◌+◌, sym, ap, arith, drop, ℕ, Option, None}
+use Rattle.std.proofs.Common.{◌∙◌, ◌+◌, sym, ap, arith, drop, ℕ, Option, None, false}
 use Rattle.std.proofs.lemmas.Grind.{common_steps}
 use Rattle.rtc_channels.specs.Channels.{Channels}
 use Rattle.rtc_channels.proofs.GivingLemmas.{place_within}
@@ -17,7 +17,7 @@ index_mut-requires g c =
 
 pub returns-in_default-clause-opened : goal.returns-in_default-clause-opened
 returns-in_default-clause-opened g c =
-    open_bare c.self.inside.given c.self.inside.rows.items c.self.inside.kept.items c.self.inside.grants c.self.invariant c.args.self.now c.self.view_is c.args.place c.index.result.now (record { negotiated = None; config = None }) (place_within c.self.inside.given 0 c.self.inside.rows.items c.self.inside.kept.items c.self.inside.grants c.self.invariant c.args.self.now c.self.view_is c.args.place c.requires)
+    open_bare c.self.inside.given c.self.inside.rows.items c.self.inside.kept.items c.self.inside.grants c.self.invariant c.args.self.now c.self.view_is c.args.place c.index.result.now (record { negotiated = None; config = None; confirmed = false }) (place_within c.self.inside.given 0 c.self.inside.rows.items c.self.inside.kept.items c.self.inside.grants c.self.invariant c.args.self.now c.self.view_is c.args.place c.requires)
     g.S.Association.association c.args.sctp.now (ap (λ (row : ℕ × Option ℕ). row.1) (sym c.index.ensures) ∙ c.in_default.is)
 
 pub returns-in_default-take_config-clause-opened : goal.returns-in_default-take_config-clause-opened

@@ -1,4 +1,4 @@
-use Rattle.std.proofs.Common.{◌∙◌, sym, arith, None}
+use Rattle.std.proofs.Common.{◌∙◌, sym, arith, None, false}
 use Rattle.std.proofs.lemmas.Grind.{common_steps}
 use Rattle.rtc_channels.proofs.GivingLemmas.{place_within, seek_has, seek_bare}
 use Rattle.rtc_channels.proofs.channel_handler.ChannelHandler.seek.Goals as goal
@@ -16,7 +16,7 @@ index-requires-2 c =
 pub returns-then-is_some : goal.returns-then-is_some
 returns-then-is_some c =
     seek_has c.self.inside.given c.args.ids.now.parity c.self.inside.rows.items c.self.inside.kept.items c.self.inside.grants c.self.invariant c.args.self.now c.self.view_is
-    c.args.place c.index.result.now (record { negotiated = None; config = None })
+    c.args.place c.index.result.now (record { negotiated = None; config = None; confirmed = false })
     (place_within c.self.inside.given c.args.ids.now.parity c.self.inside.rows.items c.self.inside.kept.items c.self.inside.grants c.self.invariant c.args.self.now c.self.view_is c.args.place c.requires.place)
     c.index.ensures (sym c.is_some.ensures ∙ c.if-is_some.true)
 
