@@ -1,5 +1,5 @@
 //! Staged changes: the lines that they add, and the channels that are taken out of them.
-use rtc_change::{AddMedia, Change, Changes};
+use rtc_change::{AddMedia, Change, Changes, count_added};
 use rtc_examples_cases::{is_ok, is_true};
 use rtc_lines::{Direction, LineRow, MediaKind, Mid, Msid};
 use rtc_wire::{ChannelConfig, ChannelId, Seq, Text, TryCopy};
@@ -37,6 +37,9 @@ fn add_lines(
 }
 
 fn have_places(changes: &Changes, mid: Mid, other: Mid) -> Result<bool, AllocError> {
+    if count_added(changes.0.as_slice()) != 2 {
+        return Ok(false);
+    }
     let rows = changes.as_new_medias(0)?;
     let app = LineRow::App { place: 0, mid };
     let audio = LineRow::Media {

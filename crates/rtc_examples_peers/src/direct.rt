@@ -1,44 +1,82 @@
 //! What examples ask of a peer that is driven without session descriptions.
-use rtc_peer::Mid;
-use std::alloc::{AllocError, Global};
+use rtc_peer::{Candidate, Fingerprint, IceCreds, MediaKind, Mid, SctpInitData};
+use rtc_wire::ChannelConfig;
+use std::alloc::AllocError;
 
-/// What examples ask of a peer without session descriptions: each is a row of calls, and whether they answer as they are to. A function
-/// over it is checked without what a peer consists of.
+/// What examples ask of a peer without session descriptions, a call or two each. A function over it is checked without what a peer consists
+/// of.
 pub trait Direct {
-    /// Takes the role in ICE, credentials of both sides and the fingerprint of the other one. The credentials that are set are those of
-    /// this side; no certificate of the other side and no version is known yet.
-    fn sets_parts(&mut self, alloc: Global) -> Result<bool, AllocError>;
+    /// Takes the controlling role in ICE and these credentials, and tells whether they have this user fragment.
+    fn set_own(&mut self, own: IceCreds, ufrag: &str) -> bool;
 
-    /// Takes an address of the other side. One that was not added is none to invalidate.
-    fn takes_address(&mut self, alloc: Global) -> Result<bool, AllocError>;
+    /// Takes the credentials of the other side.
+    fn set_other(&mut self, other: IceCreds);
 
-    /// A second role in DTLS is Ok, as the first one is.
-    fn keeps_role(&mut self) -> bool;
+    /// Takes the fingerprint of the other side. It answers whether the own one is by SHA-256, and no certificate of the other side and no
+    /// version is known yet.
+    fn announce(&mut self, announced: Fingerprint) -> bool;
 
-    /// The half of a start alone starts nothing.
-    fn refuses_half(&mut self, alloc: Global) -> Result<bool, AllocError>;
+    /// Whether an address of the other side is taken.
+    fn add_remote(&mut self, there: Candidate) -> bool;
 
-    /// Both halves start the association, and any start behind that is Ok.
-    fn starts(&mut self, alloc: Global) -> Result<bool, AllocError>;
+    /// Whether an address of this side was there, which it is no longer.
+    fn withdraw(&mut self, here: &Candidate) -> bool;
 
-    /// Channels are numbered from 0. One that is settled for a stream that another claims is refused. None has a stream before a poll.
-    fn makes_channels(&mut self, alloc: Global) -> bool;
+    /// Whether DTLS starts as the active side, or as the passive one.
+    fn begin_dtls(&mut self, active: bool) -> bool;
 
-    /// A mid is declared once. The first line is stopped and keeps its mid; the last one goes once, and may be declared again.
-    fn declares_lines(&mut self, first: Mid, last: Mid) -> bool;
+    /// Whether the association starts as a client, or as a server.
+    fn begin_sctp(&mut self, client: bool) -> bool;
 
-    /// The fourth number is in use with its retransmissions, so that the sixth is given.
-    fn draws_source(&mut self, mid: Mid) -> Result<bool, AllocError>;
+    /// Whether it starts with the halves of a description.
+    fn begin_with(&mut self, client: bool, halves: SctpInitData) -> bool;
 
-    /// A stream is made where a row of media has its mid, and keeps what is written to its mark.
-    fn keeps_marks(&mut self, mid: Mid) -> Result<bool, AllocError>;
+    /// Whether a channel is made with a number.
+    fn create(&mut self, config: ChannelConfig, number: u64) -> bool;
 
-    /// A stream is dropped by its source, and with its line.
-    fn drops_streams(&mut self, mid: Mid) -> Result<bool, AllocError>;
+    /// Whether a stream has a channel, or a channel has a stream.
+    fn is_used(&mut self, stream: u16, number: u64) -> bool;
 
-    /// Feedback is sent, and a line that is not there sends no redundancy.
-    fn sends_feedback(&mut self, mid: Mid) -> bool;
+    fn close_one(&mut self, number: u64) -> bool;
 
-    /// A peer ends once.
-    fn ends(&mut self) -> bool;
+    /// Declares a line. It answers whether its mid is new.
+    fn declare(&mut self, mid: Mid, kind: MediaKind) -> Result<bool, AllocError>;
+
+    fn remove(&mut self, mid: Mid) -> bool;
+
+    /// The next source that is not in use.
+    fn draw(&mut self) -> u32;
+
+    /// Whether a stream that is received is expected, which is then marked.
+    fn expect(&mut self, mid: Mid, ssrc: u32, mark: u64) -> bool;
+
+    /// Whether a stream that is sent is declared, which is then marked.
+    fn declare_sent(&mut self, mid: Mid, ssrc: u32, rtx: Option<u32>, mark: u64) -> bool;
+
+    /// Whether a stream that is received is made, and one that is sent.
+    fn make_both(&mut self, mid: Mid, received: u32, sent: u32) -> bool;
+
+    /// Whether a source is received with a mark, by its number and by its line.
+    fn has_received(&mut self, mid: Mid, ssrc: u32, mark: u64) -> bool;
+
+    /// Whether a source is sent with a mark, by its number and by its line.
+    fn has_sent(&mut self, mid: Mid, ssrc: u32, mark: u64) -> bool;
+
+    /// Whether the stream that a line sends gets another source.
+    fn renumber(&mut self, mid: Mid, ssrc: u32) -> bool;
+
+    fn is_sent(&mut self, ssrc: u32) -> bool;
+
+    fn drop_received(&mut self, ssrc: u32) -> bool;
+
+    fn drop_sent(&mut self, ssrc: u32) -> bool;
+
+    /// Whether feedback is sent: on transport, of the application with the bytes 5 and 6, and a wish for a picture.
+    fn send_feedback(&mut self) -> bool;
+
+    /// Whether a line sends redundancy from now on.
+    fn send_redundancy(&mut self, mid: Mid) -> bool;
+
+    /// Whether a peer that was alive ends.
+    fn end(&mut self) -> bool;
 }

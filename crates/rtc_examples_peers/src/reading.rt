@@ -31,7 +31,7 @@ fn endings(subject: &str) -> Option<(&'static str, &'static str)> {
     }
 }
 
-/// Reads the offers that the peer of an example is given in turn, by their paths. It answers whether they are there, if there are to be any.
+/// Reads the offers that the peer of an example is given in turn, by their paths. It answers whether those that there are to be are there.
 pub fn read_turns<R: Files + AllocGlobal>(
     rt: &R,
     turns: &mut Vec<Turn>,
