@@ -1,5 +1,5 @@
 //! Steps that two peers go.
-ghost use Rattle.std.specs.Prelude.{◌≡◌, ◌≤◌, ◌<◌, ◌^◌, ◌++◌, ◌∷◌, [], OnOk, OnErr, IfSome};
+ghost use Rattle.std.specs.Prelude.{◌≤◌, ◌<◌, ◌^◌, IfSome};
 ghost use Rattle.rtc_run_history.specs.Sizes.{step_size, steps_size};
 
 use rtc_run_history::{Op, Side, Step};

@@ -1,5 +1,5 @@
 -- The peers of the pair over parts that fail were just built, and make session descriptions that are read back.
-use Rattle.std.proofs.Common.{◌≡◌, ◌∙◌, ℕ, Bool, false, List, [], ◌∷◌, ◌++◌, None, Result, Ok, Err, refl, sym, ap, subst}
+use Rattle.std.proofs.Common.{◌≡◌, ◌∙◌, ℕ, Bool, true, false, List, [], ◌∷◌, ◌++◌, None, Result, Ok, Err, refl, sym, ap, subst}
 use Rattle.std.specs.Prelude.{IfOk, IfSome, Option}
 use Rattle.std.specs.declared.alloc.Global.{Global}
 use Rattle.rtc_assoc_state.specs.Calls.{limited}

@@ -1,5 +1,5 @@
 -- A fault is reported only where a listed call failed.
-use Rattle.std.proofs.Common.{◌≡◌, ◌≤◌, ◌+◌, ◌-◌, ◌^◌, ℕ, true, List, [], ◌∷◌, Result, Ok, Err, arith}
+use Rattle.std.proofs.Common.{◌≡◌, ◌≤◌, ◌+◌, ◌-◌, ◌^◌, ℕ, List, [], ◌∷◌, Result, Ok, Err, arith}
 use Rattle.std.specs.Prelude.{min, IfOk}
 use Rattle.std.specs.declared.alloc.AllocError.{AllocError}
 use Rattle.rtc_assoc_state.proofs.PlainLaws.{plain_laws}
@@ -27,7 +27,7 @@ use Rattle.rtc_run_history.specs.Sides.{side_of}
 use Rattle.rtc_run_history.specs.SoundParts.{faults_of}
 use Rattle.rtc_run_laws.proofs.GrowingCounts.{Counts}
 use Rattle.rtc_run_faulty.specs.FaultyParts.{FaultyCore, FaultyPolled, FaultyPairState, faulty_parts}
-use Rattle.rtc_run_faulty.specs.ListedFaults.{FailedListed, HasListedCause, TellsListedFaults, TellListedFaults}
+use Rattle.rtc_run_faulty.specs.ListedFaults.{FailedListed, HasListedCause, TellListedFaults}
 
 pub faulty_laws : PartsLaws faulty_parts
 faulty_laws = record {
