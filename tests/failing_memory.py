@@ -2,6 +2,8 @@
 """Lets each allocation of a run of a program fail, and checks that the program ends by itself as it should.
 
 usage: tests/failing_memory.py PROGRAM [WORD..] < INPUT
+       tests/failing_memory.py --scripts PROGRAM     with the program rtc_pair, over the stored scripts of a round, of crossed offers of
+                                                     channels, and of messages over a channel
 
 Each allocation fails in turn, first it alone, then it and all later ones. The program has to end by itself, with status 0 and
 what it writes where memory suffices, or with status 6 and nothing, or with status 6 and the report up to its first step that
@@ -11,6 +13,14 @@ import os
 import subprocess
 import sys
 import tempfile
+
+TOP = os.path.dirname(os.path.dirname(os.path.abspath(__file__)))
+BY_HAND = "tests/data/scripts/by_hand"
+SCRIPTS = (
+    "examples/first.script",
+    f"{BY_HAND}/each_side_takes_the_channel_line_of_the_other.script",
+    f"{BY_HAND}/messages_over_a_channel.script",
+)
 
 SHIM = r"""
 #define _GNU_SOURCE
@@ -128,14 +138,29 @@ def check(words, given):
         return 2 * calls, wrong
 
 
-def main():
-    if len(sys.argv) < 2:
-        sys.exit(__doc__)
-    runs, wrong = check([os.path.abspath(sys.argv[1]), *sys.argv[2:]], sys.stdin.buffer.read())
+def report(runs, wrong, what):
     for n, alone, status, written in wrong:
         print(f"WRONG allocation {n} failing {'alone' if alone else 'and all later ones'}: status {status}, wrote {written!r}")
-    print(f"{runs - len(wrong)} of {runs} runs with failing allocations end as they should")
-    return 0 if runs and not wrong else 1
+    print(f"{runs - len(wrong)} of {runs} runs with failing allocations end as they should{what}", flush=True)
+    return runs > 0 and not wrong
+
+
+def check_scripts(program):
+    right = True
+    for path in SCRIPTS:
+        with open(os.path.join(TOP, path), "rb") as script:
+            runs, wrong = check([program, "run"], script.read())
+        right = report(runs, wrong, f": {path}") and right
+    return right
+
+
+def main():
+    if sys.argv[1:2] == ["--scripts"] and len(sys.argv) == 3:
+        return 0 if check_scripts(os.path.abspath(sys.argv[2])) else 1
+    if len(sys.argv) < 2 or sys.argv[1].startswith("--"):
+        sys.exit(__doc__)
+    runs, wrong = check([os.path.abspath(sys.argv[1]), *sys.argv[2:]], sys.stdin.buffer.read())
+    return 0 if report(runs, wrong, "") else 1
 
 
 if __name__ == "__main__":

@@ -7,6 +7,8 @@ mod demo;
 mod performing;
 mod program;
 mod running;
+#[cfg(test)]
+mod tests;
 mod top;
 
 pub use program::pair_main;

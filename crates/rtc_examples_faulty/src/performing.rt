@@ -1,0 +1,70 @@
+//! Runs over parts that fail.
+ghost use Rattle.std.specs.Prelude.{◌<◌, ◌^◌};
+ghost use Rattle.rtc_run_history.specs.Sizes.{steps_size};
+
+use crate::part::Part;
+use crate::ran::{Faults, Ran};
+use rtc_plain::PlainMediaEvent;
+use rtc_run_faulty::{FailingCalls, PartWatches, make_faulty_pair, run_faulty_pair};
+use rtc_run_history::{Reply, Step};
+use rtc_wire::Seq;
+use rtc_wire_drops::release;
+use std::alloc::{AllocError, Global};
+
+// The calls at which the left peer's parts fail.
+fn failing_calls(alloc: Global, part: Part, numbers: &[u64]) -> Result<FailingCalls, AllocError> {
+    let listed = Seq::new(numbers.to_vec(alloc)?);
+    let none = FailingCalls::none(alloc);
+    Ok(match part {
+        Part::Dtls => FailingCalls {
+            dtls: listed,
+            association: none.association,
+            media: none.media,
+        },
+        Part::Association => FailingCalls {
+            dtls: none.dtls,
+            association: listed,
+            media: none.media,
+        },
+        Part::Media => FailingCalls {
+            dtls: none.dtls,
+            association: none.association,
+            media: listed,
+        },
+    })
+}
+
+// What is seen of a run with these replies.
+fn see(
+    replies: Result<Seq<Reply<PlainMediaEvent>>, AllocError>,
+    is_alive: bool,
+    left: &PartWatches,
+    right: &PartWatches,
+) -> Result<Ran, AllocError> {
+    let replies = replies?;
+    Ok(Ran {
+        replies,
+        is_alive,
+        faults: Faults::seen(left),
+        others: Faults::seen(right),
+    })
+}
+
+/// Performs steps on a fresh pair whose left part fails at the calls of these numbers. This function alone names the parts.
+pub fn perform(
+    alloc: Global,
+    part: Part,
+    numbers: &[u64],
+    steps: &[Step],
+) -> Result<Ran, AllocError>
+    requires { steps_size steps.now < 2 ^ 32 }
+{
+    let failing = failing_calls(alloc, part, numbers)?;
+    let left = PartWatches::new(alloc)?;
+    let right = PartWatches::new(alloc)?;
+    let none = FailingCalls::none(alloc);
+    let mut pair = make_faulty_pair(alloc, failing, none, &left, &right)?;
+    let replies = run_faulty_pair(alloc, &mut pair, steps);
+    let is_alive = pair.left().is_alive();
+    release(pair, see(replies, is_alive, &left, &right))
+}

@@ -1,0 +1,97 @@
+//! Refusals, and what may follow them.
+use crate::part::Part;
+use rtc_part_values::Reason;
+use rtc_peer::{DtlsError, MediaError, ProtoError, RtcError, SctpError, Why};
+use rtc_plain::PlainMediaEvent;
+use rtc_run_history::{Outcome, PollEnd, Reply, Shown, Step, Table};
+use rtc_wire::Moment;
+
+/// The error that a reply reports.
+pub fn error_of(reply: &Reply<PlainMediaEvent>) -> Option<&RtcError> {
+    match &reply.outcome {
+        Outcome::Refused(error) => Some(error),
+        Outcome::Polled {
+            end: PollEnd::Refused(error),
+            ..
+        } => Some(error),
+        _ => None,
+    }
+}
+
+/// Whether an error reports a fault of a part.
+pub fn is_fault_of(error: &RtcError, part: Part) -> bool {
+    match part {
+        Part::Dtls => *error == RtcError::Dtls(DtlsError::Fault),
+        Part::Association => *error == RtcError::Sctp(SctpError::Proto(ProtoError::Fault)),
+        Part::Media => *error == RtcError::Media(MediaError::Rtp),
+    }
+}
+
+/// Whether an error says that the other side announced no fingerprint.
+pub fn is_unannounced(error: &RtcError) -> bool {
+    match error {
+        RtcError::RemoteSdp(Why::NoneAnnounced) => true,
+        _ => false,
+    }
+}
+
+/// Whether a reply says that an offer or an answer was accepted.
+pub fn is_accepted(reply: &Reply<PlainMediaEvent>) -> bool {
+    match &reply.outcome {
+        Outcome::Answered { .. } | Outcome::Finished => true,
+        _ => false,
+    }
+}
+
+/// Whether a step polls.
+pub fn is_poll(step: &Step) -> bool {
+    match step {
+        Step::Poll { .. } | Step::Drain { .. } => true,
+        _ => false,
+    }
+}
+
+/// Whether a step accepts an offer or an answer.
+pub fn is_acceptance(step: &Step) -> bool {
+    match step {
+        Step::AcceptOffer { .. } | Step::AcceptAnswer { .. } => true,
+        _ => false,
+    }
+}
+
+/// Whether two tables have the same lines. Before its first step a peer has none.
+pub fn have_same_lines(before: Option<&Table>, after: Option<&Table>) -> bool {
+    match (before, after) {
+        (Some(before), Some(after)) => before.lines == after.lines,
+        (None, Some(after)) => after.lines.is_empty(),
+        _ => false,
+    }
+}
+
+// A closed peer waits for what never comes.
+fn waits_for_nothing(outputs: &[Shown<PlainMediaEvent>]) -> bool {
+    match outputs {
+        [Shown::Timeout(moment, reason)] => {
+            (*moment == Moment::FAR_FUTURE) & (*reason == Reason::NotHappening)
+        }
+        _ => false,
+    }
+}
+
+/// Whether a closed peer may reply so to a step: it ignores inputs and closes, polls a timeout that never comes, and has no channel.
+pub fn is_of_closed(step: &Step, reply: &Reply<PlainMediaEvent>) -> bool {
+    match step {
+        Step::Time { .. } | Step::Close { .. } => reply.outcome == Outcome::Done,
+        Step::Datagram { .. } => (reply.outcome == Outcome::Done)
+            | (reply.outcome == Outcome::NoSuch),
+        Step::Drain { .. } | Step::Poll { .. } => match &reply.outcome {
+            Outcome::Polled {
+                outputs,
+                end: PollEnd::Ended,
+            } => waits_for_nothing(outputs.as_slice()),
+            _ => false,
+        },
+        Step::Write { .. } | Step::CloseChannel { .. } => reply.outcome == Outcome::NoSuch,
+        _ => true,
+    }
+}

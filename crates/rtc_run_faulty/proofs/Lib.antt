@@ -1,0 +1,2 @@
+pub mod FaultyPeers
+pub mod ListedCauses

@@ -1,0 +1,3 @@
+pub mod FaultyParts
+pub mod FaultyPairs
+pub mod ListedFaults
