@@ -45,7 +45,7 @@ def datagram_bytes(at, datagram):
     said = datagram.said
     if datagram.part == "ice":
         kind, number, receiver, sender = said
-        body = bytes([len(receiver)]) + receiver.encode() + bytes([len(sender)]) + sender.encode()
+        body = bytes([len(receiver)]) + receiver.encode("latin-1") + bytes([len(sender)]) + sender.encode("latin-1")
         head = bytes([0 if kind == "check" else 1, 1]) + len(body).to_bytes(2, "big") + COOKIE
         return head + number.to_bytes(12, "big") + body
     if datagram.part == "media":

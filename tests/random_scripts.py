@@ -15,6 +15,7 @@ import sys
 from associations import Sizes, Unwritten, open_message
 from connections import FAR_FUTURE, SECOND, Connection
 from datagram_bytes import NoDatagram, data_bytes, datagram_bytes, read_datagram
+from foreign_texts import foreign_text
 
 INVERSE = {"sendrecv": "sendrecv", "sendonly": "recvonly", "recvonly": "sendonly", "inactive": "inactive"}
 DIRECTIONS = list(INVERSE)
@@ -184,6 +185,8 @@ class Peer:
     def judge(self, text, offer):
         if all(line.stopped for line in text):
             raise Refused("2 BUNDLE group is empty")
+        if len({line.mid for line in text}) < len(text):
+            raise Refused("2 mid is repeated")
         new, apps = [], [place for place, row in enumerate(self.rows) if row.kind == "app"]
         for place, line in enumerate(text):
             found = [i for i, row in enumerate(self.rows) if row.mid == line.mid]
@@ -259,15 +262,22 @@ class Peer:
         if self.sizes.polite is False and self.awaits:
             raise Refused("10 offer collides with a pending offer")
 
-    # An offer leaves the choice of the role, and this side then waits for the handshake. The answer, and the chunk that it tells.
-    def accept_offer(self, text, chunk, other):
+    # Credentials stand in the lines of a text.
+    def judge_lines(self, text, offer):
+        if not text:
+            raise Refused(f"1 remote sdp: {'No m-lines in offer' if offer else 'missing a=ice-ufrag/pwd'}")
+
+    # An offer of the other side leaves the choice of the role, and this side then waits for the handshake. The answer, and the chunk that
+    # it tells.
+    def accept_offer(self, text, chunk, other, active=False):
         self.staged, self.undo = [], []
         self.judge_collision()
         self.counter, self.awaits = self.counter + 1, False
+        self.judge_lines(text, True)
         self.judge_chunk(chunk)
         new = self.judge(text, True)
         self.take(text, True, new, [])
-        self.follow(other, False, chunk)
+        self.follow(other, active, chunk)
         return [row.copy() for row in self.rows], self.begun.own if self.begun else None
 
     # A chunk is taken from an answer where its offer told one too; an answer that tells none lets what is pending go.
@@ -276,6 +286,7 @@ class Peer:
         if self.counter != token[0] + 1:
             raise Refused("7 Changes made out of order")
         self.awaits = False
+        self.judge_lines(text, False)
         self.judge_chunk(chunk)
         new = self.judge(text, False)
         self.judge_new(text, new, token[1])
@@ -297,6 +308,7 @@ class Pair:
         self.settings = [" ".join(["set", at, name, *map(str, number)]) for at, name, *number in settings]
         self.peers = {"L": Peer(1, sizes["L"]), "R": Peer(1000001, sizes["R"])}
         self.texts, self.tokens, self.lines, self.report = [], {}, [], ""
+        self.foreign = {}  # by the words of foreign texts: their rows, their setup, or the line that refuses them
         self.datagrams = []
 
     def perform_ops(self, at, verb, words):
@@ -333,6 +345,40 @@ class Pair:
         answer, chunk = peer.accept_offer(text[0], text[1], self.peers[OTHER[at]])
         self.texts.append((at, False, answer, chunk, peer.connection.dtls.active))
         return f"answered {len(self.texts) - 1}"
+
+    # A text in the name of the other side, which did not make it, or one that is damaged at this line, or before it where the line parts
+    # would be others without it.
+    def write_foreign(self, at, rows, setup, damaged=None):
+        other = self.peers[OTHER[at]]
+        lines = foreign_text(OTHER[at], other.ufrag, other.sizes.longest, rows, setup)
+        if damaged is not None:
+            damaged = min(damaged, len(lines) - 1)
+            while lines[damaged].startswith(("m=", "a=mid:")):
+                damaged -= 1
+            lines[damaged] = "?" + lines[damaged]
+        word = "".join(f"{line}\r\n" for line in lines).encode().hex()
+        self.foreign[word] = rows, setup, None if damaged is None else damaged + 1
+        return word
+
+    def read_foreign(self, word):
+        rows, setup, refused = self.foreign[word]
+        if refused is not None:
+            raise Refused(f"2 SDP parse error at line {refused}")
+        return [row.copy() for row in rows], setup == "passive"
+
+    def hand_foreign_offer(self, at, word):
+        rows, active = self.read_foreign(word)
+        peer = self.peers[at]
+        answer, chunk = peer.accept_offer(rows, None, self.peers[OTHER[at]], active)
+        self.texts.append((at, False, answer, chunk, peer.connection.dtls.active))
+        return f"answered {len(self.texts) - 1}"
+
+    def hand_foreign_answer(self, at, token, word):
+        if self.tokens.get(token, (None,))[0] != at:
+            return "nosuch"
+        rows, active = self.read_foreign(word)
+        self.peers[at].accept_answer(self.tokens.pop(token)[1], rows, None, self.peers[OTHER[at]], active)
+        return "finished"
 
     def hand_answer(self, at, token, number):
         text = self.text_for(at, False, number)
@@ -407,6 +453,10 @@ class Pair:
             return self.hand_offer(at, int(words[0]))
         if verb == "answer":
             return self.hand_answer(at, int(words[0]), int(words[1]))
+        if verb == "foreignoffer":
+            return self.hand_foreign_offer(at, words[0])
+        if verb == "foreignanswer":
+            return self.hand_foreign_answer(at, int(words[0]), words[1])
         if verb == "raw":
             return self.hand_raw(at, int(words[0]), words[1])
         if verb == "rollback":
@@ -565,6 +615,39 @@ def connect(chance, pair, at):
     pair.perform(f"{at} {chance.choices(steps, [3, 3, 4, 3, 2])[0]}")
 
 
+# The rows of a side as a text might say them: as they are, or with a row that is new, gone, moved, changed or stopped.
+def foreign_rows(chance, pair, at):
+    rows = [row.copy() for row in pair.peers[at].rows]
+    for _ in range(chance.choice([0, 1, 1, 2])):
+        place, kind = chance.randrange(len(rows) + 1), chance.choice(["audio", "video", "app"])
+        change = chance.choice(["new", "new", "gone", "moved", "direction", "stopped"])
+        if change == "new":
+            rows.append(Row(f"f{chance.randrange(4)}", kind, None if kind == "app" else chance.choice(DIRECTIONS)))
+        elif place < len(rows) and change == "gone":
+            rows.pop(place)
+        elif place < len(rows) and change == "moved":
+            rows.append(rows.pop(place))
+        elif place < len(rows) and rows[place].kind != "app":
+            rows[place].direction, rows[place].stopped = chance.choice(DIRECTIONS), change == "stopped"
+    return rows
+
+
+# An offer or an answer that the other side did not make; some can not be read.
+def random_foreign(chance, pair, at):
+    damaged = chance.randrange(40) if chance.random() < 0.1 else None
+    offer = chance.random() < 0.6
+    rows = foreign_rows(chance, pair, chance.choice([at, OTHER[at]]))
+    if not offer and chance.random() < 0.7 and pair.tokens:
+        token = chance.choice(list(pair.tokens))
+        at = pair.tokens[token][0]
+        rows = [row.copy() for row in pair.texts[token][2]] if chance.random() < 0.7 else rows
+    word = pair.write_foreign(at, rows, chance.choice(["actpass", "active", "passive"]) if offer else chance.choice(["active", "passive"]), damaged)
+    if offer:
+        pair.perform(f"{at} foreignoffer {word}")
+    else:
+        pair.perform(f"{at} foreignanswer {chance.choice(list(pair.tokens) or [0])} {word}")
+
+
 # Bytes that are of no kind, or that say nothing to the part of their kind, or that media reports.
 STRAY = ["-", "05", "40616263", "c0ffee", "8000", "14616263", "1604", "160300", "150100", "15", "17", "170600", "1701ff", "800000", "80c80000",
          "00" * 19, "00" * 20, "0001000021", "000100002112a442" + "00" * 12, "000100022112a442" + "00" * 14, "0200" + "00" * 18]
@@ -599,8 +682,8 @@ def random_raw(chance, pair, at):
     pair.perform(f"{at} raw {now} {word}")
 
 
-# `raw` says how likely steps are that give bytes of anybody.
-def random_pair(chance, raw=0.0):
+# `raw` says how likely steps are that give bytes of anybody, and `foreign` those that give texts of anybody.
+def random_pair(chance, raw=0.0, foreign=0.0):
     pair = Pair(random_settings(chance))
     length = chance.randint(6, 100)
     if chance.random() < 0.3:
@@ -610,6 +693,8 @@ def random_pair(chance, raw=0.0):
         at, texts = chance.choice("LR"), len(pair.texts)
         while chance.random() < raw:
             random_raw(chance, pair, at)
+        if chance.random() < foreign:
+            random_foreign(chance, pair, at)
         kind = chance.random()
         if kind < 0.28:
             random_round(chance, pair, at)
@@ -638,7 +723,7 @@ def main():
     count = int(sys.argv[3]) if len(sys.argv) > 3 else 300
     wrong = 0
     for number in range(count):
-        pair = random_pair(chance, chance.choice([0, 0, 0.3]))
+        pair = random_pair(chance, chance.choice([0, 0, 0.3]), chance.choice([0, 0, 0.2]))
         script = pair.script()
         done = subprocess.run([program, "run"], input=script.encode(), capture_output=True, timeout=60)
         if (done.returncode, done.stdout.decode()) != (0, pair.report):
