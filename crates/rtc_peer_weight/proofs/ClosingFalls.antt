@@ -153,10 +153,10 @@ module _ {I D S M E X T W N : Type 0} (m : Meanings I D S M E X T W N) (laws : P
   closes_rest p q h = closes_from p.core.phase p q refl h
 
   -- a close that fails sets no threshold
-  abbrev CallFits : Call (PolledPeer I D S M N) → Type 0
+  abbrev pub CallFits : Call (PolledPeer I D S M N) → Type 0
   CallFits call = (p : PolledPeer I D S M N) (r : Result (Unit {0}) RtcError) (q : PolledPeer I D S M N) → call p r q → Fit m laws p → Fit m laws q
 
-  turn_fits : (first rest : Call (PolledPeer I D S M N)) → CallFits first → CallFits rest → CallFits (InTurn first rest)
+  pub turn_fits : (first rest : Call (PolledPeer I D S M N)) → CallFits first → CallFits rest → CallFits (InTurn first rest)
   turn_fits first rest f g p r q (Failed error is h) k = f p (Err error) q h k
   turn_fits first rest f g p r q (Passed between h h') k = g between r q h' (f p (Ok tt) between h k)
 

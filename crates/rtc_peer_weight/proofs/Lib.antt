@@ -1,9 +1,13 @@
 pub mod UnsetThresholds
 pub mod PassFalls
 pub mod PollsUnset
+pub mod UnsetStreams
 pub mod Measures
 pub mod ClosingFalls
 pub mod StreamsFall
 pub mod DtlsFalls
 pub mod WalkFalls
+pub mod UnsetCalls
+pub mod UnsetNegotiation
 pub mod Drains
+pub mod SetsNone

@@ -29,7 +29,7 @@ entry_threshold e = threshold_credit e.threshold
 abbrev pub thresholds : List StreamEntry → ℕ
 thresholds es = sum_by entry_threshold es
 
-got : (es : List StreamEntry) (place : ℕ) (e : StreamEntry) → slice_get es place ≡ Some e → (place < length es) × (get_or es place e ≡ e)
+pub got : (es : List StreamEntry) (place : ℕ) (e : StreamEntry) → slice_get es place ≡ Some e → (place < length es) × (get_or es place e ≡ e)
 got es place e h = (slice_get_within es place e h, get_or_from_slice_get es place e e h)
 
 expected_unset : (b : Bool) (i id : ℕ) (es : List StreamEntry) → thresholds es ≡ 0 → thresholds (if b then es else insert es i (new_entry id AwaitConfig None)) ≡ 0
@@ -47,7 +47,7 @@ finished_unset (Some place) es es' h k =
     let is = sum_by-set entry_threshold es place (finished_entry h.0) h.0 there.0 in
     omega (arith, ap thresholds h.2, is, ap entry_threshold there.1, finished_same (is_open_awaited h.0.state) h.0, k)
 
-dropped_unset : (es : List StreamEntry) → thresholds es ≡ 0 → thresholds (unclosed es) ≡ 0
+pub dropped_unset : (es : List StreamEntry) → thresholds es ≡ 0 → thresholds (unclosed es) ≡ 0
 dropped_unset es h =
     let both = sum_by-filter_both (λ e. not (is_closed_state e.state)) (λ e. not (not (is_closed_state e.state))) (λ e. refl) entry_threshold es in
     omega (arith, both, h)
@@ -66,7 +66,7 @@ module _ {S : Type 0} (m : AssociationMeaning S) (w : AssociationLaws m) where
   abbrev pub AreUnset : SctpStreams S → Type 0
   AreUnset p = IsUnset m w p.association × (thresholds p.entries ≡ 0)
 
-  unset_is : (u q : SctpStreams S) → q ≡ u → AreUnset u → AreUnset q
+  pub unset_is : (u q : SctpStreams S) → q ≡ u → AreUnset u → AreUnset q
   unset_is u q is h = subst (λ (x : SctpStreams S). AreUnset x) (sym is) h
 
   packets_unset : (a : S) (met : Met) (b : S) → TakesPacket m a met b → IsUnset m w a → IsUnset m w b

@@ -5,10 +5,10 @@ use Rattle.rtc_part_association.specs.declared.assoc_error.AssocError.{AssocErro
 use Rattle.rtc_part_association.specs.declared.assoc_event.AssocEvent.{AssocEvent}
 use Rattle.rtc_part_association.specs.declared.ppi.Ppi.{Ppi}
 use Rattle.rtc_part_association.specs.declared.ppi.Ppi.TheVariants as ppi
-use Rattle.rtc_part_association.specs.AssociationActs.{Opened, Wrote, Ended as EndedAct, Given, Taken, Read, Told, Stirred, OpenRefused, WriteRefused, ReadRefused, EndRefused, ReliabilitySet}
+use Rattle.rtc_part_association.specs.AssociationActs.{Started, ByConnect, ByAccept, BySnap, ConnectRefused, AcceptRefused, SnapRefused, Opened, Wrote, Ended as EndedAct, Given, Taken, Read, Told, Stirred, OpenRefused, WriteRefused, ReadRefused, EndRefused, ReliabilitySet}
 use Rattle.rtc_part_association.specs.AssociationLaws.{AssociationLaws}
 use Rattle.rtc_part_association.specs.AssociationMeaning.{AssociationMeaning}
-use Rattle.rtc_part_values.specs.Why.{Shut, Other}
+use Rattle.rtc_part_values.specs.Why.{Timed, Shut, Other}
 use Rattle.rtc_wire.specs.declared.reliability_type.ReliabilityType.{ReliabilityType}
 use Rattle.rtc_sctp_entries.specs.declared.asked.Asked.{Asked}
 use Rattle.rtc_sctp_entries.specs.declared.asked.Asked.TheVariants as did
@@ -41,21 +41,21 @@ module _ {S : Type 0} (m : AssociationMeaning S) (w : AssociationLaws m) where
   end_unset a b id (Ok done) h k = w.no_threshold a b (EndedAct id (m.generation a id)) (h, refl) refl k
   end_unset a b id (Err e) h k = w.no_threshold a b (Stirred Other) (EndRefused id e h) refl k
 
-  open_unset : (a b : S) (id : ℕ) (r : Result (Unit {0}) AssocError) → m.opened a id r b → IsUnset a → IsUnset b
+  pub open_unset : (a b : S) (id : ℕ) (r : Result (Unit {0}) AssocError) → m.opened a id r b → IsUnset a → IsUnset b
   open_unset a b id (Ok done) h k = w.no_threshold a b (Opened id (m.generation a id)) (h, refl) refl k
   open_unset a b id (Err e) h k = w.no_threshold a b (Stirred Other) (OpenRefused id e h) refl k
 
-  write_unset : (a b : S) (id : ℕ) (i : Ppi) (bytes : List ℕ) (r : Result ℕ AssocError) → m.wrote a id i bytes r b → IsUnset a → IsUnset b
+  pub write_unset : (a b : S) (id : ℕ) (i : Ppi) (bytes : List ℕ) (r : Result ℕ AssocError) → m.wrote a id i bytes r b → IsUnset a → IsUnset b
   write_unset a b id i bytes (Ok n) h k = w.no_threshold a b (Wrote id (m.generation a id) _ bytes) (i, (n, (h, refl, refl))) refl k
   write_unset a b id i bytes (Err e) h k = w.no_threshold a b (Stirred Other) (WriteRefused id i bytes e h) refl k
 
-  read_unset : (a b : S) (id : ℕ) (r : Result (Option (Ppi × List ℕ)) AssocError) → m.read a id r b → IsUnset a → IsUnset b
+  pub read_unset : (a b : S) (id : ℕ) (r : Result (Option (Ppi × List ℕ)) AssocError) → m.read a id r b → IsUnset a → IsUnset b
   read_unset a b id (Ok None) h k = unset_same a b (w.read_none a b id h) k
   read_unset a b id (Ok (Some message)) h k =
       w.no_threshold a b (Read id (m.generation a id) _ message.1) (message.0, (h, refl, refl)) refl k
   read_unset a b id (Err e) h k = w.no_threshold a b (Stirred Other) (ReadRefused id e h) refl k
 
-  reliability_unset : (a b : S) (id : ℕ) (unordered : Bool) (t : ReliabilityType) (n : ℕ) (r : Result (Unit {0}) AssocError)
+  pub reliability_unset : (a b : S) (id : ℕ) (unordered : Bool) (t : ReliabilityType) (n : ℕ) (r : Result (Unit {0}) AssocError)
       → m.reliability_set a id unordered t n r b → IsUnset a → IsUnset b
   reliability_unset a b id unordered t n r h k = w.no_threshold a b (Stirred Other) (ReliabilitySet id unordered t n r h) refl k
 
@@ -72,6 +72,22 @@ module _ {S : Type 0} (m : AssociationMeaning S) (w : AssociationLaws m) where
 
   pub shut_unset : (a b : S) (r : Result (Unit {0}) AssocError) → m.shut a r b → IsUnset a → IsUnset b
   shut_unset a b r h k = w.no_threshold a b (Stirred Shut) (r, h) refl k
+
+  pub timed_unset : (a b : S) (now : ℕ) (r : Result (Unit {0}) AllocError) → m.timed a now r b → IsUnset a → IsUnset b
+  timed_unset a b now r h k = w.no_threshold a b (Stirred (Timed now)) (r, h) refl k
+
+  pub connect_unset : (a b : S) (now max : ℕ) (r : Result (Unit {0}) AssocError) → m.started a ≡ false → m.connected a now max r b → IsUnset a → IsUnset b
+  connect_unset a b now max (Ok done) before h k = w.no_threshold a b Started (before, ByConnect now max h) refl k
+  connect_unset a b now max (Err e) before h k = w.no_threshold a b (Stirred Other) (ConnectRefused now max e before h) refl k
+
+  pub accept_unset : (a b : S) (now max : ℕ) (r : Result (Unit {0}) AssocError) → m.started a ≡ false → m.accepted a now max r b → IsUnset a → IsUnset b
+  accept_unset a b now max (Ok done) before h k = w.no_threshold a b Started (before, ByAccept now max h) refl k
+  accept_unset a b now max (Err e) before h k = w.no_threshold a b (Stirred Other) (AcceptRefused now max e before h) refl k
+
+  pub snap_unset : (a b : S) (now max : ℕ) (local remote : List ℕ) (r : Result (Unit {0}) AssocError) → m.started a ≡ false
+      → m.connected_snap a now max local remote r b → IsUnset a → IsUnset b
+  snap_unset a b now max local remote (Ok done) before h k = w.no_threshold a b Started (before, BySnap now max local remote h) refl k
+  snap_unset a b now max local remote (Err e) before h k = w.no_threshold a b (Stirred Other) (SnapRefused now max local remote e before h) refl k
 
   -- ---- visits
 

@@ -7,12 +7,15 @@ use Rattle.rtc_part_media.specs.MediaMeaning.{held_media}
 use Rattle.rtc_sctp_entries.specs.declared.stream_entry.StreamEntry.{StreamEntry}
 use Rattle.rtc_sctp_entries.specs.Entries.{threshold_credit, unclosed}
 use Rattle.rtc_sctp.specs.Polls.{credits}
+use Rattle.rtc_peer_core.specs.declared.peer.Peer.{Peer}
 use Rattle.rtc_peer_core.specs.declared.phase.Phase.{Phase}
 use Rattle.rtc_peer_core.specs.declared.phase.Phase.TheVariants.{Alive, Closing, Closed}
 use Rattle.rtc_peer_core.specs.Meanings.{Meanings}
 use Rattle.rtc_peer_transport.specs.declared.handshake.Handshake.{Handshake}
 use Rattle.rtc_peer_transport.specs.declared.handshake.Handshake.TheVariants.{Pending, Finished, Told}
 use Rattle.rtc_peer_transport.specs.declared.output.Output.{Output}
+use Rattle.rtc_peer_transport.specs.declared.input.Input.{Input}
+use Rattle.rtc_peer_transport.specs.declared.input.Input.TheVariants as given
 use Rattle.rtc_peer_transport.specs.declared.output.Output.TheVariants.{Timeout, Transmit, Event}
 use Rattle.rtc_peer_transport.specs.declared.polled_peer.PolledPeer.{PolledPeer}
 use Rattle.rtc_peer_polling.specs.DtlsStages.{has_come}
@@ -55,6 +58,15 @@ FallsBy (Timeout moment) before after = after ≤ before
 FallsBy (Transmit transmit) before after = after < before
 FallsBy (Event event) before after = after < before
 
+-- a moment that a program can take
+abbrev pub IsMoment : ℕ → Type 0
+IsMoment moment = moment ≤ 2 ^ 64 - 1
+
+-- the moment of an input is one
+abbrev pub IsTimely : Input → Type 0
+IsTimely (given.Timeout now) = IsMoment now
+IsTimely (given.Receive now datagram) = IsMoment now
+
 module _ {I D S M E X T W N : Type 0} (m : Meanings I D S M E X T W N) where
   -- whether a moment of DTLS is due: that which the part asks for once it is drained, or that which the peer read last
   abbrev pub is_moment_due : PolledPeer I D S M N → Bool
@@ -87,10 +99,10 @@ module _ {I D S M E X T W N : Type 0} (m : Meanings I D S M E X T W N) where
       + 1
 
   -- no threshold stands at a stream and none is asked for, and the greatest moment that was taken is one
-  pub record HasNoThreshold (p : PolledPeer I D S M N) : Type 0 where
-    pub stands : m.association.has_threshold p.core.sctp.association ≡ false
-    pub asked : thresholds_asked p.core.sctp.entries ≡ 0
-    pub moment : p.core.greatest ≤ 2 ^ 64 - 1
+  pub record HasNoThreshold (p : Peer I D S M N) : Type 0 where
+    pub stands : m.association.has_threshold p.sctp.association ≡ false
+    pub asked : thresholds_asked p.sctp.entries ≡ 0
+    pub moment : IsMoment p.greatest
 
   -- polls one after the other, each of which puts out something
   abbrev pub PutsOut : List (Output E) → PolledPeer I D S M N → PolledPeer I D S M N → Type 0

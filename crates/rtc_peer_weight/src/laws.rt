@@ -1,9 +1,22 @@
-//! How outputs of polls lower the weight of a peer.
-ghost use Rattle.std.specs.Prelude.{◌<◌, List, length, Ok};
+//! How outputs of polls lower the weight of a peer, and what sets no threshold.
+ghost use Rattle.std.specs.Prelude.{◌<◌, ℕ, Bool, List, length, Ok};
+ghost use Rattle.std.specs.declared.alloc.Global.{Global};
+ghost use Rattle.rtc_sdp_values.specs.declared.sdp.Sdp.{Sdp};
+ghost use Rattle.rtc_config.specs.RtcConfig.{PeerConfig};
+ghost use Rattle.rtc_change.specs.PendingOffer.{PendingOffer};
+ghost use Rattle.rtc_peer_core.specs.declared.peer.Peer.{Peer};
+ghost use Rattle.rtc_peer_core.specs.Acceptances.{AcceptsAnswer, AcceptsOffer};
+ghost use Rattle.rtc_peer_core.specs.Built.{Builds};
+ghost use Rattle.rtc_peer_core.specs.Calls.{Applies};
 ghost use Rattle.rtc_peer_core.specs.Meanings.{meanings};
+ghost use Rattle.rtc_peer_core.specs.RollingBack.{RollsBack};
+ghost use Rattle.rtc_peer_transport.specs.declared.input.Input.{Input as Given};
 ghost use Rattle.rtc_peer_transport.specs.declared.polled_peer.PolledPeer.{PolledPeer as Polled};
+ghost use Rattle.rtc_peer_transport.specs.ChannelCalls.{ClosesDataChannel, WritesChannel};
+ghost use Rattle.rtc_peer_transport.specs.Closing.{ClosesPeer};
+ghost use Rattle.rtc_peer_polling.specs.Inputs.{HandlesInput};
 ghost use Rattle.rtc_peer_polling.specs.Walk.{PollsPeer};
-ghost use Rattle.rtc_peer_weight.specs.Weight.{FallsBy, HasNoThreshold, PutsOut, weight};
+ghost use Rattle.rtc_peer_weight.specs.Weight.{FallsBy, HasNoThreshold, IsMoment, IsTimely, PutsOut, weight};
 
 use rtc_part_association::Association;
 use rtc_part_dtls::DtlsInstance;
@@ -15,16 +28,62 @@ use rtc_part_values::Ids;
 /// raise it. So fewer outputs than its weight come before a timeout or an error, where nothing comes in between.
 pub fn outputs_lower_weight<I: IceAgent, D: DtlsInstance, S: Association, M: MediaSession, N: Ids>()
     ensures polls { (p q : Polled I D S M N) (output : _)
-        → HasNoThreshold (meanings I.ice D.dtls S.association M.media N.ids) p
+        → HasNoThreshold (meanings I.ice D.dtls S.association M.media N.ids) p.core
         → PollsPeer (meanings I.ice D.dtls S.association M.media N.ids) p (Ok output) q
         → FallsBy output (weight (meanings I.ice D.dtls S.association M.media N.ids) p)
         (weight (meanings I.ice D.dtls S.association M.media N.ids) q) }
     ensures thresholds { (p q : Polled I D S M N) (answer : _)
-        → HasNoThreshold (meanings I.ice D.dtls S.association M.media N.ids) p
+        → HasNoThreshold (meanings I.ice D.dtls S.association M.media N.ids) p.core
         → PollsPeer (meanings I.ice D.dtls S.association M.media N.ids) p answer q
-        → HasNoThreshold (meanings I.ice D.dtls S.association M.media N.ids) q }
+        → HasNoThreshold (meanings I.ice D.dtls S.association M.media N.ids) q.core }
     ensures drains { (p q : Polled I D S M N) (outputs : List _)
-        → HasNoThreshold (meanings I.ice D.dtls S.association M.media N.ids) p
+        → HasNoThreshold (meanings I.ice D.dtls S.association M.media N.ids) p.core
         → PutsOut (meanings I.ice D.dtls S.association M.media N.ids) outputs p q
         → length outputs < weight (meanings I.ice D.dtls S.association M.media N.ids) p }
+{}
+
+/// No threshold is set at a peer that was just built, and a call sets none but that which asks for one.
+pub fn other_calls_set_no_threshold<
+    I: IceAgent,
+    D: DtlsInstance,
+    S: Association,
+    M: MediaSession,
+    N: Ids,
+>()
+    ensures built { (alloc : Global) (config : PeerConfig) (start : ℕ) (ice : I) (dtls : D) (association : S) (media : M) (ids : N)
+        (p : Peer I D S M N) → IsMoment start → S.association.fresh association
+        → Builds (meanings I.ice D.dtls S.association M.media N.ids) alloc config start ice dtls association media ids p
+        → HasNoThreshold (meanings I.ice D.dtls S.association M.media N.ids) p }
+    ensures inputs { (p q : Polled I D S M N) (input : Given) (answer : _) → IsTimely input
+        → HasNoThreshold (meanings I.ice D.dtls S.association M.media N.ids) p.core
+        → HandlesInput (meanings I.ice D.dtls S.association M.media N.ids) input p answer q
+        → HasNoThreshold (meanings I.ice D.dtls S.association M.media N.ids) q.core }
+    ensures closes { (p q : Polled I D S M N) (answer : _)
+        → HasNoThreshold (meanings I.ice D.dtls S.association M.media N.ids) p.core
+        → ClosesPeer (meanings I.ice D.dtls S.association M.media N.ids) p answer q
+        → HasNoThreshold (meanings I.ice D.dtls S.association M.media N.ids) q.core }
+    ensures writes { (p q : Polled I D S M N) (stream : ℕ) (binary : Bool) (bytes : List ℕ) (answer : _)
+        → HasNoThreshold (meanings I.ice D.dtls S.association M.media N.ids) p.core
+        → WritesChannel (meanings I.ice D.dtls S.association M.media N.ids) stream binary bytes p answer q
+        → HasNoThreshold (meanings I.ice D.dtls S.association M.media N.ids) q.core }
+    ensures channel_closes { (p q : Polled I D S M N) (id : ℕ) (answer : _)
+        → HasNoThreshold (meanings I.ice D.dtls S.association M.media N.ids) p.core
+        → ClosesDataChannel (meanings I.ice D.dtls S.association M.media N.ids) id p answer q
+        → HasNoThreshold (meanings I.ice D.dtls S.association M.media N.ids) q.core }
+    ensures offers { (p q : Peer I D S M N) (offer : Sdp) (answer : _)
+        → HasNoThreshold (meanings I.ice D.dtls S.association M.media N.ids) p
+        → AcceptsOffer (meanings I.ice D.dtls S.association M.media N.ids) p offer answer q
+        → HasNoThreshold (meanings I.ice D.dtls S.association M.media N.ids) q }
+    ensures answers { (p q : Peer I D S M N) (token : PendingOffer) (answer : Sdp) (result : _)
+        → HasNoThreshold (meanings I.ice D.dtls S.association M.media N.ids) p
+        → AcceptsAnswer (meanings I.ice D.dtls S.association M.media N.ids) p token answer result q
+        → HasNoThreshold (meanings I.ice D.dtls S.association M.media N.ids) q }
+    ensures applies { (p q : Peer I D S M N) (answer : _)
+        → HasNoThreshold (meanings I.ice D.dtls S.association M.media N.ids) p
+        → Applies (meanings I.ice D.dtls S.association M.media N.ids) p answer q
+        → HasNoThreshold (meanings I.ice D.dtls S.association M.media N.ids) q }
+    ensures rollbacks { (p q : Peer I D S M N) (token : PendingOffer) (answer : _)
+        → HasNoThreshold (meanings I.ice D.dtls S.association M.media N.ids) p
+        → RollsBack p token answer q
+        → HasNoThreshold (meanings I.ice D.dtls S.association M.media N.ids) q }
 {}

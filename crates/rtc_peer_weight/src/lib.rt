@@ -3,4 +3,4 @@
 
 mod laws;
 
-pub use laws::outputs_lower_weight;
+pub use laws::{other_calls_set_no_threshold, outputs_lower_weight};

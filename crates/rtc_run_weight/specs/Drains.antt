@@ -1,0 +1,32 @@
+-- That a drain shows at most as many outputs as its peer weighs before it.
+use Rattle.std.specs.Prelude.{◌≤◌, List, [], ◌∷◌, length}
+use Rattle.rtc_peer_core.specs.Meanings.{Meanings}
+use Rattle.rtc_peer_weight.specs.Weight.{HasNoThreshold, IsMoment, weight}
+use Rattle.rtc_run_history.specs.declared.side.Side.{Side}
+use Rattle.rtc_run_history.specs.declared.step.Step.{Step}
+use Rattle.rtc_run_history.specs.declared.step.Step.TheVariants.{Time, Datagram, Drain}
+use Rattle.rtc_run_history.specs.declared.step.Step.TheVariants.{Raw}
+use Rattle.rtc_run_history.specs.declared.outcome.Outcome.{Outcome}
+use Rattle.rtc_run_history.specs.declared.outcome.Outcome.TheVariants.{Polled}
+use Rattle.rtc_run_history.specs.PairState.{PairState, peer_at, rtc_at}
+
+-- the moment of a step, if it has one, is a moment
+abbrev pub HasMoment : Step → Type 0
+HasMoment (Time at now) = IsMoment now
+HasMoment (Datagram at packet now) = IsMoment now
+HasMoment (Raw at bytes now) = IsMoment now
+HasMoment step = Unit {0}
+
+abbrev pub HaveMoments : List Step → Type 0
+HaveMoments [] = Unit {0}
+HaveMoments (step ∷ steps) = HasMoment step × HaveMoments steps
+
+module _ {I D S M E X T W N : Type 0} (m : Meanings I D S M E X T W N) where
+  -- no threshold is set at a stream of either side
+  abbrev pub HasNoThresholds : PairState I D S M N → Type 0
+  HasNoThresholds pair = (at : Side) → HasNoThreshold m (peer_at at pair)
+
+  -- the outputs that a drain shows are at most as many as the weight of its peer before it
+  abbrev pub ShowsWithin : PairState I D S M N → Step → Outcome E → Type 0
+  ShowsWithin between (Drain at) (Polled outputs end) = length outputs ≤ weight m (rtc_at at between)
+  ShowsWithin between step outcome = Unit {0}
