@@ -1,6 +1,6 @@
 #!/usr/bin/env python3
-"""Writes docs/api/ from the sources: a page for each library crate, with its public types, calls, doc comments, conditions and
-clauses as they stand in the sources.
+"""Writes docs/api/ from the sources: a page for each library crate, with its public types, what they derive and implement, its calls,
+doc comments, conditions and clauses as they stand in the sources.
 
 usage: tests/api_pages.py [--check]     with --check nothing is written, and the status tells whether the pages are current
 """
@@ -129,8 +129,42 @@ def items_of(path):
         yield owner if item[1] else None, item[3], item[4], comment_before(lines, at), declaration(lines, at, item[3])
 
 
+# What each type of a text derives.
+def derived(text):
+    for traits, name in re.findall(r"^#\[derive\(([^)]*)\)\]\n(?:#\[.*\]\n|//.*\n)*pub (?:struct|enum) (\w+)", text, re.M):
+        yield name, [trait.strip() for trait in traits.split(",") if trait.strip()]
+
+
+# What each type of a text implements by hand: traits, with the types that they are of. What contracts see of a type is no trait.
+def implemented(text):
+    for head in re.findall(r"^impl\b([^{;]*)\{", text, re.M):
+        depth, start = 0, 0
+        for place, letter in enumerate(head):
+            depth += (letter == "<") - (letter == ">" and head[place - 1] not in "-=")
+            if depth == 0 and letter in "> ":
+                start = place + 1
+                break
+        found = re.match(r"\s*([\w:]+(?:<[^{]*?>)?)\s+for\s+(\w+)", head[start:])
+        if found and found[1] != "Model":
+            yield found[2], re.sub(r"\s+", " ", found[1])
+
+
+# The traits of each type of a crate, as a line of its page.
+def traits_of(crate):
+    derives, impls = {}, {}
+    for text in map(read, sources(crate)):
+        for name, traits in derived(text):
+            derives.setdefault(name, []).extend(traits)
+        for name, trait in implemented(text):
+            impls.setdefault(name, []).append(trait)
+    for name in set(derives) | set(impls):
+        found = [(word, there[name]) for word, there in (("Derives", derives), ("Implements", impls)) if name in there]
+        yield name, " ".join(f"{word} {', '.join(f'`{trait}`' for trait in sorted(set(traits)))}." for word, traits in found)
+
+
 def page(crate):
     own, others = passed_on(crate)
+    traits = dict(traits_of(crate))
     modules = set(re.findall(r"^pub mod (\w+)", read(os.path.join(TOP, "crates", crate, "src", "lib.rt")), re.M))
     entries, calls = [], {}
     for path in sources(crate):
@@ -144,6 +178,7 @@ def page(crate):
     out = [f"# {crate}", "", intro, "", f"What is proved of it: [its README](../../crates/{crate}/README.md)."]
     for name, kind, told, text in sorted(entries, key=lambda entry: (entry[1] == "fn", entry[0].lower())):
         out += ["", f"## `{name}`", "", *([told, ""] if told else []), fenced(shown(text, kind))]
+        out += ["", traits[name]] if kind in ("struct", "enum") and name in traits else []
         for call, says, contract in calls.get(name, []):
             out += ["", f"### `{name}::{call}`", "", *([says, ""] if says else []), fenced(contract)]
     if others:

@@ -1,7 +1,7 @@
 #!/usr/bin/env python3
 """Compares the code of README.md and docs/GUIDE.md with files that the gate or tests/run runs. The link before a block of code names
-its file: each piece of the block, which blank lines or `..` part, stands in it, line by line, without regard to indentation. A block of Rust
-has such a link; another one is compared if the text before it ends with one and a colon.
+its file: each piece of the block, which blank lines or `..` part, stands in it, line by line, without regard to indentation. A block
+of Rust has such a link; another one is compared if the text before it ends with one and a colon.
 
 usage: tests/snippets.py --check     the status tells whether all of it is so
 """

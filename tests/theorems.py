@@ -1,7 +1,8 @@
 #!/usr/bin/env python3
 """Compares docs/THEOREMS.md with the sources: each quotation is in the file that it names; each word of a quotation has a row, and
 each word that a row rests on is in the definition of its word; each clause is one of its call. A theorem quotes at most ten lines.
-Of docs/GUARANTEES.md each call, clause and definition that it links is in the file that the link leads to.
+Of docs/GUARANTEES.md each call, clause and definition that it links is in the file that the link leads to, and of docs/STANDARDS.md
+each definition.
 
 usage: tests/theorems.py --check     the status tells whether all of it is so
 """
@@ -12,6 +13,7 @@ import sys
 TOP = os.path.dirname(os.path.dirname(os.path.abspath(__file__)))
 PAGE = os.path.join(TOP, "docs", "THEOREMS.md")
 CLAIMS = os.path.join(TOP, "docs", "GUARANTEES.md")
+STANDARDS = os.path.join(TOP, "docs", "STANDARDS.md")
 LINES = 10
 LINK = r"\[`(\w+)`\]\(([^)#]+)\)"
 
@@ -100,18 +102,25 @@ def faults(text):
             yield f"{call} has no clause {clause} in {target}"
 
 
-# What of the claims is not as the sources have it.
-def false_claims(text):
-    calls = re.findall(r"(?:`(\w+)` of )?\[`(?:\w+::)?(\w+)`\]\(([^)#]+\.rt)\)", text)
+# What of the definitions that a text links is not as the sources have it.
+def false_definitions(text):
     definitions = re.findall(r"\[`(\w+)`\]\(([^)#]+\.antt)\)", text)
-    if not calls or not definitions:
-        yield "no call or no definition is linked"
-    for clause, call, target in calls:
-        if not has_clause(target, call, clause):
-            yield f"{call} in {target} has not the clause {clause or 'of a call'}"
+    if not definitions:
+        yield "no definition is linked"
     for word, target in definitions:
         if not definition(target, word):
             yield f"{word} is not defined in {target}"
+
+
+# What of the claims is not as the sources have it.
+def false_claims(text):
+    calls = re.findall(r"(?:`(\w+)` of )?\[`(?:\w+::)?(\w+)`\]\(([^)#]+\.rt)\)", text)
+    if not calls:
+        yield "no call is linked"
+    for clause, call, target in calls:
+        if not has_clause(target, call, clause):
+            yield f"{call} in {target} has not the clause {clause or 'of a call'}"
+    yield from false_definitions(text)
 
 
 def main():
@@ -121,6 +130,8 @@ def main():
         found = [(heading, fault) for heading, text in theorems(file.read()) for fault in faults(text)]
     with open(CLAIMS, encoding="utf-8") as file:
         found += [("docs/GUARANTEES.md", fault) for fault in false_claims(file.read())]
+    with open(STANDARDS, encoding="utf-8") as file:
+        found += [("docs/STANDARDS.md", fault) for fault in false_definitions(file.read())]
     for heading, fault in found:
         print(f"WRONG {heading}: {fault}")
     return 1 if found else 0
