@@ -16,11 +16,11 @@ class Unwritten(Exception):
     pass
 
 
-# What a side is set to: how many bytes may be buffered, the longest message that it takes, where 0 stands for any length, and whether its
-# association may be started by descriptions.
+# What a side is set to: how many bytes may be buffered, the longest message that it takes, where 0 stands for any length, whether its
+# association may be started by descriptions, and whether it is the polite one where two offers cross, if it has a role.
 class Sizes:
-    def __init__(self, buffered=131072, longest=262144, snap=False):
-        self.buffered, self.longest, self.snap = buffered, longest, snap
+    def __init__(self, buffered=131072, longest=262144, snap=False, polite=None):
+        self.buffered, self.longest, self.snap, self.polite = buffered, longest, snap, polite
 
 
 # A packet of the association: what it says, and how many bytes it has.
@@ -187,6 +187,23 @@ def open_message(label):
     return bytes([3, 0, 0, 0, 0, 0, 0, 0]) + len(label).to_bytes(2, "big") + bytes(2) + label
 
 
+def is_utf8(content):
+    try:
+        content.decode()
+    except UnicodeDecodeError:
+        return False
+    return True
+
+
+# The label of an open message, if bytes begin with one (RFC 8832, section 5.1).
+def opened_label(message):
+    if len(message) < 12 or message[0] != 3:
+        return None
+    label, protocol = int.from_bytes(message[8:10], "big"), int.from_bytes(message[10:12], "big")
+    texts = message[12:12 + label], message[12 + label:12 + label + protocol]
+    return texts[0] if len(message) >= 12 + label + protocol and all(map(is_utf8, texts)) else None
+
+
 # A stream in use: what it waits for, its label, and when its opening was refused first.
 class Entry:
     def __init__(self, state, label):
@@ -341,14 +358,18 @@ class Streams:
         entry.state = "closed"
         return "closed", (number, number in self.resets)
 
+    # A message of an unknown kind, and one of data channels that is malformed or not expected, ends the stream.
     def read(self, number, entry, kind, message):
-        if kind != OPENING:
+        if kind in ("no text", "no binary"):
+            kind, message = kind[3:], b""
+        if kind in ("text", "binary"):
             return "message", (number, kind, message)
-        if entry.state == "await ack" and message == ACKNOWLEDGEMENT:
+        if kind == OPENING and entry.state == "await ack" and message[:1] == ACKNOWLEDGEMENT:
             entry.state = "open"
             return "opened", (number, entry.label)
-        if entry.state == "await config" and message[:1] == b"\x03":
-            entry.label = message[12:]
+        label = opened_label(message) if kind == OPENING and entry.state == "await config" else None
+        if label is not None:
+            entry.label = label
             if not self.association.write(number, ACKNOWLEDGEMENT):
                 return self.end(number, entry)
             entry.state = "open"
@@ -360,7 +381,7 @@ class Streams:
 # A channel waits for a stream, and then, once it is confirmed with a label, to be opened.
 class Channel:
     def __init__(self, number, stream=None):
-        self.number, self.stream, self.label = number, stream, None
+        self.number, self.stream, self.label, self.confirmed = number, stream, None, False
 
 
 class Channels:
@@ -375,7 +396,11 @@ class Channels:
     def confirm(self, number, label):
         for row in self.rows:
             if row.number == number:
-                row.label = label
+                row.label, row.confirmed = label, True
+
+    # A channel that was never confirmed goes, and its stream can be given again at once.
+    def cancel(self, number):
+        self.rows = [row for row in self.rows if row.number != number or row.confirmed]
 
     def of_stream(self, stream):
         return next((row for row in self.rows if row.stream == stream), None)

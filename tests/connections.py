@@ -40,7 +40,7 @@ class Ice:
         self.queue.append(self.message("check", self.checks, self.remote))
 
     def take(self, said):
-        kind, number, receiver, sender = said
+        kind, number, receiver, sender = said or (None, None, None, None)
         if kind == "check" and receiver == self.ufrag:
             self.queue.append(self.message("response", number, sender))
         elif kind == "response" and self.due is not None and number == self.checks:
@@ -166,8 +166,8 @@ class Connection:
     def take(self, datagram, now):
         if self.phase == "closed":
             return
-        if datagram.part == "media":
-            self.media.events.append(f"media rtcp {datagram.length}")
+        if datagram.part in ("media", "rtp"):
+            self.media.events.append(f"media {'rtcp' if datagram.part == 'media' else 'rtp'} {datagram.length}")
         else:
             {"ice": self.ice, "dtls": self.dtls}[datagram.part].take(datagram.said)
         self.take_moment(now)

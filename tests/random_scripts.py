@@ -12,8 +12,10 @@ import random
 import subprocess
 import sys
 
-from associations import Sizes, Unwritten
+from associations import Sizes, Unwritten, open_message
 from connections import FAR_FUTURE, SECOND, Connection
+from datagram_bytes import NoDatagram, data_bytes, datagram_bytes, read_datagram
+from foreign_texts import foreign_text
 
 INVERSE = {"sendrecv": "sendrecv", "sendonly": "recvonly", "recvonly": "sendonly", "inactive": "inactive"}
 DIRECTIONS = list(INVERSE)
@@ -49,6 +51,7 @@ class Peer:
     def __init__(self, first, sizes):
         self.sizes = sizes
         self.next, self.rows, self.staged, self.counter, self.sources = first, [], [], 0, {}
+        self.undo, self.awaits = [], False  # rows as they were before ops changed them; whether an offer awaits its answer
         self.draw()  # the number of the session
         self.ufrag = f"u{self.draw():016x}"
         self.connection = Connection(self.ufrag, sizes)
@@ -103,6 +106,8 @@ class Peer:
         row = self.rows[place]
         if row.stopped or (not stop and row.direction == direction):
             return "false"
+        if row.mid not in [mid for mid, _, _ in self.undo]:
+            self.undo.append((row.mid, row.direction, row.stopped))
         row.direction, row.stopped = direction, stop
         self.staged.append(("direction", None, None))
         return "true"
@@ -145,16 +150,29 @@ class Peer:
     def apply(self):
         if not self.staged:
             return None
-        staged, counter = self.staged, self.counter
-        self.counter, self.staged = counter + 1, []
+        staged, counter, undo = self.staged, self.counter, self.undo
+        self.counter, self.staged, self.undo, self.awaits = counter + 1, [], [], False
         channels = [(number, label) for what, number, label in staged if what == "channel"]
         if len(channels) == len(staged):
             self.confirm(channels)
             return None
         added = [(row, sources) for what, row, sources in staged if what == "line"]
         text = [row.copy() for row in self.rows] + [row.copy() for row, _ in added]
-        chunk = self.offered_chunk(text)
-        return text, chunk, (counter, added, channels, chunk is not None)
+        chunk, self.awaits = self.offered_chunk(text), True
+        return text, chunk, (counter, added, channels, chunk is not None, undo)
+
+    # The rows that were set or stopped for an offer are as they were, and the channels that were added with it and never confirmed go.
+    def roll_back(self, token):
+        self.staged, self.undo = [], []
+        if self.counter != token[0] + 1:
+            raise Refused("7 Changes made out of order")
+        self.counter, self.awaits = self.counter + 1, False
+        for mid, direction, stopped in token[4]:
+            for row in self.rows:
+                if row.mid == mid:
+                    row.direction, row.stopped = direction, stopped
+        for number, _ in token[2]:
+            self.connection.channels.cancel(number)
 
     def confirm(self, channels):
         for number, label in channels:
@@ -167,6 +185,8 @@ class Peer:
     def judge(self, text, offer):
         if all(line.stopped for line in text):
             raise Refused("2 BUNDLE group is empty")
+        if len({line.mid for line in text}) < len(text):
+            raise Refused("2 mid is repeated")
         new, apps = [], [place for place, row in enumerate(self.rows) if row.kind == "app"]
         for place, line in enumerate(text):
             found = [i for i, row in enumerate(self.rows) if row.mid == line.mid]
@@ -237,20 +257,36 @@ class Peer:
         self.connection.media.update(list(zip([row.copy() for row in after], before)), offer)
         self.rows = after + self.rows[len(text):]
 
-    # An offer leaves the choice of the role, and this side then waits for the handshake. The answer, and the chunk that it tells.
-    def accept_offer(self, text, chunk, other):
-        self.staged, self.counter = [], self.counter + 1
+    # An impolite side refuses an offer that collides with one of its own, which awaits its answer.
+    def judge_collision(self):
+        if self.sizes.polite is False and self.awaits:
+            raise Refused("10 offer collides with a pending offer")
+
+    # Credentials stand in the lines of a text.
+    def judge_lines(self, text, offer):
+        if not text:
+            raise Refused(f"1 remote sdp: {'No m-lines in offer' if offer else 'missing a=ice-ufrag/pwd'}")
+
+    # An offer of the other side leaves the choice of the role, and this side then waits for the handshake. The answer, and the chunk that
+    # it tells.
+    def accept_offer(self, text, chunk, other, active=False):
+        self.staged, self.undo = [], []
+        self.judge_collision()
+        self.counter, self.awaits = self.counter + 1, False
+        self.judge_lines(text, True)
         self.judge_chunk(chunk)
         new = self.judge(text, True)
         self.take(text, True, new, [])
-        self.follow(other, False, chunk)
+        self.follow(other, active, chunk)
         return [row.copy() for row in self.rows], self.begun.own if self.begun else None
 
     # A chunk is taken from an answer where its offer told one too; an answer that tells none lets what is pending go.
     def accept_answer(self, token, text, chunk, other, active):
-        self.staged = []
+        self.staged, self.undo = [], []
         if self.counter != token[0] + 1:
             raise Refused("7 Changes made out of order")
+        self.awaits = False
+        self.judge_lines(text, False)
         self.judge_chunk(chunk)
         new = self.judge(text, False)
         self.judge_new(text, new, token[1])
@@ -263,19 +299,21 @@ class Peer:
 
 
 class Pair:
-    # `settings` are words behind a side, of which the last one counts; `snap` has no number.
+    # `settings` are words behind a side, of which the last one counts; `snap` and the roles have no number.
     def __init__(self, settings=()):
         sizes = {"L": Sizes(), "R": Sizes()}
         for at, name, *number in settings:
-            setattr(sizes[at], {"buffer": "buffered", "maxmsg": "longest", "snap": "snap"}[name], number[0] if number else True)
+            kept = {"buffer": "buffered", "maxmsg": "longest", "snap": "snap", "polite": "polite", "impolite": "polite"}[name]
+            setattr(sizes[at], kept, number[0] if number else name != "impolite")
         self.settings = [" ".join(["set", at, name, *map(str, number)]) for at, name, *number in settings]
         self.peers = {"L": Peer(1, sizes["L"]), "R": Peer(1000001, sizes["R"])}
         self.texts, self.tokens, self.lines, self.report = [], {}, [], ""
+        self.foreign = {}  # by the words of foreign texts: their rows, their setup, or the line that refuses them
         self.datagrams = []
 
     def perform_ops(self, at, verb, words):
         peer = self.peers[at]
-        peer.staged, answers = [], []
+        peer.staged, peer.undo, answers = [], [], []
         for word in words:
             parts = word.split(":")
             if parts[0] == "dir":
@@ -308,6 +346,40 @@ class Pair:
         self.texts.append((at, False, answer, chunk, peer.connection.dtls.active))
         return f"answered {len(self.texts) - 1}"
 
+    # A text in the name of the other side, which did not make it, or one that is damaged at this line, or before it where the line parts
+    # would be others without it.
+    def write_foreign(self, at, rows, setup, damaged=None):
+        other = self.peers[OTHER[at]]
+        lines = foreign_text(OTHER[at], other.ufrag, other.sizes.longest, rows, setup)
+        if damaged is not None:
+            damaged = min(damaged, len(lines) - 1)
+            while lines[damaged].startswith(("m=", "a=mid:")):
+                damaged -= 1
+            lines[damaged] = "?" + lines[damaged]
+        word = "".join(f"{line}\r\n" for line in lines).encode().hex()
+        self.foreign[word] = rows, setup, None if damaged is None else damaged + 1
+        return word
+
+    def read_foreign(self, word):
+        rows, setup, refused = self.foreign[word]
+        if refused is not None:
+            raise Refused(f"2 SDP parse error at line {refused}")
+        return [row.copy() for row in rows], setup == "passive"
+
+    def hand_foreign_offer(self, at, word):
+        rows, active = self.read_foreign(word)
+        peer = self.peers[at]
+        answer, chunk = peer.accept_offer(rows, None, self.peers[OTHER[at]], active)
+        self.texts.append((at, False, answer, chunk, peer.connection.dtls.active))
+        return f"answered {len(self.texts) - 1}"
+
+    def hand_foreign_answer(self, at, token, word):
+        if self.tokens.get(token, (None,))[0] != at:
+            return "nosuch"
+        rows, active = self.read_foreign(word)
+        self.peers[at].accept_answer(self.tokens.pop(token)[1], rows, None, self.peers[OTHER[at]], active)
+        return "finished"
+
     def hand_answer(self, at, token, number):
         text = self.text_for(at, False, number)
         if text is None or self.tokens.get(token, (None,))[0] != at:
@@ -316,10 +388,25 @@ class Pair:
         self.peers[at].accept_answer(self.tokens.pop(token)[1], rows, chunk, self.peers[OTHER[at]], not active)
         return "finished"
 
+    def roll_back(self, at, number):
+        if self.tokens.get(number, (None,))[0] != at:
+            return "nosuch"
+        self.peers[at].roll_back(self.tokens.pop(number)[1])
+        return "done"
+
     def hand_datagram(self, at, number, now):
         if number >= len(self.datagrams) or self.datagrams[number][0] == at:
             return "nosuch"
         self.peers[at].connection.take(self.datagrams[number][1], now)
+        return "done"
+
+    # Bytes of anybody, which come from the address of the other side.
+    def hand_raw(self, at, now, word):
+        try:
+            datagram = read_datagram(b"" if word == "-" else bytes.fromhex(word))
+        except NoDatagram as cause:
+            return f"refused 3 {cause}"
+        self.peers[at].connection.take(datagram, now)
         return "done"
 
     def write(self, at, number, kind, word):
@@ -366,6 +453,14 @@ class Pair:
             return self.hand_offer(at, int(words[0]))
         if verb == "answer":
             return self.hand_answer(at, int(words[0]), int(words[1]))
+        if verb == "foreignoffer":
+            return self.hand_foreign_offer(at, words[0])
+        if verb == "foreignanswer":
+            return self.hand_foreign_answer(at, int(words[0]), words[1])
+        if verb == "raw":
+            return self.hand_raw(at, int(words[0]), words[1])
+        if verb == "rollback":
+            return self.roll_back(at, int(words[0]))
         if verb == "datagram":
             return self.hand_datagram(at, int(words[0]), int(words[1]))
         if verb in ("poll", "drain"):
@@ -401,13 +496,14 @@ class Pair:
         self.lines.append(line)
 
 
-# None, or some, among them sizes that an open message or its acknowledgement just fits, and the greatest ones, and starts of the
-# association by descriptions at both sides or at one.
+# None, or some, among them sizes that an open message or its acknowledgement just fits, and the greatest ones, starts of the association
+# by descriptions at both sides or at one, and roles, for the most part one of each.
 def random_settings(chance):
     sizes = {"buffer": [0, 1, 13, 100, 5000, 131072, 10**9], "maxmsg": [0, 1, 12, 13, 16, 1034, 1035, 20000, 262144, 2**32 - 1]}
     names = chance.choices(list(sizes), k=chance.choice([0, 0, 1, 1, 2, 3]))
     told = chance.choice(["", "", "LR", "LR", "L", "R"])
-    return [(chance.choice("LR"), name, chance.choice(sizes[name])) for name in names] + [(at, "snap") for at in told]
+    roles = chance.choice([[], [("L", "polite"), ("R", "impolite")], [("L", "impolite"), ("R", "polite")], [("L", "impolite")], [("R", "polite")]])
+    return [(chance.choice("LR"), name, chance.choice(sizes[name])) for name in names] + [(at, "snap") for at in told] + roles
 
 
 # A label, now and then the longest one or one that is too long.
@@ -444,6 +540,20 @@ def random_round(chance, pair, at):
         negotiate(chance, pair, chance.choice("LR"), "stage")
     if len(pair.texts) > answer and chance.random() < 0.9:
         pair.perform(f"{at} answer {offer} {answer}")
+
+
+# Both sides offer, and each may be handed the offer of the other one, roll its own back, or take an answer, in any order.
+def random_crossing(chance, pair):
+    offers = {}
+    for at in chance.sample("LR", 2):
+        offers[at] = len(pair.texts)
+        negotiate(chance, pair, at, "offer")
+    first = len(pair.texts)
+    for _ in range(chance.randint(2, 7)):
+        at = chance.choice("LR")
+        answers = list(range(first, len(pair.texts))) or [first]
+        steps = [f"accept {offers[OTHER[at]]}", f"rollback {offers[at]}", f"answer {offers[at]} {chance.choice(answers)}"]
+        pair.perform(f"{at} {chance.choices(steps, [3, 2, 2])[0]}")
 
 
 # A moment that a side may be given: that which was given before, a little later, or any.
@@ -505,7 +615,75 @@ def connect(chance, pair, at):
     pair.perform(f"{at} {chance.choices(steps, [3, 3, 4, 3, 2])[0]}")
 
 
-def random_pair(chance):
+# The rows of a side as a text might say them: as they are, or with a row that is new, gone, moved, changed or stopped.
+def foreign_rows(chance, pair, at):
+    rows = [row.copy() for row in pair.peers[at].rows]
+    for _ in range(chance.choice([0, 1, 1, 2])):
+        place, kind = chance.randrange(len(rows) + 1), chance.choice(["audio", "video", "app"])
+        change = chance.choice(["new", "new", "gone", "moved", "direction", "stopped"])
+        if change == "new":
+            rows.append(Row(f"f{chance.randrange(4)}", kind, None if kind == "app" else chance.choice(DIRECTIONS)))
+        elif place < len(rows) and change == "gone":
+            rows.pop(place)
+        elif place < len(rows) and change == "moved":
+            rows.append(rows.pop(place))
+        elif place < len(rows) and rows[place].kind != "app":
+            rows[place].direction, rows[place].stopped = chance.choice(DIRECTIONS), change == "stopped"
+    return rows
+
+
+# An offer or an answer that the other side did not make; some can not be read.
+def random_foreign(chance, pair, at):
+    damaged = chance.randrange(40) if chance.random() < 0.1 else None
+    offer = chance.random() < 0.6
+    rows = foreign_rows(chance, pair, chance.choice([at, OTHER[at]]))
+    if not offer and chance.random() < 0.7 and pair.tokens:
+        token = chance.choice(list(pair.tokens))
+        at = pair.tokens[token][0]
+        rows = [row.copy() for row in pair.texts[token][2]] if chance.random() < 0.7 else rows
+    word = pair.write_foreign(at, rows, chance.choice(["actpass", "active", "passive"]) if offer else chance.choice(["active", "passive"]), damaged)
+    if offer:
+        pair.perform(f"{at} foreignoffer {word}")
+    else:
+        pair.perform(f"{at} foreignanswer {chance.choice(list(pair.tokens) or [0])} {word}")
+
+
+# Bytes that are of no kind, or that say nothing to the part of their kind, or that media reports.
+STRAY = ["-", "05", "40616263", "c0ffee", "8000", "14616263", "1604", "160300", "150100", "15", "17", "170600", "1701ff", "800000", "80c80000",
+         "00" * 19, "00" * 20, "0001000021", "000100002112a442" + "00" * 12, "000100022112a442" + "00" * 14, "0200" + "00" * 18]
+MESSAGES = [b"", b"hi", b"\2", b"\2\2", b"\3", b"\4", open_message(b"a"), open_message(b"abc")[:-1], open_message(b"\xff"), open_message(b"") + b"x"]
+
+
+# A packet of the association that nobody sent, for the most part with the next number.
+def forged_packet(chance, association):
+    generation = chance.choices([0, 1, chance.randrange(2**32)], [20, 3, 1])[0]
+    stream = chance.choices([chance.randrange(6), 65535], [30, 1])[0]
+    number = chance.choices([association.received + 1, chance.randrange(9), chance.randrange(2**64)], [20, 2, 1])[0]
+    told = chance.choices([association.acknowledged, association.acknowledged + chance.randrange(4), chance.randrange(2**64)], [20, 2, 1])[0]
+    kind, part = chance.choice([50, 50, 51, 53, 56, 57, 52, 0]), chance.choices([0, 1, 2], [1, 8, 1])[0]
+    data = data_bytes(told, number, stream, generation, part, kind, chance.choice(MESSAGES))
+    others = [b"\1", b"\2", b"\5", b"\4" + told.to_bytes(8, "big"), data[:27], data[:23] + b"\3" + data[24:]]
+    return chance.choices([data, *others], [30, 2, 2, 1, 4, 1, 1])[0]
+
+
+# Copies of datagrams, which either side may have sent, and some of them cut; stray bytes; and forged packets.
+def random_raw(chance, pair, at):
+    now, kind = random_moment(chance, pair), chance.random()
+    if kind < 0.4 and pair.datagrams:
+        sender, datagram = chance.choice(pair.datagrams)
+        content = datagram_bytes(sender, datagram)
+        if content[:1] != b"\x16" and chance.random() < 0.2:
+            content = content[:chance.randrange(len(content))] if chance.random() < 0.7 else content + b"\0"
+        word = content.hex() or "-"
+    elif kind < 0.7:
+        word = chance.choice(STRAY)
+    else:
+        word = "17" + forged_packet(chance, pair.peers[at].connection.streams.association).hex()
+    pair.perform(f"{at} raw {now} {word}")
+
+
+# `raw` says how likely steps are that give bytes of anybody, and `foreign` those that give texts of anybody.
+def random_pair(chance, raw=0.0, foreign=0.0):
     pair = Pair(random_settings(chance))
     length = chance.randint(6, 100)
     if chance.random() < 0.3:
@@ -513,9 +691,15 @@ def random_pair(chance):
         length += len(pair.lines)
     while len(pair.lines) < length:
         at, texts = chance.choice("LR"), len(pair.texts)
+        while chance.random() < raw:
+            random_raw(chance, pair, at)
+        if chance.random() < foreign:
+            random_foreign(chance, pair, at)
         kind = chance.random()
-        if kind < 0.35:
+        if kind < 0.28:
             random_round(chance, pair, at)
+        elif kind < 0.35:
+            random_crossing(chance, pair)
         elif kind < 0.6:
             random_exchange(chance, pair)
         elif kind < 0.65:
@@ -524,7 +708,9 @@ def random_pair(chance):
             use_channel(chance, pair, at)
         elif kind < 0.8:
             negotiate(chance, pair, at, chance.choice(["offer", "stage"]))
-        elif kind < 0.9:
+        elif kind < 0.84:
+            pair.perform(f"{at} rollback {chance.randint(0, texts)}")
+        elif kind < 0.92:
             pair.perform(f"{at} accept {chance.randint(0, texts)}")
         else:
             pair.perform(f"{at} answer {chance.randint(0, texts)} {chance.randint(0, texts)}")
@@ -537,7 +723,7 @@ def main():
     count = int(sys.argv[3]) if len(sys.argv) > 3 else 300
     wrong = 0
     for number in range(count):
-        pair = random_pair(chance)
+        pair = random_pair(chance, chance.choice([0, 0, 0.3]), chance.choice([0, 0, 0.2]))
         script = pair.script()
         done = subprocess.run([program, "run"], input=script.encode(), capture_output=True, timeout=60)
         if (done.returncode, done.stdout.decode()) != (0, pair.report):

@@ -1,6 +1,7 @@
 -- Scripts that were run on the pair of the program.
 use Rattle.std.proofs.Common.{◌≡◌, ◌⊎◌, inl, inr, ℕ, Bool, List, Option, Result, Ok, Err, IfOk, sym, subst}
 use Rattle.std.specs.declared.alloc.Global.{Global}
+use Rattle.rtc_run_crossed.specs.Crossed.{CrossedOffersMeet}
 use Rattle.rtc_run_laws.proofs.DrainedRuns.{run_hands_out}
 use Rattle.rtc_run_laws.proofs.SettlesRuns.{run_settles_open}
 use Rattle.rtc_run_plain.proofs.PlainFaults.{plain_unfaulted}
@@ -38,8 +39,8 @@ pub ran_joined : {E : Type 0} (alloc : Global) (script : Script) (start pair : P
     (result : Result (PlainPairState × List (Reply PlainMediaEvent)) E) → IfOk result (λ joined. (joined.0 ≡ pair) × (replies ≡ Ok joined.1))
     → IsPairOf alloc script start → ArePeersFormed plain_parts start → IfOk replies (λ told. Runs plain_parts is_ice_message start script.steps told pair)
     → IfOk replies (λ told. AllReadBack pair.sdps) → (HaveNoLines plain_parts start → IfOk replies (KnowPlain script.steps start pair))
-    → IfOk result (λ ran. RanScript alloc script ran.1 ran.0)
-ran_joined {E = E} alloc script start pair replies (Ok (kept, told)) (kept_is, told_is) program formed runs read_back plain =
+    → CrossedOffersMeet plain_parts is_ice_message start → IfOk result (λ ran. RanScript alloc script ran.1 ran.0)
+ran_joined {E = E} alloc script start pair replies (Ok (kept, told)) (kept_is, told_is) program formed runs read_back plain crossed =
     let Q : Result (List (Reply PlainMediaEvent)) E → Type 0 = λ (r : Result (List (Reply PlainMediaEvent)) E). IfOk r (λ told. Runs plain_parts is_ice_message start script.steps told pair) in
     let U : Result (List (Reply PlainMediaEvent)) E → Type 0 = λ (r : Result (List (Reply PlainMediaEvent)) E). IfOk r (λ told. AllReadBack pair.sdps) in
     let V : Result (List (Reply PlainMediaEvent)) E → Type 0 = λ (r : Result (List (Reply PlainMediaEvent)) E). IfOk r (KnowPlain script.steps start pair) in
@@ -56,8 +57,9 @@ ran_joined {E = E} alloc script start pair replies (Ok (kept, told)) (kept_is, t
       no_fault = plain_unfaulted start pair script.steps told ran;
       channels = λ forward. run_hands_out counting is_ice_message start pair script.steps told (program_new alloc _ _ start program) forward ran;
       settles = λ forward. run_settles_open counting is_ice_message start pair script.steps told (program_new alloc _ _ start program) forward ran;
+      crossed = crossed;
     })
-ran_joined alloc script start pair replies (Err error) joined program formed runs read_back plain = tt
+ran_joined alloc script start pair replies (Err error) joined program formed runs read_back plain crossed = tt
 
 -- a script was run, and its report was written
 pub performs : (alloc : Global) (lacking : Bool) (script : Script) (replies : List (Reply PlainMediaEvent)) (pair : PlainPairState) (written written' : Option (List ℕ))

@@ -8,6 +8,7 @@ use Rattle.rtc_run_history.specs.declared.side.Side.TheVariants.{Left, Right}
 use Rattle.rtc_run_history.specs.declared.reply.Reply.{Reply}
 use Rattle.rtc_run_history.specs.declared.step.Step.{Step}
 use Rattle.rtc_run_history.specs.Memory.{lacks_memory, tell_fault}
+use Rattle.rtc_run_crossed.specs.Crossed.{CrossedOffersMeet}
 use Rattle.rtc_run_history.specs.DrawnInRuns.{AllPlain, DrawsUnused}
 use Rattle.rtc_run_history.specs.Fresh.{ArePeersFormed}
 use Rattle.rtc_run_history.specs.Native.{go_forward}
@@ -48,7 +49,8 @@ IsPairOf alloc script pair =
 -- read back, as it was written where each source was unused when it was drawn. No reply tells that a part failed: those in memory never
 -- do. Where no step brings in a text or bytes of anybody, and none rolls an offer back, channels hand out what the other side sent, and of
 -- those that were opened in-band each is announced at most once; where the run leaves the pair settled, one that is open at a side, over a
--- stream that both keep, is open at both, and was announced at both.
+-- stream that both keep, is open at both, and was announced at both. Offers that cross between a polite and an impolite side that are in
+-- step meet.
 pub record RanScript (alloc : Global) (script : Script) (replies : List (Reply PlainMediaEvent)) (pair : PlainPairState) : Type 0 where
   pub start : PlainPairState
   pub program : IsPairOf alloc script start
@@ -59,6 +61,7 @@ pub record RanScript (alloc : Global) (script : Script) (replies : List (Reply P
   pub no_fault : tell_fault replies ≡ false
   pub channels : go_forward script.steps ≡ true → HandsOut counting is_ice_message start script.steps replies pair runs
   pub settles : go_forward script.steps ≡ true → SettlesOpen counting is_ice_message start script.steps replies pair runs
+  pub crossed : CrossedOffersMeet plain_parts is_ice_message start
 
 -- This text is the report of a run of a script.
 pub record IsReport (alloc : Global) (script : Script) (text : List ℕ) : Type 0 where

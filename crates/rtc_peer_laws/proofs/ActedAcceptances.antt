@@ -45,7 +45,7 @@ nil_among {A} l k is = subst (λ (x : List A). Among x k) (sym is) (among_none k
 
 module _ {I D S M E X T W N : Type 0} (m : Meanings I D S M E X T W N) where
   -- four parts that were told something
-  parts_did : (p : PolledPeer I D S M N) (c : Peer I D S M N) → AgentTold m.ice p.core.ice c.ice → ConnectionTold m.dtls p.core.greatest p.core.dtls c.dtls
+  pub parts_did : (p : PolledPeer I D S M N) (c : Peer I D S M N) → AgentTold m.ice p.core.ice c.ice → ConnectionTold m.dtls p.core.greatest p.core.dtls c.dtls
       → CallDid m.association [] [] p.core.sctp c.sctp → MediaTold m.media p.core.media c.media → NegotiationActs m p (with_core c p)
   parts_did p c agent connection streams media = record {
     acts = peer_acts agent.acts connection.acts streams.did.acts media.acts;

@@ -54,7 +54,7 @@ module _ {I : Type 0} (m : IceMeaning I) where
     timed = both_nil (ice_moments (a.acts ++ b.acts)) (ice_moments a.acts) (ice_moments b.acts) (ice_moments-append a.acts b.acts) a.timed b.timed;
   }
 
-  agent_call : (i j : I) (call : IceCall) → IceCalled m i call j → ice_moments (IceStirred call ∷ []) ≡ [] → AgentTold m i j
+  pub agent_call : (i j : I) (call : IceCall) → IceCalled m i call j → ice_moments (IceStirred call ∷ []) ≡ [] → AgentTold m i j
   agent_call i j call h timed =
       record { acts = IceStirred call ∷ []; went = ice_moved-one m i j (IceStirred call) h; given = refl; taken = refl; timed = timed }
 
@@ -66,7 +66,7 @@ module _ {I : Type 0} (m : IceMeaning I) where
   creds_told i None j h = agent_none i j h
   creds_told i (Some creds) j h = agent_call i j (RemoteSet creds) h refl
 
-  control_told : (i : I) (control : Option Bool) (j : I) → TakesControl m i control j → AgentTold m i j
+  pub control_told : (i : I) (control : Option Bool) (j : I) → TakesControl m i control j → AgentTold m i j
   control_told i None j h = agent_none i j h
   control_told i (Some on) j h = agent_call i j (ControllingSet on) h refl
 

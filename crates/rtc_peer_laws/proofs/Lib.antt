@@ -55,3 +55,6 @@ mod HandshakeMarks
 mod HandshakeSteps
 pub mod HandshakeRoles
 pub mod RowLemmas
+pub mod ClosedPeers
+pub mod ActedChanges
+pub mod ActedDirectCalls

@@ -3,6 +3,9 @@
 #![tactic(auto)]
 
 mod acts;
+mod changes;
+mod closed;
+mod direct;
 mod drained;
 mod exchanging;
 mod joined;
@@ -13,6 +16,9 @@ mod rows;
 mod shown;
 
 pub use acts::{acceptances_act, calls_act, candidates_act};
+pub use changes::{changes_act, negotiation_relays};
+pub use closed::{closed_peers_stay_closed, negotiation_leaves_peers_closed};
+pub use direct::{direct_calls_act, direct_media_acts, loans_act};
 pub use drained::{drained_peers_have_heard, drained_peers_rest, wakes_are_not_past};
 pub use exchanging::exchanges_keep_peers_joined;
 pub use joined::{

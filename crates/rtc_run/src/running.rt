@@ -1,5 +1,6 @@
 //! Runs of pairs.
 ghost use Rattle.std.specs.Prelude.{◌≡◌, ◌+◌, ◌<◌, ◌≤◌, ◌^◌, ◌-◌, [], length, IfOk, OnErr, vec_capacity};
+ghost use Rattle.rtc_run_crossed.specs.Crossed.{CrossedOffersMeet};
 ghost use Rattle.rtc_run_history.specs.DrawnInRuns.{AllPlain, DrawsUnused, HaveNoLines};
 ghost use Rattle.rtc_run_history.specs.Sizes.{steps_size};
 ghost use Rattle.rtc_run_history.specs.Fresh.{ArePeersFormed, IsFresh};
@@ -16,7 +17,8 @@ use std::alloc::{AllocError, Global};
 /// Performs steps in order, each by the public calls of the acting peer, and gives a reply for each.
 ///
 /// Offers and answers reach the other peer as signalling delivers them: written, and read again. They are read as they were written
-/// where each source was unused when it was drawn. Room for the replies is made first, so an error leaves both peers as they were.
+/// where each source was unused when it was drawn. Two offers that cross, of a polite peer and an impolite one that are in step, bring
+/// the two together by a rollback (RFC 3264, section 4). Room for the replies is made first, so an error leaves both peers as they were.
 pub fn run_pair<I: IceAgent, D: DtlsInstance, S: Association, M: MediaSession, N: Ids>(
     alloc: Global,
     pair: &mut Pair<I, D, S, M, N>,
@@ -34,6 +36,8 @@ pub fn run_pair<I: IceAgent, D: DtlsInstance, S: Association, M: MediaSession, N
         pair.old steps.now replies pair.new)
         → DrawsUnused (meanings I.ice D.dtls S.association M.media N.ids) I.stun pair.old steps.now replies pair.new run
         → AllPlain pair.new.sdps) }
+    ensures crossed { ArePeersFormed (meanings I.ice D.dtls S.association M.media N.ids) pair.old
+        → CrossedOffersMeet (meanings I.ice D.dtls S.association M.media N.ids) I.stun pair.old }
     ensures untouched { OnErr result (pair.new ≡ pair.old) }
 {
     let mut replies = Vec::with_capacity(alloc, steps.len())?;

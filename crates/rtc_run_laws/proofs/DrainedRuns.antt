@@ -1,5 +1,5 @@
 -- Where a side was drained, all was got that was sent.
-use Rattle.std.proofs.Common.{◌≡◌, ◌∙◌, ◌∷◌, ap, if◌then◌else◌, ℕ, Bool, true, false, true≢false, List, [], refl, sym, subst}
+use Rattle.std.proofs.Common.{◌≡◌, ◌∙◌, ◌∷◌, ◌&&◌, ap, if◌then◌else◌, ℕ, Bool, true, false, true≢false, List, [], refl, sym, subst}
 use Rattle.rtc_part_association.specs.AssociationActs.{LimitsSet, Stirred}
 use Rattle.rtc_part_values.specs.Why.{Other}
 use Rattle.rtc_assoc_state.proofs.PlainLaws.{plain_laws}
@@ -29,6 +29,8 @@ use Rattle.rtc_run_laws.specs.NewPairs.{IsNewPair, IsNewPeer}
 use Rattle.rtc_run_laws.specs.PlainPairs.{PlainPair, PlainPolled, plain_over}
 use Rattle.rtc_run_laws.proofs.StepsExchange.{plain_over_laws}
 use Rattle.rtc_run_laws.specs.ChannelUses.{ChannelUse}
+use Rattle.rtc_run_laws.specs.CalledSteps.{calls_peer}
+use Rattle.rtc_run_laws.proofs.UncalledSteps.{uncalled_same, uncalled_uses}
 use Rattle.rtc_run_laws.specs.DrainedSides.{DrainedByEntry, DrainedByStep, IsDrained}
 use Rattle.rtc_run_laws.specs.HandedOut.{AreAllHandedOut, HandsOut}
 use Rattle.rtc_run_laws.specs.SentMessages.{sent_over}
@@ -63,20 +65,31 @@ module _ {N : Type 0} (draws : Draws N) where
   new_unused pair h Left = new_empty pair.left h.left
   new_unused pair h Right = new_empty pair.right h.right
 
+  -- a step of this side called its peer, or left it and what was announced
+  heard_here : (called : Bool) (step : Step) (outcome : Outcome PlainMediaEvent) (earlier : Type 0) (old new : PlainPolled N) (uses acted : List ChannelUse)
+      → ((earlier → HeardSide uses old) → DrainedByStep step outcome earlier → HeardSide acted new)
+      → (called ≡ false → (new ≡ old) × (acted ≡ uses)) → (earlier → HeardSide uses old) → DrainedByEntry called step outcome earlier → HeardSide acted new
+  heard_here true step outcome earlier old new uses acted acts same before d = acts before d
+  heard_here false step outcome earlier old new uses acted acts same before d =
+      subst (λ (l : List ChannelUse). HeardSide l new) (sym (same refl).1) (subst (λ (p : PlainPolled N). HeardSide uses p) (sym (same refl).0) (before d))
+
   -- a step of one side, as either of them sees it
   heard_after : (at x : Side) (between pair : PlainPair N) (uses : Side → List ChannelUse) (acted : List ChannelUse → List ChannelUse) (step : Step)
       (outcome : Outcome PlainMediaEvent) (earlier : Side → Type 0) → rtc_at (other_side at) pair ≡ rtc_at (other_side at) between
       → ((earlier at → HeardSide (uses at) (rtc_at at between)) → DrainedByStep step outcome (earlier at)
       → HeardSide (acted (uses at)) (rtc_at at pair))
+      → (calls_peer outcome ≡ false → (rtc_at at pair ≡ rtc_at at between) × (acted (uses at) ≡ uses at))
       → (earlier x → HeardSide (uses x) (rtc_at x between))
-      → DrainedByEntry (same_side at x) step outcome (earlier x)
+      → DrainedByEntry (same_side at x && calls_peer outcome) step outcome (earlier x)
       → HeardSide (if same_side at x then acted (uses x) else uses x) (rtc_at x pair)
-  heard_after Left Left between pair uses acted step outcome earlier other acts before d = acts before d
-  heard_after Left Right between pair uses acted step outcome earlier other acts before d =
+  heard_after Left Left between pair uses acted step outcome earlier other acts same before d =
+      heard_here (calls_peer outcome) step outcome (earlier Left) (rtc_at Left between) (rtc_at Left pair) (uses Left) (acted (uses Left)) acts same before d
+  heard_after Left Right between pair uses acted step outcome earlier other acts same before d =
       subst (λ (p : PlainPolled N). HeardSide (uses Right) p) (sym other) (before d)
-  heard_after Right Left between pair uses acted step outcome earlier other acts before d =
+  heard_after Right Left between pair uses acted step outcome earlier other acts same before d =
       subst (λ (p : PlainPolled N). HeardSide (uses Left) p) (sym other) (before d)
-  heard_after Right Right between pair uses acted step outcome earlier other acts before d = acts before d
+  heard_after Right Right between pair uses acted step outcome earlier other acts same before d =
+      heard_here (calls_peer outcome) step outcome (earlier Right) (rtc_at Right between) (rtc_at Right pair) (uses Right) (acted (uses Right)) acts same before d
 
   heard_reached : (stun : List ℕ → Bool) (start : PlainPair N) (past : List (Entry PlainMediaEvent)) (pair : PlainPair N)
       → go_forward (steps_of past) ≡ true → (ran : Reached (plain_over draws) stun start past pair) → PairTold draws start (λ x. []) (λ x s g. []) (λ x c s g. []) → AreUnused (plain_over draws) (plain_over_laws draws) start
@@ -90,6 +103,12 @@ module _ {N : Type 0} (draws : Draws N) where
       ran.0.packets entry.outcome entry.table (rtc_at (side_of entry.step) pair) pair.sdps pair.packets (uses (side_of entry.step))
       (told (side_of entry.step)) (forward_entry entry past go).1 ran.2.performs.acts there.stood (IsDrained (side_of entry.step) past) before e
       (empty (side_of entry.step)))
+      (λ none. (
+        uncalled_same (plain_over draws) stun (addr_at (other_side (side_of entry.step)) ran.0) (addr_at (side_of entry.step) ran.0) entry.step (rtc_at (side_of entry.step) ran.0) ran.0.sdps
+            ran.0.packets entry.outcome entry.table (rtc_at (side_of entry.step) pair) pair.sdps pair.packets ran.2.performs.acts none,
+        uncalled_uses (plain_over draws) stun (addr_at (other_side (side_of entry.step)) ran.0) (addr_at (side_of entry.step) ran.0) entry.step (rtc_at (side_of entry.step) ran.0) ran.0.sdps
+            ran.0.packets entry.outcome entry.table (rtc_at (side_of entry.step) pair) pair.sdps pair.packets ran.2.performs.acts (uses (side_of entry.step)) none,
+      ))
       (λ e. heard_reached stun start past ran.0 (forward_entry entry past go).0 ran.1 h unused at e) d
     where
       uses : Side → List ChannelUse

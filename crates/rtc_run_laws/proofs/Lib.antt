@@ -151,6 +151,7 @@ mod UnfinishedParts
 mod FinishedSides
 mod HeardSides
 mod TimeoutSides
+mod UncalledSteps
 mod DrainedSteps
 mod RunsTold
 pub mod DrainedRuns

@@ -1,5 +1,5 @@
 -- A side that rests was drained, and its peer is as a poll left it that ended in a timeout.
-use Rattle.std.proofs.Common.{◌≡◌, ◌∷◌, ℕ, Bool, true, false, List, [], Option, Some, None, Ok, sym, subst}
+use Rattle.std.proofs.Common.{◌≡◌, ◌∷◌, ◌&&◌, ℕ, Bool, true, false, List, [], Option, Some, None, Ok, refl, sym, subst}
 use Rattle.rtc_wire.specs.declared.addr.Addr.{Addr}
 use Rattle.rtc_peer_core.specs.Meanings.{Meanings}
 use Rattle.rtc_peer_transport.specs.declared.output.Output.TheVariants.{Timeout}
@@ -23,6 +23,8 @@ use Rattle.rtc_run_history.specs.Past.{Entry}
 use Rattle.rtc_run_history.specs.Performs.{Acts, DrainsOn, DrainsPeer, PollsOnce, StepPollsPeer}
 use Rattle.rtc_run_history.specs.Runs.{Reached}
 use Rattle.rtc_run_history.specs.Sides.{other_side, same_side, side_of}
+use Rattle.rtc_run_laws.specs.CalledSteps.{calls_peer}
+use Rattle.rtc_run_laws.proofs.UncalledSteps.{uncalled_same}
 use Rattle.rtc_run_laws.specs.DrainedSides.{DrainedByEntry, DrainedByEvent, DrainedByOutcome, DrainedByOutputs, DrainedByStep, IsDrained}
 use Rattle.rtc_run_laws.specs.RestingPasts.{EndInTimeout, IsResting, RestsByEntry, RestsByOutcome, RestsByStep, RestsUntil}
 
@@ -72,13 +74,22 @@ module _ {I D S M E X T W N : Type 0} (m : Meanings I D S M E X T W N) (is_so : 
       step_last (DrainsPeer m at old) old packets outcome table new packets' (λ outputs end k d. drain_last at old packets outputs end new packets' k d) h.0 e
   acts_last stun other own step old sdps packets outcome table new sdps' packets' h e = absurd e
 
+  -- a step of this side called its peer, or left it
+  last_here : (called : Bool) (step : Step) (outcome : Outcome E) (earlier : Type 0) (old new : PolledPeer I D S M N) → (RestsByStep is_so step outcome → PolledLast new)
+      → (called ≡ false → new ≡ old) → (earlier → PolledLast old) → RestsByEntry is_so called step outcome earlier → PolledLast new
+  last_here true step outcome earlier old new acts same before d = acts d
+  last_here false step outcome earlier old new acts same before d = subst (λ (p : PolledPeer I D S M N). PolledLast p) (sym (same refl)) (before d)
+
   last_after : (at x : Side) (between pair : PairState I D S M N) (step : Step) (outcome : Outcome E) (earlier : Type 0)
       → rtc_at (other_side at) pair ≡ rtc_at (other_side at) between → (RestsByStep is_so step outcome → PolledLast (rtc_at at pair))
-      → (earlier → PolledLast (rtc_at x between)) → RestsByEntry is_so (same_side at x) step outcome earlier → PolledLast (rtc_at x pair)
-  last_after Left Left between pair step outcome earlier other acts before d = acts d
-  last_after Left Right between pair step outcome earlier other acts before d = subst (λ (p : PolledPeer I D S M N). PolledLast p) (sym other) (before d)
-  last_after Right Left between pair step outcome earlier other acts before d = subst (λ (p : PolledPeer I D S M N). PolledLast p) (sym other) (before d)
-  last_after Right Right between pair step outcome earlier other acts before d = acts d
+      → (calls_peer outcome ≡ false → rtc_at at pair ≡ rtc_at at between)
+      → (earlier → PolledLast (rtc_at x between)) → RestsByEntry is_so (same_side at x && calls_peer outcome) step outcome earlier → PolledLast (rtc_at x pair)
+  last_after Left Left between pair step outcome earlier other acts same before d =
+      last_here (calls_peer outcome) step outcome earlier (rtc_at Left between) (rtc_at Left pair) acts same before d
+  last_after Left Right between pair step outcome earlier other acts same before d = subst (λ (p : PolledPeer I D S M N). PolledLast p) (sym other) (before d)
+  last_after Right Left between pair step outcome earlier other acts same before d = subst (λ (p : PolledPeer I D S M N). PolledLast p) (sym other) (before d)
+  last_after Right Right between pair step outcome earlier other acts same before d =
+      last_here (calls_peer outcome) step outcome earlier (rtc_at Right between) (rtc_at Right pair) acts same before d
 
   pub resting_last : (stun : List ℕ → Bool) (start : PairState I D S M N) (past : List (Entry E)) (pair : PairState I D S M N)
       → Reached m stun start past pair → (at : Side) → RestsUntil is_so at past → PolledLast (rtc_at at pair)
@@ -88,6 +99,9 @@ module _ {I D S M E X T W N : Type 0} (m : Meanings I D S M E X T W N) (is_so : 
       (λ e.
       acts_last stun (addr_at (other_side (side_of entry.step)) ran.0) (addr_at (side_of entry.step) ran.0) entry.step (rtc_at (side_of entry.step) ran.0) ran.0.sdps ran.0.packets entry.outcome entry.table
       (rtc_at (side_of entry.step) pair) pair.sdps pair.packets ran.2.performs.acts e)
+      (λ none.
+      uncalled_same m stun (addr_at (other_side (side_of entry.step)) ran.0) (addr_at (side_of entry.step) ran.0) entry.step (rtc_at (side_of entry.step) ran.0) ran.0.sdps ran.0.packets entry.outcome entry.table
+      (rtc_at (side_of entry.step) pair) pair.sdps pair.packets ran.2.performs.acts none)
       (λ e. resting_last stun start past ran.0 ran.1 at e) d
 
 -- ---- such a side was drained
@@ -109,7 +123,7 @@ step_drained step outcome earlier e = absurd e
 
 pub resting_drained : {E : Type 0} (at : Side) (past : List (Entry E)) → IsResting at past → IsDrained at past
 resting_drained at [] d = absurd d
-resting_drained at (entry ∷ past) d = by (same_side (side_of entry.step) at) d (λ e. resting_drained at past e)
+resting_drained at (entry ∷ past) d = by (same_side (side_of entry.step) at && calls_peer entry.outcome) d (λ e. resting_drained at past e)
   where
     by : (b : Bool) → RestsByEntry (λ n. Unit {0}) b entry.step entry.outcome (IsResting at past) → (IsResting at past → IsDrained at past)
         → DrainedByEntry b entry.step entry.outcome (IsDrained at past)

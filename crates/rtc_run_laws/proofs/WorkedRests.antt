@@ -2,12 +2,12 @@
 use Rattle.std.proofs.Common.{◌∷◌, ◌<◌, [], None, arith}
 use Rattle.rtc_part_values.specs.declared.reason.Reason.TheVariants.{NotHappening}
 use Rattle.rtc_run_history.specs.declared.outcome.Outcome.{Outcome}
-use Rattle.rtc_run_history.specs.declared.outcome.Outcome.TheVariants.{Done, Polled}
+use Rattle.rtc_run_history.specs.declared.outcome.Outcome.TheVariants.{Done, Polled, NoSuch, Alloc}
 use Rattle.rtc_run_history.specs.declared.poll_end.PollEnd.TheVariants.{Ended}
 use Rattle.rtc_run_history.specs.declared.shown.Shown.TheVariants.{Timeout, Packet}
 use Rattle.rtc_run_history.specs.declared.side.Side.TheVariants.{Left, Right}
 use Rattle.rtc_run_history.specs.declared.step.Step.{Step}
-use Rattle.rtc_run_history.specs.declared.step.Step.TheVariants.{Time, Poll, Drain, Close}
+use Rattle.rtc_run_history.specs.declared.step.Step.TheVariants.{Time, Datagram, Poll, Drain, Close}
 use Rattle.rtc_run_history.specs.Past.{Entry}
 use Rattle.rtc_run_laws.specs.RestingPasts.{IsResting, RestsUntil}
 
@@ -48,3 +48,7 @@ packet_wakes h = h
 -- a side of which nothing was asked does not rest
 other_alone : IsResting Right (waited ∷ []) → ⊥
 other_alone h = h
+
+-- a step that makes no call leaves it at rest
+nothing_there : IsResting Left (entry_of (Datagram Left 3 5) NoSuch ∷ entry_of (Close Left) Alloc ∷ waited ∷ [])
+nothing_there = tt

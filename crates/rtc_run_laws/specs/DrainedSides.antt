@@ -1,5 +1,5 @@
 -- A side that was drained: since its last input a poll of it ended in a timeout.
-use Rattle.std.specs.Prelude.{Bool, true, false, List, [], ◌∷◌}
+use Rattle.std.specs.Prelude.{◌&&◌, Bool, true, false, List, [], ◌∷◌}
 use Rattle.rtc_peer_transport.specs.declared.event.Event.{Event}
 use Rattle.rtc_peer_transport.specs.declared.event.Event.TheVariants.{ChannelOpen}
 use Rattle.rtc_run_history.specs.declared.outcome.Outcome.{Outcome}
@@ -11,6 +11,7 @@ use Rattle.rtc_run_history.specs.declared.step.Step.{Step}
 use Rattle.rtc_run_history.specs.declared.step.Step.TheVariants.{Time, Datagram, Poll, Drain, Raw}
 use Rattle.rtc_run_history.specs.Past.{Entry}
 use Rattle.rtc_run_history.specs.Sides.{same_side, side_of}
+use Rattle.rtc_run_laws.specs.CalledSteps.{calls_peer}
 
 -- a channel that is told to be open is to be drained itself
 abbrev pub DrainedByEvent : {E : Type 0} → Event E → (earlier : Type 0) → Type 0
@@ -37,11 +38,13 @@ DrainedByStep (Poll at) outcome earlier = DrainedByOutcome outcome earlier
 DrainedByStep (Drain at) outcome earlier = DrainedByOutcome outcome earlier
 DrainedByStep step outcome earlier = earlier
 
-abbrev pub DrainedByEntry : {E : Type 0} → (acting : Bool) → Step → Outcome E → (earlier : Type 0) → Type 0
+abbrev pub DrainedByEntry : {E : Type 0} → (called : Bool) → Step → Outcome E → (earlier : Type 0) → Type 0
 DrainedByEntry true step outcome earlier = DrainedByStep step outcome earlier
 DrainedByEntry false step outcome earlier = earlier
 
--- A side is drained: a poll of it ended in a timeout, and since then no input came to it and no channel was told to be open.
+-- A side is drained: a poll of it ended in a timeout, and since then no input came to it and no channel was told to be open. A step that
+-- makes no call changes nothing of this.
 abbrev pub IsDrained : {E : Type 0} → (at : Side) (past : List (Entry E)) → Type 0
 IsDrained at [] = ⊥
-IsDrained at (entry ∷ past) = DrainedByEntry (same_side (side_of entry.step) at) entry.step entry.outcome (IsDrained at past)
+IsDrained at (entry ∷ past) =
+    DrainedByEntry (same_side (side_of entry.step) at && calls_peer entry.outcome) entry.step entry.outcome (IsDrained at past)

@@ -8,6 +8,7 @@ pub mod AnnouncedOnce
 pub mod OpenUses
 pub mod SentMessages
 pub mod ToldMessages
+pub mod CalledSteps
 pub mod DrainedSides
 pub mod ConfirmedChannels
 pub mod StillPairs

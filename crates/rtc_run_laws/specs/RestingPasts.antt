@@ -1,5 +1,5 @@
 -- Sides that rest: they were polled up to a timeout, and nothing came to them since.
-use Rattle.std.specs.Prelude.{ℕ, Bool, true, false, List, [], ◌∷◌}
+use Rattle.std.specs.Prelude.{◌&&◌, ℕ, Bool, true, false, List, [], ◌∷◌}
 use Rattle.rtc_run_history.specs.declared.outcome.Outcome.{Outcome}
 use Rattle.rtc_run_history.specs.declared.outcome.Outcome.TheVariants.{Polled}
 use Rattle.rtc_run_history.specs.declared.shown.Shown.{Shown}
@@ -9,6 +9,7 @@ use Rattle.rtc_run_history.specs.declared.step.Step.{Step}
 use Rattle.rtc_run_history.specs.declared.step.Step.TheVariants.{Poll, Drain}
 use Rattle.rtc_run_history.specs.Past.{Entry}
 use Rattle.rtc_run_history.specs.Sides.{same_side, side_of}
+use Rattle.rtc_run_laws.specs.CalledSteps.{calls_peer}
 
 -- outputs end in a timeout at a moment that is so
 abbrev pub EndInTimeout : {E : Type 0} → (ℕ → Type 0) → List (Shown E) → Type 0
@@ -27,15 +28,16 @@ RestsByStep is_so (Poll at) outcome = RestsByOutcome is_so outcome
 RestsByStep is_so (Drain at) outcome = RestsByOutcome is_so outcome
 RestsByStep is_so step outcome = ⊥
 
-abbrev pub RestsByEntry : {E : Type 0} → (ℕ → Type 0) → (acting : Bool) → Step → Outcome E → (earlier : Type 0) → Type 0
+abbrev pub RestsByEntry : {E : Type 0} → (ℕ → Type 0) → (called : Bool) → Step → Outcome E → (earlier : Type 0) → Type 0
 RestsByEntry is_so true step outcome earlier = RestsByStep is_so step outcome
 RestsByEntry is_so false step outcome earlier = earlier
 
--- a side was polled up to a timeout at a moment that is so, and no input came to it and no call was made on it since
+-- a side was polled up to a timeout at a moment that is so, and no input came to it and no call was made on it since; a step that makes no
+-- call changes nothing of this
 abbrev pub RestsUntil : {E : Type 0} → (ℕ → Type 0) → Side → List (Entry E) → Type 0
 RestsUntil is_so at [] = ⊥
 RestsUntil is_so at (entry ∷ past) =
-    RestsByEntry is_so (same_side (side_of entry.step) at) entry.step entry.outcome (RestsUntil is_so at past)
+    RestsByEntry is_so (same_side (side_of entry.step) at && calls_peer entry.outcome) entry.step entry.outcome (RestsUntil is_so at past)
 
 -- whatever the moment
 abbrev pub IsResting : {E : Type 0} → Side → List (Entry E) → Type 0

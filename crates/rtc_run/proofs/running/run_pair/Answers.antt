@@ -1,4 +1,5 @@
 use Rattle.std.proofs.Common.{rules}
+use Rattle.rtc_run_crossed.proofs.CrossingRuns.{crossed_meet}
 use Rattle.rtc_run_laws.proofs.FormedSteps.{runs_read_back}
 use Rattle.rtc_run_laws.proofs.PlainRuns.{runs_plain}
 use Rattle.rtc_run.proofs.Sized.{run_begins, run_has_room, run_goes_on}
@@ -32,3 +33,9 @@ returns-clause-read_back g c = λ formed. runs_read_back (meanings g.I.IceAgent.
 
 pub returns-clause-plain : goal.returns-clause-plain
 returns-clause-plain g c = λ formed none run drew. runs_plain (meanings g.I.IceAgent.ice g.D.DtlsInstance.dtls g.S.Association.association g.M.MediaSession.media g.N.Ids.ids) g.I.StunReader.stun (record { ice = g.met.I.IceAgent.laws; dtls = g.met.D.DtlsInstance.laws; association = g.met.S.Association.laws; media = g.met.M.MediaSession.laws }) _ _ _ _ c.requires.fresh formed none run drew
+
+pub returns-clause-crossed : goal.returns-clause-crossed
+returns-clause-crossed g c = λ formed. crossed_meet (meanings g.I.IceAgent.ice g.D.DtlsInstance.dtls g.S.Association.association g.M.MediaSession.media g.N.Ids.ids) g.I.StunReader.stun (record { ice = g.met.I.IceAgent.laws; dtls = g.met.D.DtlsInstance.laws; association = g.met.S.Association.laws; media = g.met.M.MediaSession.laws }) _ c.requires.fresh formed
+
+pub returns-in_err-replies-clause-crossed : goal.returns-in_err-replies-clause-crossed
+returns-in_err-replies-clause-crossed g c = λ formed. crossed_meet (meanings g.I.IceAgent.ice g.D.DtlsInstance.dtls g.S.Association.association g.M.MediaSession.media g.N.Ids.ids) g.I.StunReader.stun (record { ice = g.met.I.IceAgent.laws; dtls = g.met.D.DtlsInstance.laws; association = g.met.S.Association.laws; media = g.met.M.MediaSession.laws }) _ c.requires.fresh formed

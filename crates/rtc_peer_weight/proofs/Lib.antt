@@ -1,0 +1,9 @@
+pub mod UnsetThresholds
+pub mod PassFalls
+pub mod PollsUnset
+pub mod Measures
+pub mod ClosingFalls
+pub mod StreamsFall
+pub mod DtlsFalls
+pub mod WalkFalls
+pub mod Drains

@@ -1,0 +1,4 @@
+pub mod LineTexts
+pub mod ReplyLines
+pub mod OutcomeKinds
+pub mod ToldReplies

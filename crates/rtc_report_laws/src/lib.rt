@@ -1,0 +1,6 @@
+//! What the report of a run tells of its replies.
+#![tactic(auto)]
+
+mod laws;
+
+pub use laws::reports_tell_replies;
