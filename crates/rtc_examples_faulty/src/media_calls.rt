@@ -23,20 +23,35 @@ static LISTED: [(Call, bool); 8] = [
     (Call::Time, true),
 ];
 
+// Whether a refusal is a fault; None if it is another.
+fn refused(error: &MediaError) -> Option<bool> {
+    match error {
+        MediaError::Rtp => Some(false),
+        _ => None,
+    }
+}
+
+fn timed<T: Drop>(answer: Result<T, MediaError>) -> Option<bool> {
+    match &answer {
+        Ok(_) => Some(true),
+        Err(error) => refused(error),
+    }
+}
+
+// A poll succeeds if it gives no event.
+fn polled<E: Drop>(answer: Result<Option<E>, MediaError>) -> Option<bool> {
+    match &answer {
+        Ok(None) => Some(true),
+        Ok(Some(_)) => None,
+        Err(error) => refused(error),
+    }
+}
+
 // Whether a call succeeds; None if it gives an event or another error than a fault.
 fn make(part: &mut Faulty<PlainMedia>, call: Call) -> Option<bool> {
-    let refused = match call {
-        Call::Time => part.handle_timeout(Moment::FAR_PAST).err(),
-        Call::Poll => match part.poll_event_fallible(Moment::FAR_PAST) {
-            Ok(None) => None,
-            Ok(Some(_)) => return None,
-            Err(error) => Some(error),
-        },
-    };
-    match refused {
-        None => Some(true),
-        Some(MediaError::Rtp) => Some(false),
-        Some(_) => None,
+    match call {
+        Call::Time => timed(part.handle_timeout(Moment::FAR_PAST)),
+        Call::Poll => polled(part.poll_event_fallible(Moment::FAR_PAST)),
     }
 }
 

@@ -1,6 +1,7 @@
 //! Runs over parts that fail.
 ghost use Rattle.std.specs.Prelude.{◌≡◌, ◌<◌, ◌^◌, IfOk, OnErr};
 ghost use Rattle.rtc_plain_ice.specs.Messages.{is_ice_message};
+ghost use Rattle.rtc_run_crossed.specs.Crossed.{CrossedOffersMeet};
 ghost use Rattle.rtc_run_history.specs.DrawnInRuns.{AllPlain, DrawsUnused, HaveNoLines};
 ghost use Rattle.rtc_run_history.specs.Fresh.{ArePeersFormed, IsFresh};
 ghost use Rattle.rtc_run_history.specs.Runs.{Runs};
@@ -34,6 +35,7 @@ pub fn run_faulty_pair(
     ensures plain { ArePeersFormed faulty_parts pair.old → HaveNoLines faulty_parts pair.old
         → IfOk result (λ replies. (run : Runs faulty_parts is_ice_message pair.old steps.now replies pair.new)
         → DrawsUnused faulty_parts is_ice_message pair.old steps.now replies pair.new run → AllPlain pair.new.sdps) }
+    ensures crossed { ArePeersFormed faulty_parts pair.old → CrossedOffersMeet faulty_parts is_ice_message pair.old }
     ensures untouched { OnErr result (pair.new ≡ pair.old) }
 {
     run_pair(alloc, pair, steps)
