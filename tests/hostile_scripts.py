@@ -88,7 +88,7 @@ def hostile_datagrams(chance):
 # ---- texts
 
 
-# The lines of a text, of which some are dropped, doubled, moved or changed.
+# The lines of a text, of which some are dropped, doubled, moved or changed. A script takes none that is not UTF-8.
 def changed_text(chance, lines):
     lines = list(lines)
     for _ in range(chance.choices([0, 1, 2, 6], [1, 6, 4, 2])[0]):
@@ -106,7 +106,8 @@ def changed_text(chance, lines):
             line[spot:spot + chance.randrange(3)] = chance.choice([b"", b"0", b"9" * 20, b":", b" ", b"\xc3\xa9", b"a=mid:1", b"=", chance.randbytes(2).hex().encode()])
             lines[place] = bytes(line)
         lines = lines or [b"v=0"]
-    return chance.choice([b"\r\n", b"\r\n", b"\n"]).join(lines) + chance.choice([b"\r\n", b""])
+    text = chance.choice([b"\r\n", b"\r\n", b"\n"]).join(lines) + chance.choice([b"\r\n", b""])
+    return text.decode(errors="ignore").encode()
 
 
 # Steps of texts, behind those of two sides that the model knows. A text has the rows that the sides agreed on, and then some of a list,
@@ -155,6 +156,7 @@ def wrong_texts(pair, known, report):
     return wrong
 
 
+# What is wrong with a script, how many datagrams and texts it has, and the time and the memory of its run.
 def check(program, chance, number):
     if number % 2 == 0:
         pair, known = hostile_datagrams(chance), None
@@ -162,7 +164,7 @@ def check(program, chance, number):
         pair, known = hostile_texts(chance)
     script = pair.script().encode()
     if len(script) > MIB:
-        return [], 0
+        return [], 0, 0, 0
     status, out, seconds, memory = run(program, script)
     report, wrong = out.decode(), wrong_end(script, status, out, seconds, memory)
     if known is None:
@@ -172,21 +174,22 @@ def check(program, chance, number):
     if wrong:
         with open(f"hostile_{number}.script", "wb") as file:
             file.write(script)
-    return wrong, sum(" raw " in line or " foreign" in line for line in pair.lines)
+    return wrong, sum(" raw " in line or " foreign" in line for line in pair.lines), seconds, memory
 
 
 def main():
     program = sys.argv[1]
     chance = random.Random(int(sys.argv[2]) if len(sys.argv) > 2 else 1)
     count = int(sys.argv[3]) if len(sys.argv) > 3 else 200
-    bad, given = 0, [0, 0]
+    bad, given, most = 0, [0, 0], (0, 0)
     for number in range(count):
-        wrong, steps = check(program, chance, number)
+        wrong, steps, seconds, memory = check(program, chance, number)
         given[number % 2] += steps
+        most = max(most[0], seconds), max(most[1], memory)
         bad += bool(wrong)
         if wrong:
             print(f"script {number}: {'; '.join(wrong[:5])}", flush=True)
-    print(f"{given[0]} datagrams and {given[1]} texts in {count} scripts, {bad} went wrong")
+    print(f"{given[0]} datagrams and {given[1]} texts in {count} scripts, {bad} went wrong; at most {most[0]:.1f} s and {most[1]:.0f} MiB")
     return 1 if bad else 0
 
 

@@ -9,5 +9,8 @@ pub mod DtlsFalls
 pub mod WalkFalls
 pub mod UnsetCalls
 pub mod UnsetNegotiation
+pub mod QuietStages
+pub mod ToldHandshakes
+pub mod ToldCalls
 pub mod Drains
 pub mod SetsNone

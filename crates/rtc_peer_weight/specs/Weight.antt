@@ -1,11 +1,15 @@
--- The weight of a peer: more than the outputs that its polls can give before one answers a timeout, where nothing comes in between.
-use Rattle.std.specs.Prelude.{ℕ, ◌+◌, ◌*◌, ◌-◌, ◌^◌, ◌≡◌, ◌≤◌, ◌<◌, ◌||◌, if◌then◌else◌, Bool, true, false}
+-- The weight of a peer: as many outputs as its polls can give at most, up to one that is a timeout, where nothing comes in between.
+use Rattle.std.specs.Prelude.{ℕ, ◌+◌, ◌*◌, ◌-◌, ◌^◌, ◌≡◌, ◌≤◌, ◌<◌, ◌||◌, ◌⊎◌, if◌then◌else◌, Bool, true, false}
 use Rattle.std.specs.Prelude.{List, [], ◌∷◌, length, Option, Some, None, Ok}
 use Rattle.std.specs.List.{sum_by}
 use Rattle.rtc_config.specs.Stats.{Reporting}
 use Rattle.rtc_part_media.specs.MediaMeaning.{held_media}
+use Rattle.rtc_wire.specs.declared.channel_config.ChannelConfig.{ChannelConfig}
+use Rattle.rtc_sctp_entries.specs.declared.stream_entry_state.StreamEntryState.{StreamEntryState}
+use Rattle.rtc_sctp_entries.specs.declared.stream_entry_state.StreamEntryState.TheVariants.{AwaitOpen, AwaitConfig, AwaitDcepAck}
+use Rattle.rtc_sctp_entries.specs.declared.stream_entry_state.StreamEntryState.TheVariants.{Open, Closed as EntryClosed}
 use Rattle.rtc_sctp_entries.specs.declared.stream_entry.StreamEntry.{StreamEntry}
-use Rattle.rtc_sctp_entries.specs.Entries.{threshold_credit, unclosed}
+use Rattle.rtc_sctp_entries.specs.Entries.{config_or_fresh, threshold_credit, unclosed}
 use Rattle.rtc_sctp.specs.Polls.{credits}
 use Rattle.rtc_peer_core.specs.declared.peer.Peer.{Peer}
 use Rattle.rtc_peer_core.specs.declared.phase.Phase.{Phase}
@@ -20,6 +24,17 @@ use Rattle.rtc_peer_transport.specs.declared.output.Output.TheVariants.{Timeout,
 use Rattle.rtc_peer_transport.specs.declared.polled_peer.PolledPeer.{PolledPeer}
 use Rattle.rtc_peer_polling.specs.DtlsStages.{has_come}
 use Rattle.rtc_peer_polling.specs.Walk.{PollsPeer}
+
+-- the credits of an entry by how far its stream has come: an open message has the label and the protocol (RFC 8832, section 5.1)
+abbrev pub credits_in : StreamEntryState → Option ChannelConfig → ℕ
+credits_in AwaitOpen config = 20 + length (config_or_fresh config).label + length (config_or_fresh config).protocol
+credits_in AwaitConfig config = 7
+credits_in AwaitDcepAck config = 4
+credits_in Open config = 4
+credits_in EntryClosed config = 0
+
+abbrev pub credits_of : StreamEntry → ℕ
+credits_of entry = credits_in entry.state entry.config
 
 abbrev pub stats_events : Option Reporting → ℕ
 stats_events None = 0
@@ -52,7 +67,7 @@ puts_out (Timeout moment) = false
 puts_out (Transmit transmit) = true
 puts_out (Event event) = true
 
--- how an output changes a weight
+-- how an output changes a measure
 abbrev pub FallsBy : {E : Type 0} → Output E → (before after : ℕ) → Type 0
 FallsBy (Timeout moment) before after = after ≤ before
 FallsBy (Transmit transmit) before after = after < before
@@ -66,6 +81,10 @@ IsMoment moment = moment ≤ 2 ^ 64 - 1
 abbrev pub IsTimely : Input → Type 0
 IsTimely (given.Timeout now) = IsMoment now
 IsTimely (given.Receive now datagram) = IsMoment now
+
+-- the handshake is not finished, or that it is was told; a closed peer tells nothing any more
+abbrev pub IsHandshakeTold : {I D S M N : Type 0} → PolledPeer I D S M N → Type 0
+IsHandshakeTold p = (handshake_weight p.transport.handshake ≡ 0) ⊎ (p.core.phase ≡ Closed)
 
 module _ {I D S M E X T W N : Type 0} (m : Meanings I D S M E X T W N) where
   -- whether a moment of DTLS is due: that which the part asks for once it is drained, or that which the peer read last
@@ -81,10 +100,11 @@ module _ {I D S M E X T W N : Type 0} (m : Meanings I D S M E X T W N) where
       + length p.core.dtls.packets
       + (if is_moment_due p then 64 else 0)
 
-  -- what the association holds, with what the entries that are not closed can add to it, and the packets that came back
+  -- what the association holds, with the packets that came back and the credits of the entries
   abbrev pub streams_weight : PolledPeer I D S M N → ℕ
   streams_weight p =
-      4 * (m.association.units p.core.sctp.association + credits (unclosed p.core.sctp.entries) + packets_pushed p.core.sctp.pushed)
+      4 * (m.association.units p.core.sctp.association + packets_pushed p.core.sctp.pushed)
+      + 4 * sum_by credits_of p.core.sctp.entries
 
   -- the weight of a peer
   abbrev pub weight : PolledPeer I D S M N → ℕ
@@ -95,8 +115,19 @@ module _ {I D S M E X T W N : Type 0} (m : Meanings I D S M E X T W N) where
       + held_media m.media p.core.media
       + stats_events p.transport.stats
       + alive_weight p.core.phase
-      + handshake_weight p.transport.handshake
       + 1
+
+  -- A finer measure, which each output lowers: an entry that is to be closed has one credit less, and that the handshake is finished
+  -- counts while it is still to be told.
+  abbrev pub load : PolledPeer I D S M N → ℕ
+  load p =
+      dtls_weight p
+      + 4 * (m.association.units p.core.sctp.association + credits (unclosed p.core.sctp.entries) + packets_pushed p.core.sctp.pushed)
+      + m.ice.held p.core.ice
+      + held_media m.media p.core.media
+      + stats_events p.transport.stats
+      + alive_weight p.core.phase
+      + handshake_weight p.transport.handshake
 
   -- no threshold stands at a stream and none is asked for, and the greatest moment that was taken is one
   pub record HasNoThreshold (p : Peer I D S M N) : Type 0 where

@@ -16,7 +16,7 @@ ghost use Rattle.rtc_peer_transport.specs.ChannelCalls.{ClosesDataChannel, Write
 ghost use Rattle.rtc_peer_transport.specs.Closing.{ClosesPeer};
 ghost use Rattle.rtc_peer_polling.specs.Inputs.{HandlesInput};
 ghost use Rattle.rtc_peer_polling.specs.Walk.{PollsPeer};
-ghost use Rattle.rtc_peer_weight.specs.Weight.{FallsBy, HasNoThreshold, IsMoment, IsTimely, PutsOut, weight};
+ghost use Rattle.rtc_peer_weight.specs.Weight.{FallsBy, HasNoThreshold, IsHandshakeTold, IsMoment, IsTimely, PutsOut, load, weight};
 
 use rtc_part_association::Association;
 use rtc_part_dtls::DtlsInstance;
@@ -24,20 +24,23 @@ use rtc_part_ice::IceAgent;
 use rtc_part_media::MediaSession;
 use rtc_part_values::Ids;
 
-/// Each datagram and each event that a poll answers lowers the weight of a peer at which no threshold is set, and a timeout does not
-/// raise it. So fewer outputs than its weight come before a timeout or an error, where nothing comes in between.
+/// Each datagram and each event that a poll answers lowers the load of a peer at which no threshold is set, and a timeout does not
+/// raise it. Behind a poll it is told that the handshake is finished, so fewer outputs than the weight come before a timeout or an
+/// error, where nothing comes in between.
 pub fn outputs_lower_weight<I: IceAgent, D: DtlsInstance, S: Association, M: MediaSession, N: Ids>()
     ensures polls { (p q : Polled I D S M N) (output : _)
         → HasNoThreshold (meanings I.ice D.dtls S.association M.media N.ids) p.core
         → PollsPeer (meanings I.ice D.dtls S.association M.media N.ids) p (Ok output) q
-        → FallsBy output (weight (meanings I.ice D.dtls S.association M.media N.ids) p)
-        (weight (meanings I.ice D.dtls S.association M.media N.ids) q) }
+        → FallsBy output (load (meanings I.ice D.dtls S.association M.media N.ids) p)
+        (load (meanings I.ice D.dtls S.association M.media N.ids) q) }
     ensures thresholds { (p q : Polled I D S M N) (answer : _)
         → HasNoThreshold (meanings I.ice D.dtls S.association M.media N.ids) p.core
         → PollsPeer (meanings I.ice D.dtls S.association M.media N.ids) p answer q
         → HasNoThreshold (meanings I.ice D.dtls S.association M.media N.ids) q.core }
+    ensures handshakes { (p q : Polled I D S M N) (answer : _) → IsHandshakeTold p
+        → PollsPeer (meanings I.ice D.dtls S.association M.media N.ids) p answer q → IsHandshakeTold q }
     ensures drains { (p q : Polled I D S M N) (outputs : List _)
-        → HasNoThreshold (meanings I.ice D.dtls S.association M.media N.ids) p.core
+        → HasNoThreshold (meanings I.ice D.dtls S.association M.media N.ids) p.core → IsHandshakeTold p
         → PutsOut (meanings I.ice D.dtls S.association M.media N.ids) outputs p q
         → length outputs < weight (meanings I.ice D.dtls S.association M.media N.ids) p }
 {}
@@ -86,4 +89,22 @@ pub fn other_calls_set_no_threshold<
         → HasNoThreshold (meanings I.ice D.dtls S.association M.media N.ids) p
         → RollsBack p token answer q
         → HasNoThreshold (meanings I.ice D.dtls S.association M.media N.ids) q }
+{}
+
+/// Other calls leave it told that the handshake is finished, if it was.
+pub fn other_calls_leave_handshakes_told<
+    I: IceAgent,
+    D: DtlsInstance,
+    S: Association,
+    M: MediaSession,
+    N: Ids,
+>()
+    ensures inputs { (p q : Polled I D S M N) (input : Given) (answer : _) → IsHandshakeTold p
+        → HandlesInput (meanings I.ice D.dtls S.association M.media N.ids) input p answer q → IsHandshakeTold q }
+    ensures closes { (p q : Polled I D S M N) (answer : _) → IsHandshakeTold p
+        → ClosesPeer (meanings I.ice D.dtls S.association M.media N.ids) p answer q → IsHandshakeTold q }
+    ensures writes { (p q : Polled I D S M N) (stream : ℕ) (binary : Bool) (bytes : List ℕ) (answer : _) → IsHandshakeTold p
+        → WritesChannel (meanings I.ice D.dtls S.association M.media N.ids) stream binary bytes p answer q → IsHandshakeTold q }
+    ensures channel_closes { (p q : Polled I D S M N) (id : ℕ) (answer : _) → IsHandshakeTold p
+        → ClosesDataChannel (meanings I.ice D.dtls S.association M.media N.ids) id p answer q → IsHandshakeTold q }
 {}

@@ -3,4 +3,6 @@
 
 mod laws;
 
-pub use laws::{other_calls_set_no_threshold, outputs_lower_weight};
+pub use laws::{
+    other_calls_leave_handshakes_told, other_calls_set_no_threshold, outputs_lower_weight,
+};

@@ -1,4 +1,4 @@
--- Steps other than those of negotiation set no threshold at the peer that acts.
+-- Steps other than those of negotiation leave the peer that acts undriven.
 use Rattle.std.proofs.Common.{◌≡◌, ◌∷◌, ℕ, Bool, List, [], Option, Some, None, Result, Ok, Err, alloc_error, sym, subst}
 use Rattle.rtc_wire.specs.declared.multiplex_kind.MultiplexKind.{MultiplexKind}
 use Rattle.rtc_wire.specs.declared.net_error.NetError.{NetError}
@@ -12,8 +12,10 @@ use Rattle.rtc_peer_transport.specs.declared.output.Output.{Output}
 use Rattle.rtc_peer_transport.specs.declared.output.Output.TheVariants as polled
 use Rattle.rtc_peer_transport.specs.declared.polled_peer.PolledPeer.{PolledPeer}
 use Rattle.rtc_peer_polling.specs.Walk.{PollsPeer}
-use Rattle.rtc_peer_weight.specs.Weight.{HasNoThreshold, IsMoment}
+use Rattle.rtc_peer_weight.specs.Weight.{IsMoment}
 use Rattle.rtc_peer_weight.proofs.Drains.{poll_unset}
+use Rattle.rtc_peer_weight.proofs.ToldCalls.{channel_closes_told, inputs_told, writes_told}
+use Rattle.rtc_peer_weight.proofs.ToldHandshakes.{polls_told}
 use Rattle.rtc_peer_weight.proofs.SetsNone.{channel_closes_set_none, inputs_set_none, writes_set_none}
 use Rattle.rtc_run_history.specs.declared.outcome.Outcome.{Outcome}
 use Rattle.rtc_run_history.specs.declared.outcome.Outcome.TheVariants.{Done, Wrote, Refused, NoSuch, Alloc, Polled}
@@ -26,16 +28,17 @@ use Rattle.rtc_run_history.specs.declared.side.Side.{Side}
 use Rattle.rtc_run_history.specs.declared.table.Table.{Table}
 use Rattle.rtc_run_history.specs.CallReplies.{ClosesOpenChannel, FindsNone, StepCalls, StepClosesChannel, StepWrites, StepWritesOpen}
 use Rattle.rtc_run_history.specs.Performs.{DrainsOn, DrainsPeer, HandlesRead, PollsOnce, PollsShown, StepPollsPeer, StepTakesDatagram}
+use Rattle.rtc_run_weight.specs.Drains.{IsUndriven}
 
 module _ {I D S M E X T W N : Type 0} (m : Meanings I D S M E X T W N) (laws : PartsLaws m) where
   abbrev pub Keeps : PolledPeer I D S M N → PolledPeer I D S M N → Type 0
-  Keeps p q = HasNoThreshold m p.core → HasNoThreshold m q.core
+  Keeps p q = IsUndriven m p → IsUndriven m q
 
   pub keeps_same : (p q : PolledPeer I D S M N) → q ≡ p → Keeps p q
-  keeps_same p q is h = subst (λ (x : PolledPeer I D S M N). HasNoThreshold m x.core) (sym is) h
+  keeps_same p q is h = subst (λ (x : PolledPeer I D S M N). IsUndriven m x) (sym is) h
 
   polls : (p : PolledPeer I D S M N) (answer : Result (Output E) RtcError) (q : PolledPeer I D S M N) → PollsPeer m p answer q → Keeps p q
-  polls p answer q h k = poll_unset m laws p q answer k h
+  polls p answer q h k = (poll_unset m laws p q answer k.0 h, polls_told m p q answer k.1 h)
 
   shown : (at : Side) (packets : List SentPacket) (s : Shown E) (packets' : List SentPacket) (p q : PolledPeer I D S M N)
       → PollsShown m at p packets s q packets' → Keeps p q
@@ -102,7 +105,7 @@ module _ {I D S M E X T W N : Type 0} (m : Meanings I D S M E X T W N) (laws : P
   pub read_keeps : (kind : Result MultiplexKind NetError) (transmit : Transmit) (now : ℕ) → IsMoment now → (p : PolledPeer I D S M N)
       (r : Result (Unit {0}) RtcError) (q : PolledPeer I D S M N) → HandlesRead m kind transmit now p r q → Keeps p q
   read_keeps (Err why) transmit now is p r q h = keeps_same p q h.1
-  read_keeps (Ok kind) transmit now is p r q h = λ k. inputs_set_none m laws p q (given.Receive now h.0) r is k h.2
+  read_keeps (Ok kind) transmit now is p r q h = λ k. (inputs_set_none m laws p q (given.Receive now h.0) r is k.0 h.2, inputs_told m p q (given.Receive now h.0) r k.1 h.2)
 
   pub datagram_keeps : (stun : List ℕ → Bool) (found : Option Transmit) (now : ℕ) → IsMoment now → (old : PolledPeer I D S M N) (outcome : Outcome E)
       (table : Option Table) (new : PolledPeer I D S M N) → StepTakesDatagram m stun found now old outcome table new → Keeps old new
@@ -124,9 +127,9 @@ module _ {I D S M E X T W N : Type 0} (m : Meanings I D S M E X T W N) (laws : P
       (new : PolledPeer I D S M N) → StepWritesOpen m stream binary bytes old outcome table new → Keeps old new
   open_write_keeps stream binary bytes old Alloc None new h = keeps_same old new h
   open_write_keeps stream binary bytes old (Wrote taken) (Some table) new h =
-      λ k. writes_set_none m laws old new stream binary bytes (Ok taken) k h.0
+      λ k. (writes_set_none m laws old new stream binary bytes (Ok taken) k.0 h.0, writes_told m old new stream binary bytes (Ok taken) k.1 h.0)
   open_write_keeps stream binary bytes old (Refused error) (Some table) new h =
-      λ k. writes_set_none m laws old new stream binary bytes (Err error) k h.0
+      λ k. (writes_set_none m laws old new stream binary bytes (Err error) k.0 h.0, writes_told m old new stream binary bytes (Err error) k.1 h.0)
   open_write_keeps stream binary bytes old outcome table new h = absurd h
 
   pub write_keeps : (stream : Option ℕ) (binary : Bool) (bytes : List ℕ) (old : PolledPeer I D S M N) (outcome : Outcome E) (table : Option Table)
@@ -136,8 +139,8 @@ module _ {I D S M E X T W N : Type 0} (m : Meanings I D S M E X T W N) (laws : P
 
   shut_keeps : (id : ℕ) (p : PolledPeer I D S M N) (r : Result (Unit {0}) RtcError) (q : PolledPeer I D S M N) → ClosesOpenChannel m id p r q
       → Keeps p q
-  shut_keeps id p (Ok done) q h = λ k. channel_closes_set_none m laws p q id (Ok tt) k h
-  shut_keeps id p (Err PeerAlloc) q h = λ k. channel_closes_set_none m laws p q id (Err alloc_error) k h
+  shut_keeps id p (Ok done) q h = λ k. (channel_closes_set_none m laws p q id (Ok tt) k.0 h, channel_closes_told m p q id (Ok tt) k.1 h)
+  shut_keeps id p (Err PeerAlloc) q h = λ k. (channel_closes_set_none m laws p q id (Err alloc_error) k.0 h, channel_closes_told m p q id (Err alloc_error) k.1 h)
   shut_keeps id p (Err error) q h = absurd h
 
   pub close_keeps : (stream : Option ℕ) (id : ℕ) (old : PolledPeer I D S M N) (outcome : Outcome E) (table : Option Table) (new : PolledPeer I D S M N)

@@ -1,14 +1,15 @@
 -- That a drain shows at most as many outputs as its peer weighs before it.
 use Rattle.std.specs.Prelude.{◌≤◌, List, [], ◌∷◌, length}
 use Rattle.rtc_peer_core.specs.Meanings.{Meanings}
-use Rattle.rtc_peer_weight.specs.Weight.{HasNoThreshold, IsMoment, weight}
+use Rattle.rtc_peer_transport.specs.declared.polled_peer.PolledPeer.{PolledPeer}
+use Rattle.rtc_peer_weight.specs.Weight.{HasNoThreshold, IsHandshakeTold, IsMoment, weight}
 use Rattle.rtc_run_history.specs.declared.side.Side.{Side}
 use Rattle.rtc_run_history.specs.declared.step.Step.{Step}
 use Rattle.rtc_run_history.specs.declared.step.Step.TheVariants.{Time, Datagram, Drain}
 use Rattle.rtc_run_history.specs.declared.step.Step.TheVariants.{Raw}
 use Rattle.rtc_run_history.specs.declared.outcome.Outcome.{Outcome}
 use Rattle.rtc_run_history.specs.declared.outcome.Outcome.TheVariants.{Polled}
-use Rattle.rtc_run_history.specs.PairState.{PairState, peer_at, rtc_at}
+use Rattle.rtc_run_history.specs.PairState.{PairState, rtc_at}
 
 -- the moment of a step, if it has one, is a moment
 abbrev pub HasMoment : Step → Type 0
@@ -22,9 +23,13 @@ HaveMoments [] = Unit {0}
 HaveMoments (step ∷ steps) = HasMoment step × HaveMoments steps
 
 module _ {I D S M E X T W N : Type 0} (m : Meanings I D S M E X T W N) where
-  -- no threshold is set at a stream of either side
-  abbrev pub HasNoThresholds : PairState I D S M N → Type 0
-  HasNoThresholds pair = (at : Side) → HasNoThreshold m (peer_at at pair)
+  -- no threshold is set at a stream of a peer, and it was told that its handshake is finished, if it is
+  abbrev pub IsUndriven : PolledPeer I D S M N → Type 0
+  IsUndriven p = HasNoThreshold m p.core × IsHandshakeTold p
+
+  -- so it is of both peers
+  abbrev pub AreUndriven : PairState I D S M N → Type 0
+  AreUndriven pair = (at : Side) → IsUndriven (rtc_at at pair)
 
   -- the outputs that a drain shows are at most as many as the weight of its peer before it
   abbrev pub ShowsWithin : PairState I D S M N → Step → Outcome E → Type 0

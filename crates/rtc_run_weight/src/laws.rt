@@ -7,7 +7,7 @@ ghost use Rattle.rtc_run_history.specs.Past.{Entry, steps_of};
 ghost use Rattle.rtc_run_history.specs.PairState.{PairState};
 ghost use Rattle.rtc_run_history.specs.Performs.{Enters};
 ghost use Rattle.rtc_run_history.specs.Runs.{Reached, Runs, Went};
-ghost use Rattle.rtc_run_weight.specs.Drains.{HasNoThresholds, HaveMoments, ShowsWithin};
+ghost use Rattle.rtc_run_weight.specs.Drains.{AreUndriven, HaveMoments, ShowsWithin};
 
 use rtc_part_association::Association;
 use rtc_part_dtls::DtlsInstance;
@@ -16,7 +16,7 @@ use rtc_part_media::MediaSession;
 use rtc_part_values::Ids;
 
 /// In a run of a pair at which no threshold is set, a drain shows at most as many outputs as its peer weighs before it. No step sets a
-/// threshold.
+/// threshold, and no step leaves it to be told that a handshake is finished.
 pub fn drains_show_at_most_their_weight<
     I: IceAgent,
     D: DtlsInstance,
@@ -25,15 +25,15 @@ pub fn drains_show_at_most_their_weight<
     N: Ids,
 >()
     ensures reached { (stun : List _ → Bool) (start pair : PairState I D S M N) (past : List (Entry _))
-        → HasNoThresholds (meanings I.ice D.dtls S.association M.media N.ids) start → HaveMoments (steps_of past)
+        → AreUndriven (meanings I.ice D.dtls S.association M.media N.ids) start → HaveMoments (steps_of past)
         → Reached (meanings I.ice D.dtls S.association M.media N.ids) stun start past pair
-        → HasNoThresholds (meanings I.ice D.dtls S.association M.media N.ids) pair }
+        → AreUndriven (meanings I.ice D.dtls S.association M.media N.ids) pair }
     ensures drains { (stun : List _ → Bool) (between after : PairState I D S M N) (entry : Entry _)
-        → HasNoThresholds (meanings I.ice D.dtls S.association M.media N.ids) between
+        → AreUndriven (meanings I.ice D.dtls S.association M.media N.ids) between
         → Enters (meanings I.ice D.dtls S.association M.media N.ids) stun between entry after
         → ShowsWithin (meanings I.ice D.dtls S.association M.media N.ids) between entry.step entry.outcome }
     ensures ran { (stun : List _ → Bool) (start pair : PairState I D S M N) (steps : List Step) (replies : List (Reply _))
-        → HasNoThresholds (meanings I.ice D.dtls S.association M.media N.ids) start → HaveMoments steps
+        → AreUndriven (meanings I.ice D.dtls S.association M.media N.ids) start → HaveMoments steps
         → (run : Runs (meanings I.ice D.dtls S.association M.media N.ids) stun start steps replies pair)
         → Went (λ earlier between entry after. Enters (meanings I.ice D.dtls S.association M.media N.ids) stun between entry after
         × ShowsWithin (meanings I.ice D.dtls S.association M.media N.ids) between entry.step entry.outcome)
