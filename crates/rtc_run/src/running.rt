@@ -4,8 +4,10 @@ ghost use Rattle.rtc_run_crossed.specs.Crossed.{CrossedOffersMeet};
 ghost use Rattle.rtc_run_history.specs.DrawnInRuns.{AllPlain, DrawsUnused, HaveNoLines};
 ghost use Rattle.rtc_run_history.specs.Sizes.{steps_size};
 ghost use Rattle.rtc_run_history.specs.Fresh.{ArePeersFormed, IsFresh};
-ghost use Rattle.rtc_run_history.specs.Runs.{Runs};
+ghost use Rattle.rtc_run_history.specs.Performs.{Enters};
+ghost use Rattle.rtc_run_history.specs.Runs.{Runs, Went};
 ghost use Rattle.rtc_run_history.specs.Signalled.{AllReadBack};
+ghost use Rattle.rtc_run_weight.specs.Drains.{AreUndriven, HaveMoments, ShowsWithin};
 ghost use Rattle.rtc_peer_core.specs.Meanings.{meanings};
 
 use crate::Pair;
@@ -18,7 +20,8 @@ use std::alloc::{AllocError, Global};
 ///
 /// Offers and answers reach the other peer as signalling delivers them: written, and read again. They are read as they were written
 /// where each source was unused when it was drawn. Two offers that cross, of a polite peer and an impolite one that are in step, bring
-/// the two together by a rollback (RFC 3264, section 4). Room for the replies is made first, so an error leaves both peers as they were.
+/// the two together by a rollback (RFC 3264, section 4). A drain shows at most as many outputs as its peer weighs before it. Room for the
+/// replies is made first, so an error leaves both peers as they were.
 pub fn run_pair<I: IceAgent, D: DtlsInstance, S: Association, M: MediaSession, N: Ids>(
     alloc: Global,
     pair: &mut Pair<I, D, S, M, N>,
@@ -38,6 +41,12 @@ pub fn run_pair<I: IceAgent, D: DtlsInstance, S: Association, M: MediaSession, N
         → AllPlain pair.new.sdps) }
     ensures crossed { ArePeersFormed (meanings I.ice D.dtls S.association M.media N.ids) pair.old
         → CrossedOffersMeet (meanings I.ice D.dtls S.association M.media N.ids) I.stun pair.old }
+    ensures drains { AreUndriven (meanings I.ice D.dtls S.association M.media N.ids) pair.old → HaveMoments steps.now
+        → IfOk result (λ replies. (run : Runs (meanings I.ice D.dtls S.association M.media N.ids) I.stun
+        pair.old steps.now replies pair.new)
+        → Went (λ earlier between entry after. Enters (meanings I.ice D.dtls S.association M.media N.ids) I.stun between entry after
+        × ShowsWithin (meanings I.ice D.dtls S.association M.media N.ids) between entry.step entry.outcome)
+        (λ start. start ≡ pair.old) run.past pair.new) }
     ensures untouched { OnErr result (pair.new ≡ pair.old) }
 {
     let mut replies = Vec::with_capacity(alloc, steps.len())?;

@@ -13,14 +13,13 @@ use Rattle.rtc_sctp.specs.Streams.{SctpStreams}
 use Rattle.rtc_peer_core.specs.Built.{payload_of_mtu}
 use Rattle.rtc_peer_core.specs.declared.peer.Peer.{Peer}
 use Rattle.rtc_run_history.specs.declared.outcome.Outcome.{Outcome}
-use Rattle.rtc_run_history.specs.declared.reply.Reply.{Reply}
 use Rattle.rtc_run_history.specs.declared.side.Side.{Side}
 use Rattle.rtc_run_history.specs.declared.side.Side.TheVariants.{Left, Right}
 use Rattle.rtc_run_history.specs.declared.step.Step.{Step}
 use Rattle.rtc_run_history.specs.Native.{go_forward}
 use Rattle.rtc_run_history.specs.PairState.{addr_at, rtc_at}
 use Rattle.rtc_run_history.specs.Past.{Entry, steps_of}
-use Rattle.rtc_run_history.specs.Runs.{Reached, Runs}
+use Rattle.rtc_run_history.specs.Runs.{Reached}
 use Rattle.rtc_run_history.specs.Sides.{other_side, same_side, side_of}
 use Rattle.rtc_run_history.specs.Performs.{Enters}
 use Rattle.rtc_run_laws.proofs.EmptyStreams.{AreUnused, went_unused}
@@ -32,14 +31,14 @@ use Rattle.rtc_run_laws.specs.ChannelUses.{ChannelUse}
 use Rattle.rtc_run_laws.specs.CalledSteps.{calls_peer}
 use Rattle.rtc_run_laws.proofs.UncalledSteps.{uncalled_same, uncalled_uses}
 use Rattle.rtc_run_laws.specs.DrainedSides.{DrainedByEntry, DrainedByStep, IsDrained}
-use Rattle.rtc_run_laws.specs.HandedOut.{AreAllHandedOut, HandsOut}
+use Rattle.rtc_run_laws.specs.HandedOut.{AreAllHandedOut}
 use Rattle.rtc_run_laws.specs.SentMessages.{sent_over}
 use Rattle.rtc_run_laws.specs.ToldMessages.{MessagesTold, told_over}
-use Rattle.rtc_run_laws.specs.UsesOfRuns.{reached_by, uses_acted, uses_in_run, uses_of}
+use Rattle.rtc_run_laws.specs.UsesOfRuns.{uses_acted, uses_of}
 use Rattle.rtc_run_laws.proofs.DrainedSteps.{acts_heard}
 use Rattle.rtc_run_laws.proofs.HeardSides.{HeardSide, heard_there}
 use Rattle.rtc_run_laws.proofs.StandingSides.{Sent}
-use Rattle.rtc_run_laws.proofs.RunsTold.{PairTold, StoodIn, new_pair_told, pair_handed, pair_once, pair_told_whole, pair_whole, pair_wholly, reached_told, stood_in}
+use Rattle.rtc_run_laws.proofs.RunsTold.{PairTold, StoodIn, pair_wholly, reached_told, stood_in}
 use Rattle.rtc_run_laws.proofs.ForwardSteps.{forward_entry}
 
 module _ {N : Type 0} (draws : Draws N) where
@@ -91,7 +90,7 @@ module _ {N : Type 0} (draws : Draws N) where
   heard_after Right Right between pair uses acted step outcome earlier other acts same before d =
       heard_here (calls_peer outcome) step outcome (earlier Right) (rtc_at Right between) (rtc_at Right pair) (uses Right) (acted (uses Right)) acts same before d
 
-  heard_reached : (stun : List ℕ → Bool) (start : PlainPair N) (past : List (Entry PlainMediaEvent)) (pair : PlainPair N)
+  pub heard_reached : (stun : List ℕ → Bool) (start : PlainPair N) (past : List (Entry PlainMediaEvent)) (pair : PlainPair N)
       → go_forward (steps_of past) ≡ true → (ran : Reached (plain_over draws) stun start past pair) → PairTold draws start (λ x. []) (λ x s g. []) (λ x c s g. []) → AreUnused (plain_over draws) (plain_over_laws draws) start
       → (at : Side) → IsDrained at past → HeardSide (uses_of (plain_over draws) stun start at past pair ran) (rtc_at at pair)
   heard_reached stun start [] pair go ran h unused at d = absurd d
@@ -144,25 +143,3 @@ module _ {N : Type 0} (draws : Draws N) where
       joined acknowledged
       (heard_there draws (uses_of (plain_over draws) stun start at past pair ran) (rtc_at at pair) x (heard_reached stun start past pair go ran h unused at d) mine
       joined.reader_in_band joined.reader)
-
-  pub run_hands_out : (stun : List ℕ → Bool) (start pair : PlainPair N) (steps : List Step) (replies : List (Reply PlainMediaEvent)) → IsNewPair draws start
-      → go_forward steps ≡ true → (run : Runs (plain_over draws) stun start steps replies pair) → HandsOut draws stun start steps replies pair run
-  run_hands_out stun start pair steps replies new forward run =
-      let go : go_forward (steps_of run.past) ≡ true = ap go_forward run.steps_are ∙ forward in
-      let ran : Reached (plain_over draws) stun start run.past pair = reached_by (plain_over draws) stun start run.past pair run.went in
-      let told : PairTold draws pair (uses_in_run (plain_over draws) stun start steps replies pair run) (λ z. sent_over (plain_over draws) stun start z run.past pair ran)
-      (λ z. told_over (plain_over draws) stun start z run.past pair ran) =
-      reached_told draws stun start run.past pair go ran (new_pair_told draws start new) in
-      record {
-        once = λ at. pair_once draws pair (uses_in_run (plain_over draws) stun start steps replies pair run) (λ z. sent_over (plain_over draws) stun start z run.past pair ran)
-            (λ z. told_over (plain_over draws) stun start z run.past pair ran) at told;
-        whole = λ at. pair_whole draws pair (uses_in_run (plain_over draws) stun start steps replies pair run) (λ z. sent_over (plain_over draws) stun start z run.past pair ran)
-            (λ z. told_over (plain_over draws) stun start z run.past pair ran) at told;
-        told = λ at. pair_told_whole draws pair (uses_in_run (plain_over draws) stun start steps replies pair run) (λ z. sent_over (plain_over draws) stun start z run.past pair ran)
-            (λ z. told_over (plain_over draws) stun start z run.past pair ran) at told;
-        handed = λ at. pair_handed draws pair (uses_in_run (plain_over draws) stun start steps replies pair run) (λ z. sent_over (plain_over draws) stun start z run.past pair ran)
-            (λ z. told_over (plain_over draws) stun start z run.past pair ran) at told;
-        all = λ at. pair_wholly draws pair (uses_in_run (plain_over draws) stun start steps replies pair run) (λ z. sent_over (plain_over draws) stun start z run.past pair ran)
-            (λ z. told_over (plain_over draws) stun start z run.past pair ran) at told;
-        drained = λ at d. pair_drained stun start run.past pair go ran (new_pair_told draws start new) (new_unused start new) at d;
-      }

@@ -16,6 +16,7 @@ use Rattle.rtc_run_laws.specs.ChannelUses.{ChannelUse, with_got_message, with_se
 use Rattle.rtc_run_laws.specs.OpenUses.{StaysOpen}
 use Rattle.rtc_run_laws.proofs.FinishedSides.{none_among}
 use Rattle.rtc_run_laws.proofs.QuietActs.{HoldsNoOutput, StaysHeard, dtls_quiet, quiet_moved}
+use Rattle.rtc_peer_transport.specs.ChannelCalls.{open_stream_under}
 use Rattle.rtc_run_laws.proofs.OpenStreams.{open_free, open_placed}
 use Rattle.rtc_run_laws.proofs.UseLists.{AllUses, all_got, all_kept, all_member, all_sent}
 
@@ -96,20 +97,26 @@ module _ {N : Type 0} (draws : Draws N) where
 
   -- ---- at the end
 
-  pub heard_there : (uses : List ChannelUse) (p : PlainPolled N) (x : ChannelUse) → HeardSide uses p → Member x uses → x.in_band ≡ true
-      → (h : StaysOpen (plain_over draws) x p) → has_unread p.core.sctp.association h.stream x.generation ≡ false
-  heard_there uses p x (inl closed) there band h = absurd (open_free x.channel h.stream p h.there closed)
-  heard_there uses p x (inr (inr gone)) there band h =
+  -- where the channel is open, nothing of its generation stands unread
+  pub heard_open : (uses : List ChannelUse) (p : PlainPolled N) (x : ChannelUse) → HeardSide uses p → Member x uses → x.in_band ≡ true
+      → (stream : ℕ) → x.stream ≡ Some stream → open_stream_under x.channel p ≡ Some stream
+      → generation_of p.core.sctp.association stream ≡ x.generation → has_unread p.core.sctp.association stream x.generation ≡ false
+  heard_open uses p x (inl closed) mine band stream of there own = absurd (open_free x.channel stream p there closed)
+  heard_open uses p x (inr (inr gone)) mine band stream of there own =
       absurd
-      (no_some h.stream
-      (sym (none_under x.channel p.core.channels.rows (all_member (GoneUse p) uses x gone there band).1) ∙ open_placed x.channel h.stream p h.there))
-  heard_there uses p x (inr (inl heard)) there band h = by (all_member (HeardUse p) uses x heard.each there band h.stream h.of)
+      (no_some stream
+      (sym (none_under x.channel p.core.channels.rows (all_member (GoneUse p) uses x gone mine band).1) ∙ open_placed x.channel stream p there))
+  heard_open uses p x (inr (inl heard)) mine band stream of there own = by (all_member (HeardUse p) uses x heard.each mine band stream of)
     where
       by : IsGone x.channel p.core.channels
-          ⊎ (has_unread p.core.sctp.association h.stream (generation_of p.core.sctp.association h.stream) ≡ false)
-          → has_unread p.core.sctp.association h.stream x.generation ≡ false
+          ⊎ (has_unread p.core.sctp.association stream (generation_of p.core.sctp.association stream) ≡ false)
+          → has_unread p.core.sctp.association stream x.generation ≡ false
       by (inl gone) =
           absurd
-          (no_some h.stream
-          (sym (none_under x.channel p.core.channels.rows gone.1) ∙ open_placed x.channel h.stream p h.there))
-      by (inr none) = ap (λ (n : ℕ). has_unread p.core.sctp.association h.stream n) (sym h.generation) ∙ none
+          (no_some stream
+          (sym (none_under x.channel p.core.channels.rows gone.1) ∙ open_placed x.channel stream p there))
+      by (inr none) = ap (λ (n : ℕ). has_unread p.core.sctp.association stream n) (sym own) ∙ none
+
+  pub heard_there : (uses : List ChannelUse) (p : PlainPolled N) (x : ChannelUse) → HeardSide uses p → Member x uses → x.in_band ≡ true
+      → (h : StaysOpen (plain_over draws) x p) → has_unread p.core.sctp.association h.stream x.generation ≡ false
+  heard_there uses p x heard mine band h = heard_open uses p x heard mine band h.stream h.of h.there h.generation

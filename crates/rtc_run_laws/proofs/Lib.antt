@@ -211,3 +211,8 @@ pub mod StepWalks
 pub mod BandedSteps
 pub mod BandedRuns
 pub mod SettlesRuns
+pub mod Silence
+pub mod SentUses
+pub mod SilentRuns
+pub mod HandsRuns
+pub mod Delivered

@@ -1,5 +1,5 @@
 -- That a channel hands out what the other side sent over it, in order (RFC 8831, section 6.1).
-use Rattle.std.specs.Prelude.{◌≡◌, ℕ, Bool, true, false, List, Some}
+use Rattle.std.specs.Prelude.{◌≡◌, ℕ, Bool, true, false, List, [], Some}
 use Rattle.rtc_part_values.specs.Among.{Member}
 use Rattle.rtc_assoc.specs.Unread.{IsPrefix}
 use Rattle.rtc_assoc_state.specs.Contents.{has_unread}
@@ -15,10 +15,13 @@ use Rattle.rtc_run_history.specs.Sides.{other_side}
 use Rattle.rtc_run_laws.specs.PlainPairs.{PlainPair, PlainPolled, plain_over}
 use Rattle.rtc_run_laws.specs.AnnouncedOnce.{AreAnnouncedOnce}
 use Rattle.rtc_run_laws.specs.ChannelUses.{ChannelUse}
+use Rattle.rtc_run_laws.specs.Delivered.{AreAllDelivered}
 use Rattle.rtc_run_laws.specs.DrainedSides.{IsDrained}
+use Rattle.rtc_run_laws.specs.InBandSteps.{AreInBandSteps}
 use Rattle.rtc_run_laws.specs.OpenUses.{AreJoinedUses}
 use Rattle.rtc_run_laws.specs.SentMessages.{sent_over}
 use Rattle.rtc_run_laws.specs.ToldMessages.{MessagesTold, told_over}
+use Rattle.rtc_run_laws.specs.Unannounced.{AreGotOfAnnounced, AreToldOfAnnounced, AreToldOfSent, HaveNumbersLeft}
 use Rattle.rtc_run_laws.specs.UsesOfRuns.{reached_by, uses_in_run}
 
 -- Where two channels were opened in-band over one generation of one stream, what one got is a prefix of what was sent over the other.
@@ -78,7 +81,8 @@ AreWhollyHandedOut draws readers p writers q =
 -- one over each generation of a stream, to which it sent nothing before. Where the other side announced one over that generation too, it
 -- was told nothing of its own channel there before, and got over it a prefix of what the other side sent over its own; at the end of the
 -- run all of it, where both stay open and all was delivered, as it was where the side was drained since its last input and all is
--- acknowledged.
+-- acknowledged. It was told nothing of a generation to which the other side sent nothing; and where no step added a channel that was
+-- settled by other means than messages, nothing of one over which the other side announced no channel.
 pub record HandsOut {N : Type 0} (draws : Draws N) (stun : List ℕ → Bool) (start : PlainPair N) (steps : List Step)
     (replies : List (Reply PlainMediaEvent)) (pair : PlainPair N) (run : Runs (plain_over draws) stun start steps replies pair)
     : Type 0 where
@@ -100,3 +104,19 @@ pub record HandsOut {N : Type 0} (draws : Draws N) (stun : List ℕ → Bool) (s
       → IsDrained at run.past
       → AreAllHandedOut draws (uses_in_run (plain_over draws) stun start steps replies pair run at) (rtc_at at pair)
       (uses_in_run (plain_over draws) stun start steps replies pair run (other_side at)) (rtc_at (other_side at) pair)
+  pub delivered : (at : Side)
+      → IsDrained at run.past
+      → AreAllDelivered (uses_in_run (plain_over draws) stun start steps replies pair run at) (rtc_at at pair)
+      (uses_in_run (plain_over draws) stun start steps replies pair run (other_side at)) (rtc_at (other_side at) pair)
+  pub unsent : (at : Side)
+      → AreToldOfSent
+      (sent_over (plain_over draws) stun start (other_side at) run.past pair (reached_by (plain_over draws) stun start run.past pair run.went))
+      (told_over (plain_over draws) stun start at run.past pair (reached_by (plain_over draws) stun start run.past pair run.went))
+  pub unannounced : start.sdps ≡ [] → AreInBandSteps steps
+      → HaveNumbersLeft draws stun start run.past pair (reached_by (plain_over draws) stun start run.past pair run.went) → (at : Side)
+      → AreToldOfAnnounced (uses_in_run (plain_over draws) stun start steps replies pair run (other_side at))
+      (told_over (plain_over draws) stun start at run.past pair (reached_by (plain_over draws) stun start run.past pair run.went))
+  pub silent : start.sdps ≡ [] → AreInBandSteps steps
+      → HaveNumbersLeft draws stun start run.past pair (reached_by (plain_over draws) stun start run.past pair run.went) → (at : Side)
+      → AreGotOfAnnounced (uses_in_run (plain_over draws) stun start steps replies pair run (other_side at))
+      (uses_in_run (plain_over draws) stun start steps replies pair run at)

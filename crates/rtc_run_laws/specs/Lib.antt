@@ -17,3 +17,5 @@ pub mod RestingPasts
 pub mod InBandSteps
 pub mod SettledPairs
 pub mod HandedOut
+pub mod Unannounced
+pub mod Delivered

@@ -12,6 +12,7 @@ ghost use Rattle.rtc_run_history.specs.Sides.{other_side};
 ghost use Rattle.rtc_run_laws.specs.NewPairs.{IsNewPair};
 ghost use Rattle.rtc_run_laws.specs.PlainPairs.{PlainPair, plain_over};
 ghost use Rattle.rtc_run_laws.specs.AnnouncedOnce.{AreAnnouncedOnce};
+ghost use Rattle.rtc_run_laws.specs.Delivered.{AreAllDelivered};
 ghost use Rattle.rtc_run_laws.specs.DrainedSides.{IsDrained};
 ghost use Rattle.rtc_run_laws.specs.HandedOut.{AreAllHandedOut, AreHandedOut, AreSentWhole, AreToldWhole};
 ghost use Rattle.rtc_run_laws.specs.HandedOut.{AreWhollyHandedOut, HandsOut};
@@ -27,6 +28,8 @@ use rtc_part_values::Ids;
 /// that generation, and a prefix of what the other sent over its own since. It is all of that where both channels stay open, the
 /// writer has no unacknowledged item of the stream, and no whole message of the generation stands unread at the reader. None does
 /// where the reader was drained: since its last input, and since a channel was last told to be open, a poll of it answered a timeout.
+/// A drained reader got all of it also where the writer is closed, or an association is closing or closed: it suffices that the channel of
+/// the reader is open, and that both sides have the generation still, which neither closed.
 ///
 /// No step brings in a text or bytes of anybody, and none rolls an offer back.
 pub fn channels_hand_out_prefixes<N: Ids>()
@@ -53,6 +56,10 @@ pub fn channels_hand_out_prefixes<N: Ids>()
     ensures drained { (stun : List ℕ → Bool) (start pair : PlainPair N) (past : List (Entry PlainMediaEvent)) → IsNewPair N.ids start
         → go_forward (steps_of past) ≡ true → (ran : Reached (plain_over N.ids) stun start past pair) → (at : Side) → IsDrained at past
         → AreAllHandedOut N.ids (uses_of (plain_over N.ids) stun start at past pair ran) (rtc_at at pair)
+        (uses_of (plain_over N.ids) stun start (other_side at) past pair ran) (rtc_at (other_side at) pair) }
+    ensures delivered { (stun : List ℕ → Bool) (start pair : PlainPair N) (past : List (Entry PlainMediaEvent)) → IsNewPair N.ids start
+        → go_forward (steps_of past) ≡ true → (ran : Reached (plain_over N.ids) stun start past pair) → (at : Side) → IsDrained at past
+        → AreAllDelivered (uses_of (plain_over N.ids) stun start at past pair ran) (rtc_at at pair)
         (uses_of (plain_over N.ids) stun start (other_side at) past pair ran) (rtc_at (other_side at) pair) }
     ensures ran { (stun : List ℕ → Bool) (start pair : PlainPair N) (steps : List Step) (replies : List (Reply PlainMediaEvent))
         → IsNewPair N.ids start → go_forward steps ≡ true → (run : Runs (plain_over N.ids) stun start steps replies pair)

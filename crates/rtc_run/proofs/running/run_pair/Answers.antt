@@ -1,4 +1,8 @@
-use Rattle.std.proofs.Common.{rules}
+use Rattle.std.proofs.Common.{rules, sym, subst}
+use Rattle.std.specs.Prelude.{List}
+use Rattle.rtc_run_history.specs.declared.step.Step.{Step}
+use Rattle.rtc_run_weight.specs.Drains.{HaveMoments}
+use Rattle.rtc_run_weight.proofs.Runs.{went_within}
 use Rattle.rtc_run_crossed.proofs.CrossingRuns.{crossed_meet}
 use Rattle.rtc_run_laws.proofs.FormedSteps.{runs_read_back}
 use Rattle.rtc_run_laws.proofs.PlainRuns.{runs_plain}
@@ -39,3 +43,6 @@ returns-clause-crossed g c = λ formed. crossed_meet (meanings g.I.IceAgent.ice 
 
 pub returns-in_err-replies-clause-crossed : goal.returns-in_err-replies-clause-crossed
 returns-in_err-replies-clause-crossed g c = λ formed. crossed_meet (meanings g.I.IceAgent.ice g.D.DtlsInstance.dtls g.S.Association.association g.M.MediaSession.media g.N.Ids.ids) g.I.StunReader.stun (record { ice = g.met.I.IceAgent.laws; dtls = g.met.D.DtlsInstance.laws; association = g.met.S.Association.laws; media = g.met.M.MediaSession.laws }) _ c.requires.fresh formed
+
+pub returns-clause-drains : goal.returns-clause-drains
+returns-clause-drains g c = λ undriven moments run. went_within (meanings g.I.IceAgent.ice g.D.DtlsInstance.dtls g.S.Association.association g.M.MediaSession.media g.N.Ids.ids) (record { ice = g.met.I.IceAgent.laws; dtls = g.met.D.DtlsInstance.laws; association = g.met.S.Association.laws; media = g.met.M.MediaSession.laws }) g.I.StunReader.stun _ _ run.past undriven (subst (λ (l : List Step). HaveMoments l) (sym run.steps_are) moments) run.went

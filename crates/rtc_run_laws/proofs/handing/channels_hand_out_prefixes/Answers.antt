@@ -2,7 +2,9 @@ use Rattle.rtc_run_laws.specs.PlainPairs.{plain_over}
 use Rattle.rtc_run_laws.specs.SentMessages.{sent_over}
 use Rattle.rtc_run_laws.specs.ToldMessages.{told_over}
 use Rattle.rtc_run_laws.specs.UsesOfRuns.{uses_of}
-use Rattle.rtc_run_laws.proofs.DrainedRuns.{new_unused, pair_drained, run_hands_out}
+use Rattle.rtc_run_laws.proofs.Delivered.{run_delivered}
+use Rattle.rtc_run_laws.proofs.DrainedRuns.{new_unused, pair_drained}
+use Rattle.rtc_run_laws.proofs.HandsRuns.{run_hands_out}
 use Rattle.rtc_run_laws.proofs.RunsTold.{new_pair_told, pair_handed, pair_once, pair_told_whole, pair_whole, pair_wholly, reached_told}
 use Rattle.rtc_run_laws.proofs.handing.channels_hand_out_prefixes.Goals as goal
 
@@ -44,6 +46,9 @@ returns-clause-all g c = λ stun start pair past new go ran at.
 pub returns-clause-drained : goal.returns-clause-drained
 returns-clause-drained g c = λ stun start pair past new go ran at drained.
     pair_drained g.N.Ids.ids stun start past pair go ran (new_pair_told g.N.Ids.ids start new) (new_unused g.N.Ids.ids start new) at drained
+
+pub returns-clause-delivered : goal.returns-clause-delivered
+returns-clause-delivered g c = λ stun start pair past new go ran at drained. run_delivered g.N.Ids.ids stun start new past pair go ran at drained
 
 pub returns-clause-ran : goal.returns-clause-ran
 returns-clause-ran g c = λ stun start pair steps replies new go run. run_hands_out g.N.Ids.ids stun start pair steps replies new go run

@@ -1,0 +1,197 @@
+-- All that was sent is got where neither end closed the generation, also where the writer is closed.
+use Rattle.std.proofs.Common.{◌≡◌, ◌≢◌, ◌≤◌, ◌<◌, ◌∙◌, ◌⊎◌, ◌++◌, ◌∷◌, ◌==◌, ◌&&◌, ◌||◌, ℕ, Bool, true, false, true≢false, List, [], append-nil, Some, None, inl, inr, refl, sym, ap, subst, arith}
+use Rattle.std.proofs.lemmas.Bool.{eqb-true, eqb-false}
+use Rattle.rtc_part_association.specs.AssociationActs.{AssociationAct, Acted, Ended, Given, Moved}
+use Rattle.rtc_part_association.specs.AssociationLaws.{AssociationLaws}
+use Rattle.rtc_part_association.specs.AssociationMeaning.{AssociationMeaning}
+use Rattle.rtc_part_association.specs.AssociationWords.{AssociationMessage, ended, read, written}
+use Rattle.rtc_part_association.proofs.AssociationLemmas.{generation_rises}
+use Rattle.rtc_part_values.specs.Among.{Member}
+use Rattle.rtc_part_values.specs.Draws.{Draws}
+use Rattle.rtc_assoc.specs.Unread.{unread}
+use Rattle.rtc_assoc_state.proofs.PlainLaws.{plain_laws}
+use Rattle.rtc_assoc_state.specs.Contents.{closed_here, fresh_contents, generation_of, has_unread}
+use Rattle.rtc_assoc_state.specs.Outbox.{has_unacknowledged}
+use Rattle.rtc_assoc_state.specs.PlainMeaning.{plain_meaning}
+use Rattle.rtc_plain_media.specs.declared.plain_media_event.PlainMediaEvent.{PlainMediaEvent}
+use Rattle.rtc_sctp_laws.specs.Contents.{contents_by, contents_of}
+use Rattle.rtc_sctp_laws.specs.GenerationLaws.{GenerationLaws, KeepsGeneration}
+use Rattle.rtc_sctp_laws.specs.StreamMessages.{StreamMessage}
+use Rattle.rtc_sctp_laws.proofs.PlainGenerations.{plain_generations}
+use Rattle.rtc_peer_transport.specs.ChannelCalls.{open_stream_under}
+use Rattle.rtc_peer_laws.specs.PeerActs.{PeerActs}
+use Rattle.rtc_peer_laws.proofs.ChannelsOver.{none_under}
+use Rattle.rtc_run_history.specs.Native.{go_forward}
+use Rattle.rtc_run_history.specs.PairState.{rtc_at}
+use Rattle.rtc_run_history.specs.Past.{Entry, steps_of}
+use Rattle.rtc_run_history.specs.Runs.{Reached}
+use Rattle.rtc_run_history.specs.Sides.{other_side}
+use Rattle.rtc_run_history.specs.declared.side.Side.{Side}
+use Rattle.rtc_run_history.specs.declared.side.Side.TheVariants.{Left, Right}
+use Rattle.rtc_run_laws.specs.ChannelUses.{ChannelUse}
+use Rattle.rtc_run_laws.specs.Delivered.{AreAllDelivered, AreDelivering}
+use Rattle.rtc_run_laws.specs.DrainedSides.{IsDrained}
+use Rattle.rtc_run_laws.specs.NewPairs.{IsNewPair}
+use Rattle.rtc_run_laws.specs.PlainPairs.{PlainPair, PlainPolled, plain_over}
+use Rattle.rtc_run_laws.specs.SentMessages.{sent_over}
+use Rattle.rtc_run_laws.specs.ToldMessages.{MessagesTold, told_over}
+use Rattle.rtc_run_laws.specs.UsesOfRuns.{uses_of}
+use Rattle.rtc_run_laws.proofs.AllHanded.{none_unread}
+use Rattle.rtc_run_laws.proofs.DrainedRuns.{heard_reached, new_unused}
+use Rattle.rtc_run_laws.proofs.GotAndSent.{both_carry}
+use Rattle.rtc_run_laws.proofs.HeardSides.{HeardSide, heard_open}
+use Rattle.rtc_run_laws.proofs.OpenStreams.{open_free, open_placed}
+use Rattle.rtc_run_laws.proofs.RunsExchange.{side_all}
+use Rattle.rtc_run_laws.proofs.RunsTold.{PairTold, new_pair_told, reached_told}
+use Rattle.rtc_run_laws.proofs.StandingSides.{Sent, SideStood}
+use Rattle.rtc_run_laws.proofs.UseLists.{all_member, prefix_same}
+use Rattle.rtc_run_laws.proofs.UsesTold.{HasGone, InBandTold, IsOver, Lives, StandsSo, UseTold}
+
+-- ---- generations that this end closed
+
+both_true : (c d : Bool) → (c && d) ≡ true → (c ≡ true) × (d ≡ true)
+both_true true true f = (refl, refl)
+both_true true false f = absurd (true≢false (sym f))
+both_true false d f = absurd (true≢false (sym f))
+
+module _ {S : Type 0} (m : AssociationMeaning S) (w : AssociationLaws m) (v : GenerationLaws m) where
+  -- a stream came to a later generation, or this end closed it in this one
+  abbrev IsShut : (s g : ℕ) → S → Type 0
+  IsShut s g a = (g < m.generation a s) ⊎ ((m.generation a s ≡ g) × (m.closed_here a s ≡ true))
+
+  kept_shut : (s g : ℕ) (a b : S) → KeepsGeneration m s a b → m.generation a s ≡ g → m.closed_here a s ≡ true → IsShut s g b
+  kept_shut s g a b k e h = inr (k.generation_is ∙ e, k.closed h)
+
+  act_shut : (s g : ℕ) (a b : S) (act : AssociationAct) → Acted m a act b → IsShut s g a → IsShut s g b
+  act_shut s g a b act h (inl k) = let up = generation_rises m w a b act s h in inl (omega (arith, up, k))
+  act_shut s g a b (Given bytes) h (inr k) = by (m.generation b s == m.generation a s) refl
+    where
+      by : (c : Bool) → (m.generation b s == m.generation a s) ≡ c → IsShut s g b
+      by true c = kept_shut s g a b (v.packets_keep s h.0 bytes a b h.1.0 h.1.1 (eqb-true (m.generation b s) (m.generation a s) c)) k.0 k.1
+      by false c =
+          let other : m.generation b s ≢ m.generation a s = eqb-false (m.generation b s) (m.generation a s) c in
+          let up : m.generation a s ≤ m.generation b s = generation_rises m w a b (Given bytes) s h in
+          let own : m.generation a s ≡ g = k.0 in
+          inl (omega (arith, up, other, own))
+  act_shut s g a b act h (inr k) = kept_shut s g a b (v.acts_keep s a b act refl h) k.0 k.1
+
+  acts_shut : (s g : ℕ) (acts : List AssociationAct) (a b : S) → Moved m a acts b → IsShut s g a → IsShut s g b
+  acts_shut s g [] a b h k = subst (λ (x : S). IsShut s g x) (sym h) k
+  acts_shut s g (act ∷ acts) a b h k = acts_shut s g acts h.0 b h.1.1 (act_shut s g a h.0 act h.1.0 k)
+
+  ended_shut : (s g : ℕ) (acts : List AssociationAct) (a b : S) → Moved m a acts b → ended s g acts ≡ true → IsShut s g b
+  ended_shut s g [] a b h e = absurd (true≢false (sym e))
+  ended_shut s g (Ended t k ∷ acts) a b h e = by ((t == s) && (k == g)) refl e (ended_shut s g acts h.0 b h.1.1)
+    where
+      here : t ≡ s → k ≡ g → IsShut s g h.0
+      here same own =
+          let closed : m.closed_here h.0 s ≡ true = ap (m.closed_here h.0) (sym same) ∙ v.ends t a h.0 h.1.0.0 in
+          let kept : m.generation h.0 s ≡ m.generation a s = (v.acts_keep s a h.0 (Ended t k) refl h.1.0).generation_is in
+          inr (kept ∙ ap (m.generation a) (sym same) ∙ sym h.1.0.1 ∙ own, closed)
+
+      by : (c : Bool) → ((t == s) && (k == g)) ≡ c → (c || ended s g acts) ≡ true → (ended s g acts ≡ true → IsShut s g b) → IsShut s g b
+      by true f l rest = let same = both_true (t == s) (k == g) f in acts_shut s g acts h.0 b h.1.1 (here (eqb-true t s same.0) (eqb-true k g same.1))
+      by false f l rest = rest l
+  ended_shut s g (act ∷ acts) a b h e = ended_shut s g acts h.0 b h.1.1 e
+
+  not_shut : (s g : ℕ) (a : S) → m.generation a s ≡ g → m.closed_here a s ≡ false → IsShut s g a → ⊥
+  not_shut s g a own unclosed (inl later) = omega (arith, own, later)
+  not_shut s g a own unclosed (inr shut) = true≢false (sym shut.1 ∙ unclosed)
+
+  never_ended : (s g : ℕ) (acts : List AssociationAct) (a b : S) → Moved m a acts b → m.generation b s ≡ g → m.closed_here b s ≡ false
+      → ended s g acts ≡ false
+  never_ended s g acts a b h own unclosed = by (ended s g acts) refl
+    where
+      by : (c : Bool) → ended s g acts ≡ c → c ≡ false
+      by true e = absurd (not_shut s g b own unclosed (ended_shut s g acts a b h e))
+      by false e = refl
+
+no_some : (n : ℕ) → None ≡ Some n → ⊥
+no_some n h = cc
+
+some_is : (n k : ℕ) → Some n ≡ Some k → n ≡ k
+some_is n k h = cc
+
+-- ---- what was delivered
+
+module _ {N : Type 0} (draws : Draws N) where
+  all_told : (p : PlainPolled N) (c s g stream : ℕ) (got : List (Bool × List ℕ)) (rest : List StreamMessage)
+      → open_stream_under c p ≡ Some stream → StandsSo (plain_over draws) c s g got rest p → got ≡ contents_of rest
+  all_told p c s g stream got rest there (Lives live is) = is
+  all_told p c s g stream got rest there (HasGone gone past k) =
+      absurd (no_some stream (sym (none_under c p.core.channels.rows gone.1) ∙ open_placed c stream p there))
+  all_told p c s g stream got rest there (IsOver closed k) = absurd (open_free c stream p there closed)
+
+  module _ (a b : PeerActs) (us vs : List ChannelUse) (p q : PlainPolled N) (x : SideStood draws a us p) (y : SideStood draws b vs q) (k l : ChannelUse)
+      (h : AreDelivering k p l q) (mine : Member k us) (theirs : Member l vs)
+      (all : ended h.reader.stream k.generation b.association ≡ false → ended h.reader.stream k.generation a.association ≡ false
+      → has_unacknowledged h.reader.stream q.core.sctp.association.outbox.items ≡ false
+      → read h.reader.stream k.generation a.association ++ unread h.reader.stream k.generation p.core.sctp.association.inbox.unread
+      ≡ written h.reader.stream k.generation b.association)
+      (acknowledged : has_unacknowledged h.writer.stream q.core.sctp.association.outbox.items ≡ false)
+      (heard : has_unread p.core.sctp.association h.reader.stream k.generation ≡ false) where
+    abbrev s : ℕ
+    s = h.reader.stream
+
+    same_stream : h.writer.stream ≡ s
+    same_stream = some_is h.writer.stream s (sym h.writer.of ∙ sym h.stream_is ∙ h.reader.of)
+
+    there_open : ended s k.generation b.association ≡ false
+    there_open =
+        never_ended plain_meaning plain_laws plain_generations s k.generation b.association fresh_contents q.core.sctp.association y.went
+        (ap (λ (n : ℕ). generation_of q.core.sctp.association n) (sym same_stream) ∙ h.writer.generation ∙ sym h.generation_is)
+        (ap (λ (n : ℕ). closed_here q.core.sctp.association n) (sym same_stream) ∙ h.writer.unclosed)
+
+    here_open : ended s k.generation a.association ≡ false
+    here_open =
+        never_ended plain_meaning plain_laws plain_generations s k.generation a.association fresh_contents p.core.sctp.association x.went h.reader.generation
+        h.reader.unclosed
+
+    -- all that was written was read
+    all_read : read s k.generation a.association ≡ written s k.generation b.association
+    all_read =
+        sym (append-nil (read s k.generation a.association))
+        ∙ ap (λ (r : List AssociationMessage). read s k.generation a.association ++ r)
+        (sym (none_unread s k.generation p.core.sctp.association.inbox.unread heard))
+        ∙ all there_open here_open
+        (ap (λ (n : ℕ). has_unacknowledged n q.core.sctp.association.outbox.items) (sym same_stream) ∙ acknowledged)
+
+    got_is : UseTold (plain_over draws) x.written x.read p k.channel k.stream k.generation k.sent k.got
+        → UseTold (plain_over draws) y.written y.read q l.channel l.stream k.generation l.sent l.got → k.got ≡ l.sent
+    got_is t u =
+        let carry =
+        both_carry draws s k.generation a b us vs p q x y k.channel l.channel k.stream l.stream k.sent k.got l.sent l.got t u
+        (some_is t.stream s (sym t.stream_is ∙ h.reader.of)) (some_is u.stream s (sym u.stream_is ∙ sym h.stream_is ∙ h.reader.of))
+        (prefix_same (read s k.generation a.association) (written s k.generation b.association) all_read) in
+        all_told p k.channel t.stream k.generation s k.got t.rest h.there t.stands
+        ∙ sym carry.0
+        ∙ ap contents_by all_read
+        ∙ carry.1
+
+    delivered : k.got ≡ l.sent
+    delivered =
+        got_is (all_member (InBandTold (plain_over draws) x.written x.read p) us k x.told.each mine h.reader_in_band)
+        (subst (λ (n : ℕ). UseTold (plain_over draws) y.written y.read q l.channel l.stream n l.sent l.got) (sym h.generation_is)
+        (all_member (InBandTold (plain_over draws) y.written y.read q) vs l y.told.each theirs h.writer_in_band))
+
+  module _ (pair : PlainPair N) (uses : Side → List ChannelUse) (sent : Side → Sent) (told : Side → MessagesTold) (h : PairTold draws pair uses sent told) where
+    pair_delivered : (at : Side) → HeardSide (uses at) (rtc_at at pair)
+        → AreAllDelivered (uses at) (rtc_at at pair) (uses (other_side at)) (rtc_at (other_side at) pair)
+    pair_delivered Left heard = λ x y mine theirs d acknowledged.
+        delivered h.acts.left h.acts.right (uses Left) (uses Right) pair.left pair.right h.left.side h.right.side x y d mine theirs
+        (λ here there none. side_all h.acts pair Right d.reader.stream x.generation h.exchange here there none) acknowledged
+        (heard_open draws (uses Left) pair.left x heard mine d.reader_in_band d.reader.stream d.reader.of d.there d.reader.generation)
+    pair_delivered Right heard = λ x y mine theirs d acknowledged.
+        delivered h.acts.right h.acts.left (uses Right) (uses Left) pair.right pair.left h.right.side h.left.side x y d mine theirs
+        (λ here there none. side_all h.acts pair Left d.reader.stream x.generation h.exchange here there none) acknowledged
+        (heard_open draws (uses Right) pair.right x heard mine d.reader_in_band d.reader.stream d.reader.of d.there d.reader.generation)
+
+  pub run_delivered : (stun : List ℕ → Bool) (start : PlainPair N) → IsNewPair draws start → (past : List (Entry PlainMediaEvent)) (pair : PlainPair N)
+      → go_forward (steps_of past) ≡ true → (ran : Reached (plain_over draws) stun start past pair) → (at : Side) → IsDrained at past
+      → AreAllDelivered (uses_of (plain_over draws) stun start at past pair ran) (rtc_at at pair)
+      (uses_of (plain_over draws) stun start (other_side at) past pair ran) (rtc_at (other_side at) pair)
+  run_delivered stun start new past pair go ran at drained =
+      pair_delivered pair (λ x. uses_of (plain_over draws) stun start x past pair ran) (λ x. sent_over (plain_over draws) stun start x past pair ran)
+      (λ x. told_over (plain_over draws) stun start x past pair ran)
+      (reached_told draws stun start past pair go ran (new_pair_told draws start new)) at
+      (heard_reached draws stun start past pair go ran (new_pair_told draws start new) (new_unused draws start new) at drained)

@@ -1,0 +1,204 @@
+-- What is told in runs of channels that the other side has not announced.
+use Rattle.std.proofs.Common.{◌≡◌, ◌∙◌, ◌⊎◌, ◌++◌, ◌∷◌, if◌then◌else◌, ℕ, Bool, true, false, true≢false, List, [], Some, inl, inr, refl, sym, ap, subst}
+use Rattle.rtc_assoc_state.specs.Contents.{Contents}
+use Rattle.rtc_channels.specs.Channels.{Channels, no_channels}
+use Rattle.rtc_part_values.specs.Draws.{Draws}
+use Rattle.rtc_plain_dtls.specs.Contents.{DtlsContents}
+use Rattle.rtc_plain_ice.specs.Contents.{IceContents}
+use Rattle.rtc_plain_media.specs.MediaContents.{MediaContents}
+use Rattle.rtc_plain_media.specs.declared.plain_media_event.PlainMediaEvent.{PlainMediaEvent}
+use Rattle.rtc_sctp.specs.Streams.{SctpStreams}
+use Rattle.rtc_sctp_entries.specs.declared.stream_entry.StreamEntry.{StreamEntry}
+use Rattle.rtc_peer_core.specs.declared.peer.Peer.{Peer}
+use Rattle.rtc_peer_core.specs.declared.phase.Phase.TheVariants.{Closed}
+use Rattle.rtc_peer_laws.specs.PeerActs.{PeerActs}
+use Rattle.rtc_run_history.specs.Native.{go_forward, goes_forward}
+use Rattle.rtc_run_history.specs.PairState.{addr_at, rtc_at}
+use Rattle.rtc_run_history.specs.Past.{Entry, steps_of}
+use Rattle.rtc_run_history.specs.Runs.{Reached}
+use Rattle.rtc_run_history.specs.Sides.{other_side, same_side, side_of}
+use Rattle.rtc_run_history.specs.declared.kept.Kept.{Kept}
+use Rattle.rtc_run_history.specs.declared.side.Side.{Side}
+use Rattle.rtc_run_history.specs.declared.side.Side.TheVariants.{Left, Right}
+use Rattle.rtc_run_history.specs.declared.step.Step.{Step}
+use Rattle.rtc_run_laws.specs.ChannelUses.{ChannelUse}
+use Rattle.rtc_run_laws.specs.InBandSteps.{AreInBandSteps, IsInBandStep}
+use Rattle.rtc_run_laws.specs.NewPairs.{IsNewPair, IsNewPeer}
+use Rattle.rtc_run_laws.specs.PlainPairs.{PlainPair, PlainPolled, plain_over}
+use Rattle.rtc_run_laws.specs.SentMessages.{sent_acted, sent_over}
+use Rattle.rtc_run_laws.specs.ToldMessages.{told_over}
+use Rattle.rtc_run_laws.specs.UsesOfRuns.{uses_acted, uses_of}
+use Rattle.rtc_run_laws.proofs.AnnouncedStreams.{HasUseOver, found}
+use Rattle.rtc_run_laws.proofs.BandedChanges.{AreBandedTokens}
+use Rattle.rtc_run_laws.proofs.BandedInputs.{SideBanded}
+use Rattle.rtc_run_laws.proofs.BandedMoments.{IsBanded}
+use Rattle.rtc_run_laws.proofs.BandedRuns.{PairBanded, run_banded}
+use Rattle.rtc_run_laws.proofs.ForwardSteps.{forward_entry}
+use Rattle.rtc_run_laws.proofs.RunsTold.{PairTold, new_pair_told, reached_told}
+use Rattle.rtc_run_laws.proofs.StandingEntries.{AreBanded}
+use Rattle.rtc_run_laws.proofs.StandingSides.{Sent, SideSent}
+use Rattle.rtc_run_laws.proofs.StepsExchange.{plain_over_laws}
+use Rattle.rtc_run_laws.specs.Unannounced.{AreGotOfAnnounced, AreGotOfSent, AreSentOfAnnounced, AreToldOfAnnounced, AreToldOfSent, HaveNumbersLeft, IsAnnounced}
+use Rattle.rtc_run_laws.proofs.Silence.{pair_got_sent, pair_told_sent}
+use Rattle.rtc_run_laws.proofs.SentUses.{IsSentOver, after_step}
+
+-- the last of the steps, and those before
+first_steps : (steps : List Step) (step : Step) → AreInBandSteps (steps ++ step ∷ []) → AreInBandSteps steps × IsInBandStep step
+first_steps [] step h = (tt, h.0)
+first_steps (first ∷ steps) step h = let rest = first_steps steps step h.1 in ((h.0, rest.0), rest.1)
+
+same_is : (a b : Side) → same_side a b ≡ true → a ≡ b
+same_is Left Left h = refl
+same_is Right Right h = refl
+same_is Left Right h = absurd (true≢false (sym h))
+same_is Right Left h = absurd (true≢false (sym h))
+
+some_is : (n k : ℕ) → Some n ≡ Some k → n ≡ k
+some_is n k h = cc
+
+announced_is : (s g : ℕ) (uses : List ChannelUse) → HasUseOver s (Some g) uses → IsAnnounced s g uses
+announced_is s g uses h =
+    let use_found = found s (Some g) uses h in
+    record {
+      use_of = use_found.use_over;
+      member = use_found.member;
+      in_band = use_found.is_over.0;
+      stream_is = use_found.is_over.1;
+      generation_is = some_is use_found.use_over.generation g (sym use_found.is_over.2);
+    }
+
+sent_is : (s g : ℕ) (sent : List (Bool × List ℕ)) (uses : List ChannelUse) → (sent ≡ []) ⊎ HasUseOver s (Some g) uses → (sent ≡ []) ⊎ IsAnnounced s g uses
+sent_is s g sent uses (inl none) = inl none
+sent_is s g sent uses (inr over) = inr (announced_is s g uses over)
+
+told_is : (s g : ℕ) (sent told : List (Bool × List ℕ)) (others : List ChannelUse) → (sent ≡ [] → told ≡ []) → (sent ≡ []) ⊎ IsAnnounced s g others
+    → (told ≡ []) ⊎ IsAnnounced s g others
+told_is s g sent told others silent (inl none) = inl (silent none)
+told_is s g sent told others silent (inr over) = inr over
+
+module _ {N : Type 0} (draws : Draws N) where
+  -- ---- new pairs
+
+  new_banded : (p : PlainPolled N) → IsNewPeer draws p.core → IsBanded p.core.channels p.core.sctp.entries
+  new_banded p h =
+      subst (λ (x : Channels). IsBanded x p.core.sctp.entries) (sym (channels ∙ none))
+      (subst (λ (l : List StreamEntry). IsBanded no_channels l) (sym entries) (record { rows = tt; entries = tt }))
+    where
+      channels : p.core.channels ≡ h.built.channels
+      channels = ap (λ (x : Peer IceContents DtlsContents Contents MediaContents N). x.channels) h.rest
+
+      none : h.built.channels ≡ no_channels
+      none = ap (λ (x : Peer IceContents DtlsContents Contents MediaContents N). x.channels) h.by_build.rest
+
+      entries : p.core.sctp.entries ≡ []
+      entries =
+          ap (λ (x : SctpStreams Contents). x.entries) (ap (λ (x : Peer IceContents DtlsContents Contents MediaContents N). x.sctp) h.rest)
+          ∙ ap (λ (x : SctpStreams Contents). x.entries) h.by_build.streams
+
+  new_pair_banded : (pair : PlainPair N) → IsNewPair draws pair → pair.sdps ≡ [] → PairBanded (plain_over draws) (plain_over_laws draws) pair
+  new_pair_banded pair h none = record { sides = λ at. by at; tokens = subst (λ (l : List Kept). AreBandedTokens l) (sym none) tt }
+    where
+      by : (at : Side) → SideBanded (plain_over draws) (rtc_at at pair)
+      by Left = inr (new_banded pair.left h.left)
+      by Right = inr (new_banded pair.right h.right)
+
+  entries_band : (p : PlainPolled N) → SideBanded (plain_over draws) p → (p.core.phase ≡ Closed) ⊎ AreBanded p.core.sctp.entries
+  entries_band p (inl closed) = inl closed
+  entries_band p (inr band) = inr band.entries
+
+  -- ---- runs
+
+  module _ (stun : List ℕ → Bool) (start : PlainPair N) (new : IsNewPair draws start) (none : start.sdps ≡ []) where
+    sent_uses : (past : List (Entry PlainMediaEvent)) (pair : PlainPair N) → go_forward (steps_of past) ≡ true → AreInBandSteps (steps_of past)
+        → (ran : Reached (plain_over draws) stun start past pair) → HaveNumbersLeft draws stun start past pair ran → (at : Side) (s g : ℕ)
+        → IsSentOver draws s g (sent_over (plain_over draws) stun start at past pair ran s g) (uses_of (plain_over draws) stun start at past pair ran)
+    sent_uses [] pair go steps ran numbers at s g = inl refl
+    sent_uses (entry ∷ past) pair go steps ran numbers at s g =
+        by (same_side (side_of entry.step) at) refl (sent_uses past ran.0 forward.0 both.0 ran.1 numbers.1 at s g)
+      where
+        forward : (go_forward (steps_of past) ≡ true) × (goes_forward entry.step ≡ true)
+        forward = forward_entry entry past go
+
+        both : AreInBandSteps (steps_of past) × IsInBandStep entry.step
+        both = first_steps (steps_of past) entry.step steps
+
+        uses : Side → List ChannelUse
+        uses x = uses_of (plain_over draws) stun start x past ran.0 ran.1
+
+        sent : Side → Sent
+        sent x = sent_over (plain_over draws) stun start x past ran.0 ran.1
+
+        told : PairTold draws ran.0 uses sent (λ x. told_over (plain_over draws) stun start x past ran.0 ran.1)
+        told = reached_told draws stun start past ran.0 forward.0 ran.1 (new_pair_told draws start new)
+
+        band : PairBanded (plain_over draws) (plain_over_laws draws) ran.0
+        band = run_banded (plain_over draws) (plain_over_laws draws) stun start past ran.0 forward.0 ran.1 both.0 (new_pair_banded start new none)
+
+        side : (x : Side) → (acts : PeerActs)
+            × SideSent draws acts (uses x) (sent x) (told_over (plain_over draws) stun start x past ran.0 ran.1) (rtc_at x ran.0)
+        side Left = (told.acts.left, told.left)
+        side Right = (told.acts.right, told.right)
+
+        sends : List (Bool × List ℕ) → List (Bool × List ℕ)
+        sends l = sent_acted (plain_over draws) entry.step entry.outcome (rtc_at (side_of entry.step) ran.0) s g l
+
+        acts_on : List ChannelUse → List ChannelUse
+        acts_on l =
+            uses_acted (plain_over draws) stun (addr_at (other_side (side_of entry.step)) ran.0) (addr_at (side_of entry.step) ran.0) entry.step (rtc_at (side_of entry.step) ran.0) ran.0.sdps ran.0.packets entry.outcome entry.table
+            (rtc_at (side_of entry.step) pair) pair.sdps pair.packets ran.2.performs.acts l
+
+        acted : IsSentOver draws s g (sent (side_of entry.step) s g) (uses (side_of entry.step))
+            → IsSentOver draws s g (sends (sent (side_of entry.step) s g)) (acts_on (uses (side_of entry.step)))
+        acted h =
+            let here = side (side_of entry.step) in
+            after_step draws here.1.side.written here.1.side.read (uses (side_of entry.step)) (rtc_at (side_of entry.step) ran.0) here.1.side.told
+            (entries_band (rtc_at (side_of entry.step) ran.0) (band.sides (side_of entry.step))) (numbers.0 (side_of entry.step)) s g
+            (sent (side_of entry.step) s g) h
+            stun (addr_at (other_side (side_of entry.step)) ran.0) (addr_at (side_of entry.step) ran.0) entry.step ran.0.sdps ran.0.packets entry.outcome entry.table
+            (rtc_at (side_of entry.step) pair) pair.sdps pair.packets ran.2.performs.acts
+
+        by : (b : Bool) → same_side (side_of entry.step) at ≡ b → IsSentOver draws s g (sent at s g) (uses at)
+            → IsSentOver draws s g (if b then sends (sent at s g) else sent at s g) (if b then acts_on (uses at) else uses at)
+        by true e h =
+            let is = same_is (side_of entry.step) at e in
+            subst (λ (x : Side). IsSentOver draws s g (sends (sent x s g)) (acts_on (uses x))) is
+            (acted (subst (λ (x : Side). IsSentOver draws s g (sent x s g) (uses x)) (sym is) h))
+        by false e h = h
+
+    pub run_sent : (past : List (Entry PlainMediaEvent)) (pair : PlainPair N) → go_forward (steps_of past) ≡ true → AreInBandSteps (steps_of past)
+        → (ran : Reached (plain_over draws) stun start past pair) → HaveNumbersLeft draws stun start past pair ran → (at : Side)
+        → AreSentOfAnnounced (uses_of (plain_over draws) stun start at past pair ran) (sent_over (plain_over draws) stun start at past pair ran)
+    run_sent past pair go steps ran numbers at = λ s g.
+        sent_is s g (sent_over (plain_over draws) stun start at past pair ran s g) (uses_of (plain_over draws) stun start at past pair ran)
+        (sent_uses past pair go steps ran numbers at s g)
+
+  module _ (stun : List ℕ → Bool) (start : PlainPair N) (new : IsNewPair draws start) (past : List (Entry PlainMediaEvent)) (pair : PlainPair N)
+      (go : go_forward (steps_of past) ≡ true) (ran : Reached (plain_over draws) stun start past pair) where
+    pub run_told_sent : (at : Side)
+        → AreToldOfSent (sent_over (plain_over draws) stun start (other_side at) past pair ran) (told_over (plain_over draws) stun start at past pair ran)
+    run_told_sent at =
+        pair_told_sent draws pair (λ x. uses_of (plain_over draws) stun start x past pair ran) (λ x. sent_over (plain_over draws) stun start x past pair ran)
+        (λ x. told_over (plain_over draws) stun start x past pair ran)
+        (reached_told draws stun start past pair go ran (new_pair_told draws start new)) at
+
+    pub run_got_sent : (at : Side)
+        → AreGotOfSent (sent_over (plain_over draws) stun start (other_side at) past pair ran) (uses_of (plain_over draws) stun start at past pair ran)
+    run_got_sent at =
+        pair_got_sent draws pair (λ x. uses_of (plain_over draws) stun start x past pair ran) (λ x. sent_over (plain_over draws) stun start x past pair ran)
+        (λ x. told_over (plain_over draws) stun start x past pair ran)
+        (reached_told draws stun start past pair go ran (new_pair_told draws start new)) at
+
+    module _ (none : start.sdps ≡ []) (steps : AreInBandSteps (steps_of past)) (numbers : HaveNumbersLeft draws stun start past pair ran) (at : Side) where
+      pub run_told : AreToldOfAnnounced (uses_of (plain_over draws) stun start (other_side at) past pair ran)
+          (told_over (plain_over draws) stun start at past pair ran)
+      run_told = λ c s g.
+          told_is s g (sent_over (plain_over draws) stun start (other_side at) past pair ran s g) (told_over (plain_over draws) stun start at past pair ran c s g)
+          (uses_of (plain_over draws) stun start (other_side at) past pair ran) (run_told_sent at c s g)
+          (run_sent stun start new none past pair go steps ran numbers (other_side at) s g)
+
+      pub run_got : AreGotOfAnnounced (uses_of (plain_over draws) stun start (other_side at) past pair ran)
+          (uses_of (plain_over draws) stun start at past pair ran)
+      run_got = λ x mine band s of.
+          told_is s x.generation (sent_over (plain_over draws) stun start (other_side at) past pair ran s x.generation) x.got
+          (uses_of (plain_over draws) stun start (other_side at) past pair ran) (run_got_sent at x mine band s of)
+          (run_sent stun start new none past pair go steps ran numbers (other_side at) s x.generation)

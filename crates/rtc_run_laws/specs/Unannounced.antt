@@ -1,0 +1,49 @@
+-- What is told and got of a channel that the other side has not announced.
+use Rattle.std.specs.Prelude.{ℕ, ◌≡◌, ◌<◌, ◌-◌, ◌^◌, ◌⊎◌, Bool, true, List, [], ◌∷◌, Some}
+use Rattle.rtc_part_values.specs.Among.{Member}
+use Rattle.rtc_part_values.specs.Draws.{Draws}
+use Rattle.rtc_plain_media.specs.declared.plain_media_event.PlainMediaEvent.{PlainMediaEvent}
+use Rattle.rtc_run_history.specs.declared.side.Side.{Side}
+use Rattle.rtc_run_history.specs.PairState.{rtc_at}
+use Rattle.rtc_run_history.specs.Past.{Entry}
+use Rattle.rtc_run_history.specs.Runs.{Reached}
+use Rattle.rtc_run_laws.specs.ChannelUses.{ChannelUse}
+use Rattle.rtc_run_laws.specs.PlainPairs.{PlainPair, plain_over}
+use Rattle.rtc_run_laws.specs.ToldMessages.{MessagesTold}
+
+-- a side announced a channel in-band over a generation of a stream
+pub record IsAnnounced (s g : ℕ) (uses : List ChannelUse) : Type 0 where
+  pub use_of : ChannelUse
+  pub member : Member use_of uses
+  pub in_band : use_of.in_band ≡ true
+  pub stream_is : use_of.stream ≡ Some s
+  pub generation_is : use_of.generation ≡ g
+
+-- of whatever channel: nothing was told while it had a stream in a generation to which nothing was sent
+abbrev pub AreToldOfSent : (sent : ℕ → ℕ → List (Bool × List ℕ)) → MessagesTold → Type 0
+AreToldOfSent sent told = (channel s g : ℕ) → sent s g ≡ [] → told channel s g ≡ []
+
+-- a channel that was announced in-band over such a generation got nothing
+abbrev pub AreGotOfSent : (sent : ℕ → ℕ → List (Bool × List ℕ)) → List ChannelUse → Type 0
+AreGotOfSent sent uses =
+    (x : ChannelUse) → Member x uses → x.in_band ≡ true → (s : ℕ) → x.stream ≡ Some s → sent s x.generation ≡ [] → x.got ≡ []
+
+-- nothing was sent to a generation of a stream, or a channel was announced over it
+abbrev pub AreSentOfAnnounced : List ChannelUse → (sent : ℕ → ℕ → List (Bool × List ℕ)) → Type 0
+AreSentOfAnnounced uses sent = (s g : ℕ) → (sent s g ≡ []) ⊎ IsAnnounced s g uses
+
+-- nothing was told of whatever channel in a generation of a stream, or the other side announced a channel over it
+abbrev pub AreToldOfAnnounced : (others : List ChannelUse) → MessagesTold → Type 0
+AreToldOfAnnounced others told = (channel s g : ℕ) → (told channel s g ≡ []) ⊎ IsAnnounced s g others
+
+-- nor was anything got over a channel that was announced in-band
+abbrev pub AreGotOfAnnounced : (others uses : List ChannelUse) → Type 0
+AreGotOfAnnounced others uses =
+    (x : ChannelUse) → Member x uses → x.in_band ≡ true → (s : ℕ) → x.stream ≡ Some s → (x.got ≡ []) ⊎ IsAnnounced s x.generation others
+
+-- before each step a number was left at both sides for a channel
+abbrev pub HaveNumbersLeft : {N : Type 0} → (draws : Draws N) (stun : List ℕ → Bool) (start : PlainPair N)
+    (past : List (Entry PlainMediaEvent)) (pair : PlainPair N) → Reached (plain_over draws) stun start past pair → Type 0
+HaveNumbersLeft draws stun start [] pair ran = Unit {0}
+HaveNumbersLeft draws stun start (entry ∷ past) pair ran =
+    ((at : Side) → (rtc_at at ran.0).core.channels.given < 2 ^ 64 - 1) × HaveNumbersLeft draws stun start past ran.0 ran.1
