@@ -18,6 +18,7 @@ use Rattle.rtc_run_history.specs.DrawnInRuns.{AllPlain, DrawsUnused, HaveNoLines
 use Rattle.rtc_run_history.specs.Fresh.{ArePeersFormed}
 use Rattle.rtc_run_history.specs.Runs.{Runs}
 use Rattle.rtc_run_history.specs.Signalled.{AllReadBack}
+use Rattle.rtc_pair.proofs.ProgramDrains.{program_drains}
 use Rattle.rtc_pair.proofs.NewPairs.{program_new, program_no_lines}
 use Rattle.rtc_pair.specs.Performed.{IsPairOf, IsReport, RanScript, KeepsReport, PerformsScript}
 
@@ -58,6 +59,7 @@ ran_joined {E = E} alloc script start pair replies (Ok (kept, told)) (kept_is, t
       channels = λ forward. run_hands_out counting is_ice_message start pair script.steps told (program_new alloc _ _ start program) forward ran;
       settles = λ forward. run_settles_open counting is_ice_message start pair script.steps told (program_new alloc _ _ start program) forward ran;
       crossed = crossed;
+      drains = λ moments. program_drains alloc _ _ start pair script.steps told program moments ran;
     })
 ran_joined alloc script start pair replies (Err error) joined program formed runs read_back plain crossed = tt
 

@@ -16,6 +16,7 @@ use Rattle.rtc_run_history.specs.Runs.{Runs}
 use Rattle.rtc_run_history.specs.Signalled.{AllReadBack}
 use Rattle.rtc_plain_ice.specs.Messages.{is_ice_message}
 use Rattle.rtc_plain_media.specs.declared.plain_media_event.PlainMediaEvent.{PlainMediaEvent}
+use Rattle.rtc_run_weight.specs.Drains.{DrainsWithin, HaveMoments}
 use Rattle.rtc_run_laws.specs.HandedOut.{HandsOut}
 use Rattle.rtc_run_laws.specs.SettledPairs.{SettlesOpen}
 use Rattle.rtc_run_plain.specs.ProgramPair.{counting, plain_parts, PlainPairState, IsProgramPair}
@@ -50,7 +51,7 @@ IsPairOf alloc script pair =
 -- do. Where no step brings in a text or bytes of anybody, and none rolls an offer back, channels hand out what the other side sent, and of
 -- those that were opened in-band each is announced at most once; where the run leaves the pair settled, one that is open at a side, over a
 -- stream that both keep, is open at both, and was announced at both. Offers that cross between a polite and an impolite side that are in
--- step meet.
+-- step meet. A drain shows at most as many outputs as its peer weighs before it.
 pub record RanScript (alloc : Global) (script : Script) (replies : List (Reply PlainMediaEvent)) (pair : PlainPairState) : Type 0 where
   pub start : PlainPairState
   pub program : IsPairOf alloc script start
@@ -62,6 +63,7 @@ pub record RanScript (alloc : Global) (script : Script) (replies : List (Reply P
   pub channels : go_forward script.steps ≡ true → HandsOut counting is_ice_message start script.steps replies pair runs
   pub settles : go_forward script.steps ≡ true → SettlesOpen counting is_ice_message start script.steps replies pair runs
   pub crossed : CrossedOffersMeet plain_parts is_ice_message start
+  pub drains : HaveMoments script.steps → DrainsWithin plain_parts is_ice_message start runs.past pair
 
 -- This text is the report of a run of a script.
 pub record IsReport (alloc : Global) (script : Script) (text : List ℕ) : Type 0 where

@@ -4,10 +4,9 @@ ghost use Rattle.rtc_run_crossed.specs.Crossed.{CrossedOffersMeet};
 ghost use Rattle.rtc_run_history.specs.DrawnInRuns.{AllPlain, DrawsUnused, HaveNoLines};
 ghost use Rattle.rtc_run_history.specs.Sizes.{steps_size};
 ghost use Rattle.rtc_run_history.specs.Fresh.{ArePeersFormed, IsFresh};
-ghost use Rattle.rtc_run_history.specs.Performs.{Enters};
-ghost use Rattle.rtc_run_history.specs.Runs.{Runs, Went};
+ghost use Rattle.rtc_run_history.specs.Runs.{Runs};
 ghost use Rattle.rtc_run_history.specs.Signalled.{AllReadBack};
-ghost use Rattle.rtc_run_weight.specs.Drains.{AreUndriven, HaveMoments, ShowsWithin};
+ghost use Rattle.rtc_run_weight.specs.Drains.{AreUndriven, DrainsWithin, HaveMoments};
 ghost use Rattle.rtc_peer_core.specs.Meanings.{meanings};
 
 use crate::Pair;
@@ -44,9 +43,7 @@ pub fn run_pair<I: IceAgent, D: DtlsInstance, S: Association, M: MediaSession, N
     ensures drains { AreUndriven (meanings I.ice D.dtls S.association M.media N.ids) pair.old → HaveMoments steps.now
         → IfOk result (λ replies. (run : Runs (meanings I.ice D.dtls S.association M.media N.ids) I.stun
         pair.old steps.now replies pair.new)
-        → Went (λ earlier between entry after. Enters (meanings I.ice D.dtls S.association M.media N.ids) I.stun between entry after
-        × ShowsWithin (meanings I.ice D.dtls S.association M.media N.ids) between entry.step entry.outcome)
-        (λ start. start ≡ pair.old) run.past pair.new) }
+        → DrainsWithin (meanings I.ice D.dtls S.association M.media N.ids) I.stun pair.old run.past pair.new) }
     ensures untouched { OnErr result (pair.new ≡ pair.old) }
 {
     let mut replies = Vec::with_capacity(alloc, steps.len())?;

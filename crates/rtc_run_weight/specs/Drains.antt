@@ -1,5 +1,5 @@
 -- That a drain shows at most as many outputs as its peer weighs before it.
-use Rattle.std.specs.Prelude.{◌≤◌, List, [], ◌∷◌, length}
+use Rattle.std.specs.Prelude.{ℕ, ◌≡◌, ◌≤◌, Bool, List, [], ◌∷◌, length}
 use Rattle.rtc_peer_core.specs.Meanings.{Meanings}
 use Rattle.rtc_peer_transport.specs.declared.polled_peer.PolledPeer.{PolledPeer}
 use Rattle.rtc_peer_weight.specs.Weight.{HasNoThreshold, IsHandshakeTold, IsMoment, weight}
@@ -10,6 +10,9 @@ use Rattle.rtc_run_history.specs.declared.step.Step.TheVariants.{Raw}
 use Rattle.rtc_run_history.specs.declared.outcome.Outcome.{Outcome}
 use Rattle.rtc_run_history.specs.declared.outcome.Outcome.TheVariants.{Polled}
 use Rattle.rtc_run_history.specs.PairState.{PairState, rtc_at}
+use Rattle.rtc_run_history.specs.Past.{Entry}
+use Rattle.rtc_run_history.specs.Performs.{Enters}
+use Rattle.rtc_run_history.specs.Runs.{Went}
 
 -- the moment of a step, if it has one, is a moment
 abbrev pub HasMoment : Step → Type 0
@@ -35,3 +38,9 @@ module _ {I D S M E X T W N : Type 0} (m : Meanings I D S M E X T W N) where
   abbrev pub ShowsWithin : PairState I D S M N → Step → Outcome E → Type 0
   ShowsWithin between (Drain at) (Polled outputs end) = length outputs ≤ weight m (rtc_at at between)
   ShowsWithin between step outcome = Unit {0}
+
+  -- a past leads from a pair to another, and each drain of it is within the weight of its peer
+  abbrev pub DrainsWithin : (stun : List ℕ → Bool) → PairState I D S M N → List (Entry E) → PairState I D S M N → Type 0
+  DrainsWithin stun start past pair =
+      Went (λ earlier between entry after. Enters m stun between entry after × ShowsWithin between entry.step entry.outcome)
+      (λ fresh. fresh ≡ start) past pair

@@ -1,13 +1,13 @@
 //! How many outputs a drain of a run shows.
-ghost use Rattle.std.specs.Prelude.{◌≡◌, Bool, List};
+ghost use Rattle.std.specs.Prelude.{Bool, List};
 ghost use Rattle.rtc_peer_core.specs.Meanings.{meanings};
 ghost use Rattle.rtc_run_history.specs.declared.reply.Reply.{Reply};
 ghost use Rattle.rtc_run_history.specs.declared.step.Step.{Step};
 ghost use Rattle.rtc_run_history.specs.Past.{Entry, steps_of};
 ghost use Rattle.rtc_run_history.specs.PairState.{PairState};
 ghost use Rattle.rtc_run_history.specs.Performs.{Enters};
-ghost use Rattle.rtc_run_history.specs.Runs.{Reached, Runs, Went};
-ghost use Rattle.rtc_run_weight.specs.Drains.{AreUndriven, HaveMoments, ShowsWithin};
+ghost use Rattle.rtc_run_history.specs.Runs.{Reached, Runs};
+ghost use Rattle.rtc_run_weight.specs.Drains.{AreUndriven, DrainsWithin, HaveMoments, ShowsWithin};
 
 use rtc_part_association::Association;
 use rtc_part_dtls::DtlsInstance;
@@ -35,7 +35,5 @@ pub fn drains_show_at_most_their_weight<
     ensures ran { (stun : List _ → Bool) (start pair : PairState I D S M N) (steps : List Step) (replies : List (Reply _))
         → AreUndriven (meanings I.ice D.dtls S.association M.media N.ids) start → HaveMoments steps
         → (run : Runs (meanings I.ice D.dtls S.association M.media N.ids) stun start steps replies pair)
-        → Went (λ earlier between entry after. Enters (meanings I.ice D.dtls S.association M.media N.ids) stun between entry after
-        × ShowsWithin (meanings I.ice D.dtls S.association M.media N.ids) between entry.step entry.outcome)
-        (λ fresh. fresh ≡ start) run.past pair }
+        → DrainsWithin (meanings I.ice D.dtls S.association M.media N.ids) stun start run.past pair }
 {}
