@@ -1,5 +1,5 @@
 -- What an end keeps of the items that come.
-use Rattle.std.proofs.Common.{ℕ, ◌≡◌, ◌+◌, ◌⊎◌, not, inl, inr, Bool, true, false, cond, List, [], ◌∷◌, ◌++◌, length, refl, sym, ap, subst, ◌∙◌, arith, append-nil}
+use Rattle.std.proofs.Common.{◌||◌, ℕ, ◌≡◌, ◌+◌, ◌⊎◌, not, inl, inr, Bool, true, false, cond, List, [], ◌∷◌, ◌++◌, length, refl, sym, ap, subst, ◌∙◌, arith, append-nil}
 use Rattle.std.proofs.lemmas.Bool.Decides.{eqb_tells}
 use Rattle.rtc_part_association.specs.AssociationWords.{AssociationMessage}
 use Rattle.rtc_assoc_packets.specs.declared.item.Item.{Item}
@@ -13,7 +13,7 @@ use Rattle.rtc_assoc_state.specs.Streams.{stream_of, put, reset_row, is_unclosed
 use Rattle.rtc_assoc_state.specs.Inbox.{Inbox, bytes_so_far, with_bytes, without_part, without_messages, with_message, forgotten, message_of}
 use Rattle.rtc_assoc_state.specs.Settling.{can_reset}
 use Rattle.rtc_assoc_state.specs.Contents.{Contents}
-use Rattle.rtc_assoc_state.specs.Calls.{sent, item_counted, more_kept, last_kept, finished, reset_told, close_came_at, close_came, part_came, item_taken}
+use Rattle.rtc_assoc_state.specs.Calls.{sent, item_counted, more_kept, last_kept, finished, reset_told, close_came_at, close_came, part_came, item_put, item_taken, is_ahead, marked}
 use Rattle.rtc_assoc_state.proofs.RaiseLemmas.{stream_of-stream}
 use Rattle.rtc_assoc.specs.Unread.{unread, IsPrefix}
 use Rattle.rtc_assoc.proofs.MessageLemmas.{is_pair, pair_tells, message, messages, left, HasClose}
@@ -271,5 +271,15 @@ came_part Last now id h i bytes row p r = came_whole (takes_messages row h) id h
 there_row : (id : ℕ) (streams : List StreamRow) → RowOf id (record (stream_of id streams) { there = true }) streams
 there_row id streams = record { stream_is = stream_of-stream id streams; generation_is = refl; close_is = refl }
 
+-- what is remembered of an item is read nowhere
+came_marked : (p q : Contents) (b : Bool) (got : List Item) → Came p q got → Came p (marked b q) got
+came_marked p q b got h = record {
+  more = h.more;
+  arrives = record { acked = h.arrives.acked; items = h.arrives.items; gets = gets_marked p.inbox p.streams got no_reads q.inbox q.streams b h.arrives.gets; silent = h.arrives.silent; whole = h.arrives.whole; closes = h.arrives.closes; dies = h.arrives.dies };
+}
+  where
+    gets_marked : (a : Inbox) (x : List StreamRow) (got : List Item) (reads : ℕ → ℕ → List AssociationMessage) (c : Inbox) (y : List StreamRow) (b : Bool) → Gets a x got reads c y → Gets a x got reads (record c { ahead = c.ahead || b }) y
+    gets_marked a x got reads c y b h = record { count = h.count; fewer = h.fewer; unread_is = h.unread_is; front_is = h.front_is; gone = h.gone }
+
 pub came_taken : (now : ℕ) (item : Item) (p : Contents) → Came p (item_taken now item p) (item ∷ [])
-came_taken now item p = came_part item.part now item.stream item.generation item.identifier item.bytes (record (stream_of item.stream p.streams) { there = true }) p (there_row item.stream p.streams)
+came_taken now item p = came_marked p (item_put now item p) (is_ahead item p) (item ∷ []) (came_part item.part now item.stream item.generation item.identifier item.bytes (record (stream_of item.stream p.streams) { there = true }) p (there_row item.stream p.streams))

@@ -10,7 +10,7 @@ use Rattle.rtc_assoc_state.specs.Inbox.{Inbox}
 use Rattle.rtc_assoc_state.specs.Outbox.{Outbox, settled_count}
 use Rattle.rtc_assoc_state.specs.Settling.{told_of}
 use Rattle.rtc_assoc_state.specs.Contents.{Contents, is_ending, is_server}
-use Rattle.rtc_assoc_state.specs.Calls.{greeted, welcomed, acknowledged, answered, lost, item_taken, is_ahead, item_came, framed, half_taken, at_moment}
+use Rattle.rtc_assoc_state.specs.Calls.{greeted, welcomed, acknowledged, answered, lost, item_taken, item_came, framed, half_taken, at_moment}
 use Rattle.rtc_assoc_end.proofs.SendsLemmas.{packets-greeted, packets-acknowledged}
 use Rattle.rtc_assoc.proofs.MessageLemmas.{messages, left, HasClose}
 use Rattle.rtc_assoc.proofs.AliveLemmas.{alive, alive-settled}
@@ -165,7 +165,7 @@ pub frame_data : (now n number : ℕ) (item : Item) (p : Contents) → FrameCore
 unfolding item_came
 frame_data now n number item p =
     let m = acknowledged n (greeted p) in
-    frame_numbered now n number item p m ((number == m.inbox.received + 1) && not (is_ending m || is_ahead item m)) refl (λ e. number_is number (m.inbox.received + 1) (not (is_ending m || is_ahead item m)) e ∙ ap (λ k. k + 1) (received_same n p))
+    frame_numbered now n number item p m ((number == m.inbox.received + 1) && not (is_ending m)) refl (λ e. number_is number (m.inbox.received + 1) (not (is_ending m)) e ∙ ap (λ k. k + 1) (received_same n p))
 
 pub frame_framed : (now : ℕ) (f : Option Frame) (p : Contents) → FrameCore p f (at_moment now (framed now f p))
 frame_framed now None p = frame_nothing now p

@@ -32,6 +32,7 @@ pub struct PlainAssociation {
     pub(crate) received: u64,
     pub(crate) parts: Parts,
     pub(crate) unread: Unread,
+    pub(crate) ahead: bool,
     pub(crate) streams: StreamTable,
     pub(crate) events: VecDeque<AssocEvent>,
     pub(crate) packets: VecDeque<Packet>,
@@ -49,7 +50,7 @@ impl Model for PlainAssociation {
       standing = a.standing;
       clock = a.clock;
       outbox = record { acked = a.acked; items = a.items.items };
-      inbox = record { received = a.received; parts = a.parts; unread = a.unread };
+      inbox = record { received = a.received; parts = a.parts; unread = a.unread; ahead = a.ahead };
       streams = stream_rows a.streams.states a.streams.generations.items;
       events = a.events.items;
       packets = a.packets.items;
@@ -75,6 +76,7 @@ impl Drop for PlainAssociation {
             received: _received,
             parts: _parts,
             unread: _unread,
+            ahead: _ahead,
             streams: _streams,
             events: _events,
             packets: _packets,
@@ -111,6 +113,7 @@ impl PlainAssociation {
             received: 0,
             parts: Parts::new(alloc),
             unread: Unread::new(alloc),
+            ahead: false,
             streams: StreamTable::new(alloc),
             events: VecDeque::new(alloc),
             packets: VecDeque::new(alloc),

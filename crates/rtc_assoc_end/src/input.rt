@@ -189,7 +189,7 @@ impl PlainAssociation {
         ensures ok { OnOk result (Sends self.old (answered (item_came now number (item_with item bytes.now) self.old)) self.new) }
         ensures err { OnErr result (self.new ≡ self.old) }
     {
-        if number == 0 || number - 1 != self.received || self.refuses(item) {
+        if number == 0 || number - 1 != self.received || self.ends() {
             return self.answer();
         }
         self.take_item(now, item, bytes)

@@ -1,5 +1,5 @@
 //! What an end answers of itself.
-ghost use Rattle.std.specs.Prelude.{◌≡◌, ◌+◌, ◌<◌, ◌^◌, ◌||◌, nat_lt, Some, None, false, []};
+ghost use Rattle.std.specs.Prelude.{◌≡◌, ◌+◌, ◌<◌, ◌^◌, nat_lt, Some, None, []};
 ghost use Rattle.std.specs.Bool.{OnFalse};
 ghost use Rattle.rtc_assoc_packets.specs.Headers.{item_with};
 ghost use Rattle.rtc_assoc_state.specs.Contents.{is_started, is_closing, is_closed, is_ending, has_stream};
@@ -42,19 +42,11 @@ impl PlainAssociation {
     }
 
     /// Whether an item is of a generation that its stream has not come to.
-    fn is_ahead(&self, item: ItemHeader) -> bool
+    pub(crate) fn is_ahead(&self, item: ItemHeader) -> bool
         ensures { result ≡ is_ahead (item_with item []) self.now }
     {
         let row = self.streams.row_of(item.stream);
         row.generation < item.generation
-    }
-
-    /// Whether an item is not taken even where its number is the next one.
-    pub(crate) fn refuses(&self, item: ItemHeader) -> bool
-        ensures value { result ≡ (is_ending self.now || is_ahead (item_with item []) self.now) }
-        ensures lives { OnFalse result (is_ending self.now ≡ false) }
-    {
-        self.ends() || self.is_ahead(item)
     }
 
     pub(crate) fn has(&self, id: u16) -> bool

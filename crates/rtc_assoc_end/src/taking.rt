@@ -2,7 +2,7 @@
 ghost use Rattle.std.specs.Prelude.{◌≡◌, ◌<◌, ◌+◌, ◌^◌, OnOk, OnErr, false};
 ghost use Rattle.rtc_assoc_packets.specs.Headers.{item_with};
 ghost use Rattle.rtc_assoc_state.specs.Contents.{is_ending};
-ghost use Rattle.rtc_assoc_state.specs.Calls.{answered, item_taken, close_came};
+ghost use Rattle.rtc_assoc_state.specs.Calls.{answered, item_put, item_taken, close_came};
 ghost use Rattle.rtc_assoc_state.specs.PlainMeaning.{Sends};
 
 use crate::association::PlainAssociation;
@@ -34,7 +34,8 @@ impl PlainAssociation {
         }
     }
 
-    /// The next item came: its stream is there.
+    /// The next item came. Whether it is of a generation to come is remembered.
+    #[tactic(auto, unfolding(rtc_assoc_state::specs::Calls::answered))]
     pub(crate) fn take_item(
         &mut self,
         now: Moment,
@@ -44,6 +45,19 @@ impl PlainAssociation {
         requires number { self.old.inbox.received + 1 < 2 ^ 64 }
         requires lives { is_ending self.old ≡ false }
         ensures ok { OnOk result (Sends self.old (answered (item_taken now (item_with item bytes.now) self.old)) self.new) }
+        ensures err { OnErr result (self.new ≡ self.old) }
+    {
+        let ahead = self.is_ahead(item);
+        self.put_item(now, item, bytes)?;
+        self.ahead = self.ahead || ahead;
+        Ok(())
+    }
+
+    /// The next item came: its stream is there.
+    fn put_item(&mut self, now: Moment, item: ItemHeader, bytes: &[u8]) -> Result<(), AllocError>
+        requires number { self.old.inbox.received + 1 < 2 ^ 64 }
+        requires lives { is_ending self.old ≡ false }
+        ensures ok { OnOk result (Sends self.old (answered (item_put now (item_with item bytes.now) self.old)) self.new) }
         ensures err { OnErr result (self.new ≡ self.old) }
     {
         let mut row = self.streams.row_of(item.stream);

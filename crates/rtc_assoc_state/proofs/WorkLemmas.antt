@@ -22,7 +22,7 @@ use Rattle.rtc_assoc_state.specs.Outbox.{bytes_for, buffered, last_number, settl
 use Rattle.rtc_assoc_state.specs.Settling.{Told, told_of, reaches, can_reset, close_settled, part_settled, item_settled, settled}
 use Rattle.rtc_assoc_state.specs.Contents.{Contents, work, is_ending, is_server, waits}
 use Rattle.rtc_assoc_state.proofs.ReadableLemmas.{length-with}
-use Rattle.rtc_assoc_state.specs.Calls.{opened, thresholded, sent, message_written, first_message_of, messages_behind, next_message, taken_out, stream_ended, shut_down, greeted, welcomed, acknowledged, item_counted, more_kept, last_kept, piece_kept, finished, reset_told, close_came_at, part_came, item_taken, is_ahead, item_came, answered, lost, framed, half_taken, at_moment, input_taken}
+use Rattle.rtc_assoc_state.specs.Calls.{opened, thresholded, sent, message_written, first_message_of, messages_behind, next_message, taken_out, stream_ended, shut_down, greeted, welcomed, acknowledged, item_counted, more_kept, last_kept, piece_kept, finished, reset_told, close_came_at, part_came, item_taken, item_came, answered, lost, framed, half_taken, at_moment, input_taken}
 use Rattle.rtc_assoc_state.proofs.RaiseLemmas.{raises_item, threshold-stream_of}
 use Rattle.rtc_assoc_state.proofs.RaiseLemmas.{stream_of-stream}
 
@@ -232,7 +232,7 @@ work-item_if false now item p = omega arith
 
 work-item_came : (now number : ℕ) (item : Item) (p : Contents) → work (item_came now number item p) ≤ work p + 17
 unfolding item_came
-work-item_came now number item p = work-item_if ((number == p.inbox.received + 1) && not (is_ending p || is_ahead item p)) now item p
+work-item_came now number item p = work-item_if ((number == p.inbox.received + 1) && not (is_ending p)) now item p
 
 same_threshold : (p : Contents) → any_threshold p.streams ≡ false → any_threshold (greeted p).streams ≡ false
 unfolding greeted

@@ -170,18 +170,25 @@ part_came Close now item row p = close_came now item.generation row p
 part_came _ now item row p = piece_came item row p
 
 -- an item is taken: its stream is there
-abbrev pub item_taken : ℕ → Item → Contents → Contents
-item_taken now item p = part_came item.part now item (record (stream_of item.stream p.streams) { there = true }) p
+abbrev pub item_put : ℕ → Item → Contents → Contents
+item_put now item p = part_came item.part now item (record (stream_of item.stream p.streams) { there = true }) p
 
 -- whether an item is of a generation that its stream has not come to
 abbrev pub is_ahead : Item → Contents → Bool
 is_ahead item p = nat_lt (stream_of item.stream p.streams).generation item.generation
 
--- an item is taken where its number is the next one, unless it is of a generation to come, which keeps nothing of it, and
--- never while the association is closing or closed
+abbrev pub marked : Bool → Contents → Contents
+marked ahead p = record p { inbox = record p.inbox { ahead = p.inbox.ahead || ahead } }
+
+-- that is remembered of an item that is taken
+abbrev pub item_taken : ℕ → Item → Contents → Contents
+item_taken now item p = marked (is_ahead item p) (item_put now item p)
+
+-- an item is taken where its number is the next one, whatever generation it carries, and never while the association is
+-- closing or closed
 unfoldable pub item_came : (now number : ℕ) → Item → Contents → Contents
 item_came now number item p =
-    if (number == p.inbox.received + 1) && not (is_ending p || is_ahead item p) then item_taken now item p else p
+    if (number == p.inbox.received + 1) && not (is_ending p) then item_taken now item p else p
 
 unfoldable pub answered : Contents → Contents
 answered p = record p { packets = p.packets ++ acknowledgement_bytes p.inbox.received ∷ [] }

@@ -19,6 +19,8 @@ use Rattle.rtc_sctp_laws.specs.StreamRuns.{is_past_opening}
 use Rattle.rtc_sctp_laws.specs.StreamUses.{AreUsedIn, EntryUsed, IsUsedIn, NoneUsed, entries_of, is_spent_stream, messages_for, messages_of}
 use Rattle.rtc_sctp_laws.proofs.ContentLemmas.{written_are}
 use Rattle.rtc_sctp_laws.specs.Contents.{numbered_message}
+use Rattle.rtc_sctp_laws.proofs.BackedRows.{plain_sound}
+use Rattle.rtc_sctp_laws.proofs.HeldActs.{IsKeptIf}
 use Rattle.rtc_sctp_laws.proofs.HeldRows.{IsKept}
 use Rattle.rtc_sctp_laws.proofs.KeptLists.{HasMessage, HasPart}
 use Rattle.rtc_sctp_laws.proofs.PlainGenerations.{plain_generations}
@@ -118,7 +120,7 @@ open_by s (e ∷ es) (inr h) = by (e.id == s && is_open_state e.state) (open_by 
 module _ {N : Type 0} (draws : Draws N) where
   module _ (a b : PeerActs) (us vs : List ChannelUse) (p q : PlainPolled N) (x : SideStood draws a us p) (y : SideStood draws b vs q)
       (here : IsSettledPeer p) (there : IsSettledPeer q) (others : AreHeard plain_meaning q.core.sctp.association q.core.sctp.entries)
-      (begun : AreBegunStreams plain_meaning IsKept p.core.sctp)
+      (begun : AreBegunStreams plain_meaning IsKeptIf p.core.sctp) (ok : plain_sound p.core.sctp.association)
       (all : (s g : ℕ) → ended s g b.association ≡ false → ended s g a.association ≡ false
       → has_unacknowledged s q.core.sctp.association.outbox.items ≡ false
       → read s g a.association ++ unread s g p.core.sctp.association.inbox.unread ≡ written s g b.association)
@@ -162,12 +164,12 @@ module _ {N : Type 0} (draws : Draws N) where
     kept_written (inl stands) none = message_written stands none
     kept_written (inr part) none = parts s 0 part none
 
-    by_begun : IsBegunStream plain_meaning IsKept s p.core.sctp.association p.core.sctp.entries → written s 0 b.association ≡ [] → ⊥
+    by_begun : IsBegunStream plain_meaning IsKeptIf s p.core.sctp.association p.core.sctp.entries → written s 0 b.association ≡ [] → ⊥
     by_begun (inl past) none = none_past x.told.used past
     by_begun (inr fine) none = by (fine first alone.0.1)
       where
-        by : IsKept p.core.sctp.association s ⊎ (is_spent_stream plain_meaning s p.core.sctp.association ≡ true) → ⊥
-        by (inl it) = kept_written it none
+        by : IsKeptIf p.core.sctp.association s ⊎ (is_spent_stream plain_meaning s p.core.sctp.association ≡ true) → ⊥
+        by (inl it) = kept_written (it ok) none
         by (inr spent) = true≢false (sym spent ∙ free_here)
 
     wrote_some : messages_of s (generation_of q.core.sctp.association s) y.written ≡ [] → ⊥

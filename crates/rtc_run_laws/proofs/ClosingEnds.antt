@@ -1,5 +1,5 @@
 -- What each act of an end of the plain association does to the closes of generations.
-use Rattle.std.proofs.Common.{◌≡◌, ◌-◌, ℕ, cond, Bool, true, false, List, [], ◌∷◌, ◌++◌, drop, length, append-nil, Option, Some, None, Result, refl, sym, arith}
+use Rattle.std.proofs.Common.{◌≡◌, ◌∙◌, ◌⊎◌, inl, inr, ◌+◌, ◌<◌, ◌≤◌, ◌-◌, ◌||◌, not, ℕ, cond, Bool, true, false, true≢false, List, [], ◌∷◌, ◌++◌, drop, length, append-nil, Option, Some, None, Result, refl, sym, ap, subst, arith}
 use Rattle.std.specs.declared.alloc.AllocError.{AllocError}
 use Rattle.rtc_part_association.specs.Ppi.{ppi_number}
 use Rattle.rtc_part_association.specs.AssociationActs.{AssociationAct, Started, Opened, Wrote, Ended, Given, Taken, Read, Told as ToldEvent, Stirred, Starts, ByConnect, ByAccept, BySnap, Stirs, LimitsSet, ConnectRefused, AcceptRefused, SnapRefused, OpenRefused, WriteRefused, ReadRefused, EndRefused, ThresholdSet, ReliabilitySet, Acted}
@@ -13,14 +13,19 @@ use Rattle.rtc_assoc_packets.specs.Pieces.{close_of, pieces_of}
 use Rattle.rtc_assoc_state.specs.declared.close_state.CloseState.TheVariants.{Queued}
 use Rattle.rtc_assoc_state.specs.declared.stream_row.StreamRow.{StreamRow}
 use Rattle.rtc_assoc_state.specs.Contents.{Contents, is_server}
-use Rattle.rtc_assoc_state.specs.Streams.{stream_of}
+use Rattle.rtc_assoc_state.specs.Streams.{is_closed_here, stream_of}
 use Rattle.rtc_assoc_state.specs.Outbox.{settled_count}
 use Rattle.rtc_assoc_state.specs.Settling.{told_of}
 use Rattle.rtc_assoc_state.specs.Calls.{limited, started_as, said_hello, connected, accepted, snapped, opened, sent, message_written, next_message, taken_out, stream_ended, thresholded, shut_down, greeted, welcomed, acknowledged, item_came, answered, lost, framed, at_moment, half_taken, timed, event_given, packet_given}
 use Rattle.rtc_assoc_state.specs.PlainMeaning.{plain_meaning, open_cause, write_cause, end_cause, stream_cause, ending_cause, Gives, Leaves, Sends, Reads}
 use Rattle.rtc_assoc_state.proofs.RaiseLemmas.{stream_of-stream}
 use Rattle.rtc_assoc_state.proofs.DoesLemmas.{refused_changes_nothing, does_leaves, gives, times, polls_some, transmits_some, reads_some}
-use Rattle.rtc_assoc.proofs.MessageLemmas.{close-left}
+use Rattle.rtc_assoc.proofs.MessageLemmas.{HasClose, close-left, close-pieces}
+use Rattle.rtc_part_association.specs.AssociationNeeds.{need}
+use Rattle.rtc_part_association.specs.declared.assoc_error.AssocError.{AssocError}
+use Rattle.rtc_part_association.specs.declared.assoc_error.AssocError.TheVariants.{NoStream}
+use Rattle.rtc_assoc_state.specs.Contents.{closed_here, generation_of, has_stream}
+use Rattle.rtc_run_laws.proofs.SentOrder.{AllPieces, pieces_are, pieces_fit, pieces_low}
 use Rattle.rtc_run_laws.proofs.ClosingRows.{RowKeeps, RowSame, row_more, row_queued}
 use Rattle.rtc_run_laws.proofs.ClosingSettled.{settled_keeps}
 use Rattle.rtc_run_laws.proofs.ClosingSteps.{EndGo, TakeGo, ghosts_at, go_as, go_at, go_of, go_same, take_put, take_same}
@@ -32,7 +37,7 @@ same_row : (id : ℕ) (row : StreamRow) (p : Contents) → RowSame (stream_of id
     → RowKeeps id (stream_of id p.streams) p.outbox.items w r → RowKeeps id row (p.outbox.items ++ []) (w ++ []) (r ++ [])
 same_row id row p same w r h =
     row_more id (stream_of id p.streams) row p.outbox.items (p.outbox.items ++ []) w [] r [] same (λ g c. close-left id g p.outbox.items [] c)
-    (λ g c. absurd c) h
+    (λ g c. absurd c) (λ g c. c) tt h
 
 go_opened : (f : Option Frame) (id : ℕ) (p : Contents) → EndGo f p (opened id p)
 unfolding opened
@@ -46,8 +51,11 @@ go_opened f id p =
       acked = refl;
       items = sym (append-nil p.outbox.items);
       received = omega arith;
+      ahead = refl;
       brings = tt;
       own = λ s g c. absurd c;
+      sent = tt;
+      fits = λ w r h. tt;
       keeps = same_row id row p (record { generation_is = refl; close_is = refl; finished_is = refl });
     }))
 
@@ -63,14 +71,17 @@ go_thresholded f id n p =
       acked = refl;
       items = sym (append-nil p.outbox.items);
       received = omega arith;
+      ahead = refl;
       brings = tt;
       own = λ s g c. absurd c;
+      sent = tt;
+      fits = λ w r h. tt;
       keeps = same_row id row p (record { generation_is = refl; close_is = refl; finished_is = refl });
     }))
 
-go_ended : (f : Option Frame) (now id : ℕ) (p : Contents) → EndGo f p (stream_ended now id p)
+go_ended : (f : Option Frame) (now id : ℕ) (p : Contents) → is_closed_here (stream_of id p.streams) ≡ false → EndGo f p (stream_ended now id p)
 unfolding stream_ended sent
-go_ended f now id p =
+go_ended f now id p unclosed =
     let old : StreamRow = stream_of id p.streams in
     let row : StreamRow = record old { close = Queued } in
     let c : Item = close_of id old.generation in
@@ -82,10 +93,20 @@ go_ended f now id p =
       acked = refl;
       items = refl;
       received = omega arith;
+      ahead = refl;
       brings = tt;
       own = λ s g k. absurd k;
+      sent = (refl, tt);
+      fits = λ w r h. (((λ g less. h.below g less), (λ e k. unsent w r h k)), tt);
       keeps = λ w r h. row_queued id old c p.outbox.items w r (record { part_is = refl; stream_is = refl; generation_is = refl }) h;
     }))
+  where
+    unsent : (w r : List Item) → RowKeeps id (stream_of id p.streams) p.outbox.items w r → HasClose id (stream_of id p.streams).generation w → ⊥
+    unsent w r h k = by (h.mine (stream_of id p.streams).generation k)
+      where
+        by : ((stream_of id p.streams).generation < (stream_of id p.streams).generation) ⊎ (((stream_of id p.streams).generation ≡ (stream_of id p.streams).generation) × (is_closed_here (stream_of id p.streams) ≡ true)) → ⊥
+        by (inl less) = absurd (omega (arith, less))
+        by (inr c) = true≢false (sym c.1 ∙ unclosed)
 
 go_written : (f : Option Frame) (id i : ℕ) (bytes : List ℕ) (p : Contents) → EndGo f p (message_written id i bytes p)
 unfolding sent
@@ -98,42 +119,56 @@ go_written f id i bytes p =
       acked = refl;
       items = refl;
       received = omega arith;
+      ahead = refl;
       brings = tt;
       keeps = λ w r h. λ s.
           row_more s (stream_of s p.streams) (stream_of s p.streams) p.outbox.items (p.outbox.items ++ more) w more r []
-          (record { generation_is = refl; close_is = refl; finished_is = refl }) (λ g c. close-left s g p.outbox.items more c) (λ g c. absurd c) (h s);
+          (record { generation_is = refl; close_is = refl; finished_is = refl }) (λ g c. close-left s g p.outbox.items more c) (λ g c. absurd c) (λ g c. close-pieces _ _ id _ i s g bytes c) (pieces_low id (stream_of id p.streams).generation s (stream_of s p.streams).generation more all (λ e. subst (λ (n : ℕ). (stream_of id p.streams).generation ≤ (stream_of n p.streams).generation) e (omega arith))) (h s);
+      fits = λ w r k. pieces_fit id (stream_of id p.streams).generation w more all (λ g less. RowKeeps.below (k id) g less);
     })
+  where
+    h : ℕ
+    h = (stream_of id p.streams).generation
+
+    all : AllPieces id h (pieces_of (p.limits.max_payload - 28) id h i bytes)
+    all = pieces_are (length bytes) (p.limits.max_payload - 28) id h i bytes
 
 go_connected : (f : Option Frame) (now m : ℕ) (p : Contents) → EndGo f p (connected now m p)
 unfolding started_as said_hello
-go_connected f now m p = go_same f p (connected now m p) refl refl refl
+go_connected f now m p = go_same f p (connected now m p) refl refl refl refl
 
 go_accepted : (f : Option Frame) (now m : ℕ) (p : Contents) → EndGo f p (accepted now m p)
 unfolding started_as
-go_accepted f now m p = go_same f p (accepted now m p) refl refl refl
+go_accepted f now m p = go_same f p (accepted now m p) refl refl refl refl
 
 go_snapped : (f : Option Frame) (now m : ℕ) (p : Contents) → EndGo f p (snapped now m p)
 unfolding snapped started_as
-go_snapped f now m p = go_same f p (snapped now m p) refl refl refl
+go_snapped f now m p = go_same f p (snapped now m p) refl refl refl refl
 
 go_limited : (f : Option Frame) (n m : ℕ) (p : Contents) → EndGo f p (limited n m p)
 unfolding limited
-go_limited f n m p = go_same f p (limited n m p) refl refl refl
+go_limited f n m p = go_same f p (limited n m p) refl refl refl refl
 
 go_taken_out : (f : Option Frame) (id : ℕ) (p : Contents) → EndGo f p (taken_out id p)
 unfolding taken_out
-go_taken_out f id p = go_same f p (taken_out id p) refl refl refl
+go_taken_out f id p = go_same f p (taken_out id p) refl refl refl refl
 
 go_shut_down : (f : Option Frame) (p : Contents) → EndGo f p (shut_down p)
 unfolding shut_down
-go_shut_down f p = go_same f p (shut_down p) refl refl refl
+go_shut_down f p = go_same f p (shut_down p) refl refl refl refl
 
 go_timed : (f : Option Frame) (now : ℕ) (p : Contents) → EndGo f p (timed now p)
 unfolding timed
-go_timed f now p = go_same f p (timed now p) refl refl refl
+go_timed f now p = go_same f p (timed now p) refl refl refl refl
 
 go_none : (f : Option Frame) (p : Contents) → EndGo f p p
-go_none f p = go_same f p p refl refl refl
+go_none f p = go_same f p p refl refl refl refl
+
+-- a stream that may be closed was not
+end_open : (has closed : Bool) (next : Option AssocError) → need (not has || closed) NoStream next ≡ None → closed ≡ false
+end_open has false next h = refl
+end_open true true next h = absurd (cc)
+end_open false true next h = absurd (cc)
 
 -- ---- packets
 
@@ -142,16 +177,16 @@ unfolding welcomed
 go_welcomed f p = by_role (is_server p.standing.role)
   where
     by_role : (b : Bool) → EndGo f p (cond b (record p { standing = record p.standing { connected = true }; events = p.events ++ (cond p.standing.connected [] (Connected ∷ [])); packets = p.packets ++ (2 ∷ []) ∷ [] }) p)
-    by_role true = go_same f p _ refl refl refl
+    by_role true = go_same f p _ refl refl refl refl
     by_role false = go_none f p
 
 go_greeted : (f : Option Frame) (p : Contents) → EndGo f p (greeted p)
 unfolding greeted
-go_greeted f p = go_same f p (greeted p) refl refl refl
+go_greeted f p = go_same f p (greeted p) refl refl refl refl
 
 go_lost : (f : Option Frame) (p : Contents) → EndGo f p (lost p)
 unfolding lost
-go_lost f p = go_same f p (lost p) refl refl refl
+go_lost f p = go_same f p (lost p) refl refl refl refl
 
 go_acknowledged : (f : Option Frame) (n : ℕ) (p : Contents) → EndGo f p (acknowledged n p)
 unfolding acknowledged
@@ -164,7 +199,9 @@ go_acknowledged f n p =
       acked = refl;
       items = sym (append-nil (drop count p.outbox.items));
       received = omega arith;
+      ahead = refl;
       brings = tt;
+      fits = λ w r h. tt;
       keeps = λ w r h.
           ghosts_at (acknowledged n p).streams (drop count p.outbox.items) w (w ++ []) r (r ++ []) (append-nil w) (append-nil r)
           (settled_keeps count p.outbox.items (told_of p.streams p.events) w r h);
@@ -182,24 +219,39 @@ go_then f n p q h =
       acked = h.acked;
       items = h.items;
       received = h.received;
+      ahead = h.ahead;
       brings = h.brings;
       keeps = λ w r k. h.keeps w r (settled_keeps count p.outbox.items (told_of p.streams (greeted p).events) w r k);
+      fits = λ w r k. h.fits w r (settled_keeps count p.outbox.items (told_of p.streams (greeted p).events) w r k);
     }
 
-go_framed : (now : ℕ) (f : Option Frame) (p : Contents) → EndGo f p (framed now f p)
-go_framed now None p = go_none None p
-go_framed now (Some Hello) p = go_welcomed (Some Hello) p
-go_framed now (Some Welcome) p = go_greeted (Some Welcome) p
-go_framed now (Some (Data n number item)) p =
+-- the item of a packet that is next is of a generation that its stream has come to, once the acknowledgement beside it is taken
+abbrev pub InTime : Contents → Option Frame → Type 0
+InTime p None = Unit {0}
+InTime p (Some Hello) = Unit {0}
+InTime p (Some Welcome) = Unit {0}
+InTime p (Some (Data n number item)) = number ≡ p.inbox.received + 1 → item.generation ≤ generation_of (acknowledged n (greeted p)) item.stream
+InTime p (Some (Acknowledgement n)) = Unit {0}
+InTime p (Some Shutdown) = Unit {0}
+
+same_received : (n : ℕ) (p : Contents) → (acknowledged n (greeted p)).inbox.received ≡ p.inbox.received
+unfolding acknowledged greeted
+same_received n p = refl
+
+go_framed : (now : ℕ) (f : Option Frame) (p : Contents) → InTime p f → EndGo f p (framed now f p)
+go_framed now None p timely = go_none None p
+go_framed now (Some Hello) p timely = go_welcomed (Some Hello) p
+go_framed now (Some Welcome) p timely = go_greeted (Some Welcome) p
+go_framed now (Some (Data n number item)) p timely =
     go_then (Some (Data n number item)) n p (answered (item_came now number item (acknowledged n (greeted p))))
     (take_answered (Some (Data n number item)) (acknowledged n (greeted p)) (item_came now number item (acknowledged n (greeted p)))
-    (item_come n now number item (acknowledged n (greeted p))))
-go_framed now (Some (Acknowledgement n)) p = go_acknowledged (Some (Acknowledgement n)) n p
-go_framed now (Some Shutdown) p = go_lost (Some Shutdown) p
+    (item_come n now number item (acknowledged n (greeted p)) (λ next. timely (next ∙ ap (λ (k : ℕ). k + 1) (same_received n p)))))
+go_framed now (Some (Acknowledgement n)) p timely = go_acknowledged (Some (Acknowledgement n)) n p
+go_framed now (Some Shutdown) p timely = go_lost (Some Shutdown) p
 
 go_moment : (f : Option Frame) (now : ℕ) (p q : Contents) → EndGo f p q → EndGo f p (at_moment now q)
 unfolding at_moment
-go_moment f now p q h = go_as f p q (at_moment now q) refl refl refl h
+go_moment f now p q h = go_as f p q (at_moment now q) refl refl refl refl h
 
 go_half : (f : Option Frame) (p : Contents) → EndGo f p (half_taken f p)
 go_half None p = go_none None p
@@ -207,14 +259,14 @@ go_half (Some Hello) p = go_none (Some Hello) p
 go_half (Some Welcome) p = go_none (Some Welcome) p
 go_half (Some (Data n number item)) p =
     go_then (Some (Data n number item)) n p (acknowledged n (greeted p))
-    (take_same (Some (Data n number item)) (acknowledged n (greeted p)) (acknowledged n (greeted p)) refl refl refl)
+    (take_same (Some (Data n number item)) (acknowledged n (greeted p)) (acknowledged n (greeted p)) refl refl refl refl)
 go_half (Some (Acknowledgement n)) p = go_none (Some (Acknowledgement n)) p
 go_half (Some Shutdown) p = go_none (Some Shutdown) p
 
-go_given : (p q : Contents) (now : ℕ) (bytes : List ℕ) (r : Result (Unit {0}) AllocError) → Gives p now bytes r q → EndGo (frame_in bytes) p q
-go_given p q now bytes r h =
+go_given : (p q : Contents) (now : ℕ) (bytes : List ℕ) (r : Result (Unit {0}) AllocError) → Gives p now bytes r q → InTime p (frame_in bytes) → EndGo (frame_in bytes) p q
+go_given p q now bytes r h timely =
     gives (EndGo (frame_in bytes) p) p q now bytes r (go_none (frame_in bytes) p) (go_half (frame_in bytes) p)
-    (go_moment (frame_in bytes) now p (framed now (frame_in bytes) p) (go_framed now (frame_in bytes) p)) h
+    (go_moment (frame_in bytes) now p (framed now (frame_in bytes) p) (go_framed now (frame_in bytes) p timely)) h
 
 -- ---- acts
 
@@ -243,20 +295,20 @@ go_stirs p q (EndRefused id e h) = go_unchanged p q (refused_changes_nothing {T 
 go_stirs p q (ThresholdSet id n r h) = does_leaves (EndGo None p) (stream_cause p id) p (thresholded id n p) q r (go_none None p) (go_thresholded None id n p) h
 go_stirs p q (ReliabilitySet id u t n r h) = does_leaves (EndGo None p) (stream_cause p id) p p q r (go_none None p) (go_none None p) h
 
-pub act_go : (p q : Contents) (act : AssociationAct) → Acted plain_meaning p act q → EndGo (act_frame act) p q
-act_go p q Started h = go_started p q h.1
-act_go p q (Opened s n) h = go_at None p q (opened s p) h.0.1 (go_opened None s p)
-act_go p q (Wrote s n i b) h = go_at None p q (message_written s (ppi_number h.0) b p) h.1.1.0.1.1.0 (go_written None s (ppi_number h.0) b p)
-act_go p q (Ended s n) h = go_at None p q (stream_ended p.clock.now s p) h.0.1.0 (go_ended None p.clock.now s p)
-act_go p q (Given b) h = go_given p q h.0 b h.1.0 h.1.1
-act_go p q (Taken b) h =
+pub act_go : (p q : Contents) (act : AssociationAct) → Acted plain_meaning p act q → InTime p (act_frame act) → EndGo (act_frame act) p q
+act_go p q Started h timely = go_started p q h.1
+act_go p q (Opened s n) h timely = go_at None p q (opened s p) h.0.1 (go_opened None s p)
+act_go p q (Wrote s n i b) h timely = go_at None p q (message_written s (ppi_number h.0) b p) h.1.1.0.1.1.0 (go_written None s (ppi_number h.0) b p)
+act_go p q (Ended s n) h timely = go_at None p q (stream_ended p.clock.now s p) h.0.1.0 (go_ended None p.clock.now s p (end_open (has_stream p s) (closed_here p s) (ending_cause p) h.0.0))
+act_go p q (Given b) h timely = go_given p q h.0 b h.1.0 h.1.1 timely
+act_go p q (Taken b) h timely =
     let w = transmits_some p.packets p q b h in
-    go_at None p q (packet_given w.0.rest p) w.1.1 (go_same None p (packet_given w.0.rest p) refl refl refl)
-act_go p q (Read s n i b) h =
+    go_at None p q (packet_given w.0.rest p) w.1.1 (go_same None p (packet_given w.0.rest p) refl refl refl refl)
+act_go p q (Read s n i b) h timely =
     let w = reads_some (next_message s p) s p q (h.0, b) h.1.0.1 in go_at None p q (taken_out s p) w.1.2 (go_taken_out None s p)
-act_go p q (ToldEvent e) h =
+act_go p q (ToldEvent e) h timely =
     let w = polls_some p.events p q e h in
-    go_at None p q (event_given w.0.rest p) w.1 (go_same None p (event_given w.0.rest p) refl refl refl)
-act_go p q (Stirred (Timed now)) h = times (EndGo None p) p q now h.0 (go_none None p) (go_timed None now p) h.1
-act_go p q (Stirred ShutDown) h = does_leaves (EndGo None p) (ending_cause p) p (shut_down p) q h.0 (go_none None p) (go_shut_down None p) h.1
-act_go p q (Stirred Other) h = go_stirs p q h
+    go_at None p q (event_given w.0.rest p) w.1 (go_same None p (event_given w.0.rest p) refl refl refl refl)
+act_go p q (Stirred (Timed now)) h timely = times (EndGo None p) p q now h.0 (go_none None p) (go_timed None now p) h.1
+act_go p q (Stirred ShutDown) h timely = does_leaves (EndGo None p) (ending_cause p) p (shut_down p) q h.0 (go_none None p) (go_shut_down None p) h.1
+act_go p q (Stirred Other) h timely = go_stirs p q h

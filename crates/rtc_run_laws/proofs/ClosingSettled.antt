@@ -12,7 +12,7 @@ use Rattle.rtc_assoc_state.specs.Streams.{is_closed_here, is_unclosed, put, rese
 use Rattle.rtc_assoc_state.specs.Outbox.{buffered, bytes_for}
 use Rattle.rtc_assoc_state.specs.Settling.{Told, can_reset, close_settled, item_settled, part_settled, reaches, settled, told_of}
 use Rattle.rtc_assoc_state.proofs.RaiseLemmas.{stream_of-stream}
-use Rattle.rtc_assoc.proofs.MessageLemmas.{Closes, HasClose}
+use Rattle.rtc_assoc.proofs.MessageLemmas.{Closes, HasClose, close-left}
 use Rattle.rtc_run_laws.proofs.ClosingRows.{Keeps, RowKeeps, keeps_nil, keeps_put, no_open, no_queue, row_acknowledged, row_more, row_next}
 
 -- behind an item that is no close of the stream
@@ -26,7 +26,7 @@ items_behind streams item items w r none h =
     keeps_nil streams items w r
     (λ s.
     row_more s (stream_of s streams) (stream_of s streams) (item ∷ items) items w [] r []
-    (record { generation_is = refl; close_is = refl; finished_is = refl }) (λ g k. behind item items s g (none s g) k) (λ g k. absurd k) (h s))
+    (record { generation_is = refl; close_is = refl; finished_is = refl }) (λ g k. behind item items s g (none s g) k) (λ g k. absurd k) (λ g k. k) tt (h s))
 
 -- where the row is not queued, its close may be dropped
 close_behind : (streams : List StreamRow) (item : Item) (items w r : List Item) → ((stream_of item.stream streams).close ≡ Queued → ⊥)
@@ -45,6 +45,10 @@ close_behind streams item items w r none h = λ s. by s (item.stream == s) refl
           rests = k.rests;
           follows = k.follows;
           bounded = k.bounded;
+          mine = k.mine;
+          heard = k.heard;
+          ended = k.ended;
+          within = k.within;
         }
     by s false e =
         let ne = eqb-false item.stream s e in
@@ -57,6 +61,10 @@ close_behind streams item items w r none h = λ s. by s (item.stream == s) refl
           rests = k.rests;
           follows = k.follows;
           bounded = k.bounded;
+          mine = k.mine;
+          heard = k.heard;
+          ended = k.ended;
+          within = k.within;
         }
 
 other_behind : (item : Item) (items : List Item) (s g : ℕ) → (s ≡ item.stream → ⊥) → HasClose s g (item ∷ items) → HasClose s g items
@@ -73,7 +81,7 @@ acknowledged_keeps item items streams w r was last h =
     (keeps_put item.stream (record (stream_of item.stream streams) { close = Acknowledged }) streams (item ∷ items) items w [] r []
     (stream_of-stream item.stream streams)
     (row_acknowledged item.stream (stream_of item.stream streams) (item ∷ items) items w r was last (h item.stream))
-    (λ s g ne k. other_behind item items s g ne k) (λ s g k. absurd k) h)
+    (λ s g ne k. other_behind item items s g ne k) (λ s g k. absurd k) tt h)
 
 queued_keeps : (done can : Bool) (item : Item) (items : List Item) (t : Told) (w r : List Item) → done ≡ (stream_of item.stream t.streams).finished
     → can ≡ can_reset (stream_of item.stream t.streams) → (stream_of item.stream t.streams).close ≡ Queued → Keeps t.streams (item ∷ items) w r
@@ -84,8 +92,8 @@ queued_keeps true true item items t w r done can was h =
     keeps_nil (put (reset_row (stream_of item.stream t.streams)) t.streams) items w r
     (keeps_put item.stream (reset_row (stream_of item.stream t.streams)) t.streams (item ∷ items) items w [] r [] (stream_of-stream item.stream t.streams)
     (row_next item.stream (stream_of item.stream t.streams) (item ∷ items) items w r [] (queued_closed (stream_of item.stream t.streams) was) (sym can)
-    (λ g k. absurd k) (h item.stream))
-    (λ s g ne k. other_behind item items s g ne k) (λ s g k. absurd k) h)
+    (λ g k. absurd k) (close-left item.stream (stream_of item.stream t.streams).generation r [] (RowKeeps.ended (h item.stream) (sym done))) (h item.stream))
+    (λ s g ne k. other_behind item items s g ne k) (λ s g k. absurd k) tt h)
 queued_keeps true false item items t w r done can was h = acknowledged_keeps item items t.streams w r was (λ f. sym can) h
 queued_keeps false can_be item items t w r done can was h =
     acknowledged_keeps item items t.streams w r was (λ f. absurd (true≢false (sym f ∙ sym done))) h

@@ -8,6 +8,7 @@ use Rattle.rtc_assoc_state.specs.Streams.{put, stream_of}
 use Rattle.rtc_assoc_state.specs.Outbox.{Outbox}
 use Rattle.rtc_assoc.proofs.MessageLemmas.{HasClose, close-left}
 use Rattle.rtc_assoc.proofs.FrameLemmas.{Brings}
+use Rattle.rtc_run_laws.proofs.SentOrder.{AllOf, OrderedFrom}
 use Rattle.rtc_run_laws.proofs.ClosingRows.{Keeps, RowKeeps, keeps_put}
 
 -- behind an act so many items are acknowledged, these are sent, and these came, by the packet that it gave if any
@@ -18,8 +19,10 @@ pub record EndGo (f : Option Frame) (p q : Contents) : Type 0 where
   pub acked : q.outbox.acked ≡ p.outbox.acked + count
   pub items : q.outbox.items ≡ drop count p.outbox.items ++ more
   pub received : q.inbox.received ≡ p.inbox.received + length got
+  pub ahead : q.inbox.ahead ≡ p.inbox.ahead
   pub brings : Brings p.inbox.received got f
   pub keeps : (w r : List Item) → Keeps p.streams p.outbox.items w r → Keeps q.streams q.outbox.items (w ++ more) (r ++ got)
+  pub fits : (w r : List Item) → Keeps p.streams p.outbox.items w r → OrderedFrom w more
 
 -- one that acknowledges none
 pub record TakeGo (f : Option Frame) (p q : Contents) : Type 0 where
@@ -28,8 +31,10 @@ pub record TakeGo (f : Option Frame) (p q : Contents) : Type 0 where
   pub acked : q.outbox.acked ≡ p.outbox.acked
   pub items : q.outbox.items ≡ p.outbox.items ++ more
   pub received : q.inbox.received ≡ p.inbox.received + length got
+  pub ahead : q.inbox.ahead ≡ p.inbox.ahead
   pub brings : Brings p.inbox.received got f
   pub keeps : (w r : List Item) → Keeps p.streams p.outbox.items w r → Keeps q.streams q.outbox.items (w ++ more) (r ++ got)
+  pub fits : (w r : List Item) → Keeps p.streams p.outbox.items w r → OrderedFrom w more
 
 pub keeps_at : (streams streams' : List StreamRow) (items items' w r : List Item) → streams' ≡ streams → items' ≡ items → Keeps streams items w r
     → Keeps streams' items' w r
@@ -48,52 +53,60 @@ go_of f p q h = record {
   acked = (let same = h.acked in omega (arith, same));
   items = h.items;
   received = h.received;
+  ahead = h.ahead;
   brings = h.brings;
   keeps = h.keeps;
+  fits = h.fits;
 }
 
-pub take_same : (f : Option Frame) (p q : Contents) → q.streams ≡ p.streams → q.outbox ≡ p.outbox → q.inbox.received ≡ p.inbox.received → TakeGo f p q
-take_same f p q s o i = record {
+pub take_same : (f : Option Frame) (p q : Contents) → q.streams ≡ p.streams → q.outbox ≡ p.outbox → q.inbox.received ≡ p.inbox.received → q.inbox.ahead ≡ p.inbox.ahead → TakeGo f p q
+take_same f p q s o i a = record {
   more = [];
   got = [];
   acked = ap (λ (x : Outbox). x.acked) o;
   items = ap (λ (x : Outbox). x.items) o ∙ sym (append-nil p.outbox.items);
   received = omega (arith, i);
+  ahead = a;
   brings = tt;
   keeps = λ w r h.
       ghosts_at q.streams q.outbox.items w (w ++ []) r (r ++ []) (append-nil w) (append-nil r)
       (keeps_at p.streams q.streams p.outbox.items q.outbox.items w r s (ap (λ (x : Outbox). x.items) o) h);
+  fits = λ w r h. tt;
 }
 
-pub go_same : (f : Option Frame) (p q : Contents) → q.streams ≡ p.streams → q.outbox ≡ p.outbox → q.inbox.received ≡ p.inbox.received → EndGo f p q
-go_same f p q s o i = go_of f p q (take_same f p q s o i)
+pub go_same : (f : Option Frame) (p q : Contents) → q.streams ≡ p.streams → q.outbox ≡ p.outbox → q.inbox.received ≡ p.inbox.received → q.inbox.ahead ≡ p.inbox.ahead → EndGo f p q
+go_same f p q s o i a = go_of f p q (take_same f p q s o i a)
 
 -- what is done besides
-pub take_as : (f : Option Frame) (p m q : Contents) → q.streams ≡ m.streams → q.outbox ≡ m.outbox → q.inbox.received ≡ m.inbox.received → TakeGo f p m
+pub take_as : (f : Option Frame) (p m q : Contents) → q.streams ≡ m.streams → q.outbox ≡ m.outbox → q.inbox.received ≡ m.inbox.received → q.inbox.ahead ≡ m.inbox.ahead → TakeGo f p m
     → TakeGo f p q
-take_as f p m q s o i h = record {
+take_as f p m q s o i a h = record {
   more = h.more;
   got = h.got;
   acked = ap (λ (x : Outbox). x.acked) o ∙ h.acked;
   items = ap (λ (x : Outbox). x.items) o ∙ h.items;
   received = i ∙ h.received;
+  ahead = a ∙ h.ahead;
   brings = h.brings;
   keeps = λ w r k.
       keeps_at m.streams q.streams m.outbox.items q.outbox.items (w ++ h.more) (r ++ h.got) s (ap (λ (x : Outbox). x.items) o) (h.keeps w r k);
+  fits = h.fits;
 }
 
-pub go_as : (f : Option Frame) (p m q : Contents) → q.streams ≡ m.streams → q.outbox ≡ m.outbox → q.inbox.received ≡ m.inbox.received → EndGo f p m
+pub go_as : (f : Option Frame) (p m q : Contents) → q.streams ≡ m.streams → q.outbox ≡ m.outbox → q.inbox.received ≡ m.inbox.received → q.inbox.ahead ≡ m.inbox.ahead → EndGo f p m
     → EndGo f p q
-go_as f p m q s o i h = record {
+go_as f p m q s o i a h = record {
   count = h.count;
   more = h.more;
   got = h.got;
   acked = ap (λ (x : Outbox). x.acked) o ∙ h.acked;
   items = ap (λ (x : Outbox). x.items) o ∙ h.items;
   received = i ∙ h.received;
+  ahead = a ∙ h.ahead;
   brings = h.brings;
   keeps = λ w r k.
       keeps_at m.streams q.streams m.outbox.items q.outbox.items (w ++ h.more) (r ++ h.got) s (ap (λ (x : Outbox). x.items) o) (h.keeps w r k);
+  fits = h.fits;
 }
 
 pub go_at : (f : Option Frame) (p q r : Contents) → q ≡ r → EndGo f p r → EndGo f p q
@@ -106,8 +119,11 @@ pub record RowGo (id : ℕ) (row : StreamRow) (more got : List Item) (f : Option
   pub acked : q.outbox.acked ≡ p.outbox.acked
   pub items : q.outbox.items ≡ p.outbox.items ++ more
   pub received : q.inbox.received ≡ p.inbox.received + length got
+  pub ahead : q.inbox.ahead ≡ p.inbox.ahead
   pub brings : Brings p.inbox.received got f
   pub own : (s g : ℕ) → HasClose s g got → s ≡ id
+  pub sent : AllOf id more
+  pub fits : (w r : List Item) → RowKeeps id (stream_of id p.streams) p.outbox.items w r → OrderedFrom w more
   pub keeps : (w r : List Item) → RowKeeps id (stream_of id p.streams) p.outbox.items w r → RowKeeps id row (p.outbox.items ++ more) (w ++ more) (r ++ got)
 
 pub take_put : (id : ℕ) (row : StreamRow) (more got : List Item) (f : Option Frame) (p q : Contents) → RowGo id row more got f p q → TakeGo f p q
@@ -117,9 +133,11 @@ take_put id row more got f p q k = record {
   acked = k.acked;
   items = k.items;
   received = k.received;
+  ahead = k.ahead;
   brings = k.brings;
   keeps = λ w r h.
       keeps_at (put row p.streams) q.streams (p.outbox.items ++ more) q.outbox.items (w ++ more) (r ++ got) k.streams k.items
       (keeps_put id row p.streams p.outbox.items (p.outbox.items ++ more) w more r got k.stream_is (k.keeps w r (h id))
-      (λ s g ne c. close-left s g p.outbox.items more c) k.own h);
+      (λ s g ne c. close-left s g p.outbox.items more c) k.own k.sent h);
+  fits = λ w r h. k.fits w r (h id);
 }

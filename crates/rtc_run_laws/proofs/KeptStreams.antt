@@ -9,6 +9,8 @@ use Rattle.rtc_run_history.specs.PairState.{rtc_at}
 use Rattle.rtc_run_history.specs.Sides.{other_side}
 use Rattle.rtc_run_laws.specs.PlainPairs.{PairActs, PairExchanges, PlainPair, PlainPolled}
 use Rattle.rtc_run_laws.specs.SettledPairs.{AreInBandStreams, IsInBandStream, IsSettledPeer}
+use Rattle.rtc_sctp_laws.proofs.BackedRows.{plain_sound}
+use Rattle.rtc_run_laws.proofs.ClosingLevels.{Level}
 use Rattle.rtc_run_laws.proofs.ClosingPairs.{LevelStream, level_rest, level_run}
 
 -- a stream that both sides settled by messages alone, if at all, with what holds of its ends besides
@@ -37,6 +39,15 @@ level_left acts pair x here there = λ s.
     level_rest pair.left.core.sctp.association pair.right.core.sctp.association acts.left.association acts.right.association
     (level_run x.joined.moves (ends_of (parts_past acts.left) (packet_parts pair.left) (parts_past acts.right) (packet_parts pair.right)) x.joined.run)
     here.acknowledged there.acknowledged here.lasting there.lasting s
+
+-- no end took an item of a generation to come
+pub pair_sound : {N : Type 0} (acts : PairActs) (pair : PlainPair N) → PairExchanges acts pair → (at : Side) → plain_sound (rtc_at at pair).core.sctp.association
+pair_sound acts pair x Left =
+    Level.left_sound
+    (level_run x.joined.moves (ends_of (parts_past acts.left) (packet_parts pair.left) (parts_past acts.right) (packet_parts pair.right)) x.joined.run)
+pair_sound acts pair x Right =
+    Level.right_sound
+    (level_run x.joined.moves (ends_of (parts_past acts.left) (packet_parts pair.left) (parts_past acts.right) (packet_parts pair.right)) x.joined.run)
 
 pub pair_level : {N : Type 0} (acts : PairActs) (pair : PlainPair N) → PairExchanges acts pair → ((at : Side) → IsSettledPeer (rtc_at at pair))
     → (at : Side) → AreLevelStreams (rtc_at at pair) (rtc_at (other_side at) pair)

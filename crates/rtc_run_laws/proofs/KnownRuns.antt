@@ -8,7 +8,7 @@ use Rattle.rtc_part_values.specs.Draws.{Draws}
 use Rattle.rtc_plain_dtls.specs.Contents.{DtlsContents}
 use Rattle.rtc_plain_ice.specs.Contents.{IceContents}
 use Rattle.rtc_plain_media.specs.MediaContents.{MediaContents}
-use Rattle.rtc_sctp_laws.proofs.BackedRows.{plain_unread}
+use Rattle.rtc_sctp_laws.proofs.BackedRows.{plain_sound, plain_unread}
 use Rattle.rtc_sctp_laws.proofs.KnownStreams.{AreKnown, UnreadLaws}
 use Rattle.rtc_sctp_laws.proofs.PlainGenerations.{plain_generations}
 use Rattle.rtc_peer_core.specs.Built.{payload_of_mtu}
@@ -33,11 +33,11 @@ use Rattle.rtc_run_laws.proofs.KnownRows.{rows_known}
 use Rattle.rtc_run_laws.proofs.StepRows.{StepRows}
 use Rattle.rtc_run_laws.proofs.ForwardSteps.{forward_entry}
 
-module _ {I D S M E X T W N : Type 0} (m : Meanings I D S M E X T W N) (laws : PartsLaws m) (v : GenerationLaws m.association)
-    (u : UnreadLaws m.association) where
+module _ {I D S M E X T W N : Type 0} (m : Meanings I D S M E X T W N) (laws : PartsLaws m) (sound : S → Type 0) (v : GenerationLaws m.association)
+    (u : UnreadLaws m.association sound) where
   -- unless the peer is closed
   abbrev pub SideKnown : PolledPeer I D S M N → Type 0
-  SideKnown p = (p.core.phase ≡ Closed) ⊎ AreKnown m.association p.core.sctp
+  SideKnown p = (p.core.phase ≡ Closed) ⊎ AreKnown m.association sound p.core.sctp
 
   known_on : (p q : PolledPeer I D S M N) → StepRows m p q → SideKnown p → SideKnown q
   known_on p q h (inl closed) = inl (h.closed closed)
@@ -45,7 +45,7 @@ module _ {I D S M E X T W N : Type 0} (m : Meanings I D S M E X T W N) (laws : P
     where
       by : (q.core.phase ≡ Closed) ⊎ RowsChanged m.association p.core.channels p.core.sctp q.core.channels q.core.sctp → SideKnown q
       by (inl closed) = inl closed
-      by (inr changed) = inr (rows_known m.association laws.association v u p.core.channels p.core.sctp q.core.channels q.core.sctp changed known)
+      by (inr changed) = inr (rows_known m.association sound laws.association v u p.core.channels p.core.sctp q.core.channels q.core.sctp changed known)
 
   pub run_known : (stun : List ℕ → Bool) (start : PairState I D S M N) (past : List (Entry E)) (pair : PairState I D S M N)
       → go_forward (steps_of past) ≡ true → Reached m stun start past pair → ((at : Side) → SideKnown (rtc_at at start)) → (at : Side) → SideKnown (rtc_at at pair)
@@ -56,8 +56,8 @@ module _ {I D S M E X T W N : Type 0} (m : Meanings I D S M E X T W N) (laws : P
 -- ---- new peers
 
 module _ {N : Type 0} (draws : Draws N) where
-  pub new_known : (p : PlainPolled N) → IsNewPeer draws p.core → AreKnown plain_meaning p.core.sctp
-  new_known p h = subst (λ (x : SctpStreams Contents). AreKnown plain_meaning x) (sym sctp) built
+  pub new_known : (p : PlainPolled N) → IsNewPeer draws p.core → AreKnown plain_meaning plain_sound p.core.sctp
+  new_known p h = subst (λ (x : SctpStreams Contents). AreKnown plain_meaning plain_sound x) (sym sctp) built
     where
       sctp : p.core.sctp ≡ h.built.sctp
       sctp = ap (λ (x : Peer IceContents DtlsContents Contents MediaContents N). x.sctp) h.rest
@@ -72,14 +72,14 @@ module _ {N : Type 0} (draws : Draws N) where
       unestablished : is_established h.built.sctp.state ≡ false
       unestablished = ap (λ (x : SctpStreams Contents). is_established x.state) h.by_build.streams
 
-      built : AreKnown plain_meaning h.built.sctp
+      built : AreKnown plain_meaning plain_sound h.built.sctp
       built = record {
-        backed = λ s g stands. absurd (none s g stands);
-        known = λ s stands. absurd (none s (plain_meaning.generation h.built.sctp.association s) stands);
+        backed = λ ok s g stands. absurd (none s g stands);
+        known = λ s ok stands. absurd (none s (plain_meaning.generation h.built.sctp.association s) stands);
         begun = λ e. absurd (true≢false (sym e ∙ unestablished));
       }
 
   pub new_pair_known : (pair : PlainPair N) → IsNewPair draws pair → (at : Side)
-      → SideKnown (plain_over draws) (plain_over_laws draws) plain_generations plain_unread (rtc_at at pair)
+      → SideKnown (plain_over draws) (plain_over_laws draws) plain_sound plain_generations plain_unread (rtc_at at pair)
   new_pair_known pair h Left = inr (new_known pair.left h.left)
   new_pair_known pair h Right = inr (new_known pair.right h.right)

@@ -12,6 +12,7 @@ use Rattle.rtc_sctp_entries.specs.declared.stream_entry.StreamEntry.{StreamEntry
 use Rattle.rtc_sctp_entries.specs.Entries.{is_open_awaited}
 use Rattle.rtc_sctp.specs.Streams.{is_established}
 use Rattle.rtc_sctp_laws.specs.StreamUses.{is_spent_stream}
+use Rattle.rtc_sctp_laws.proofs.BackedRows.{plain_sound}
 use Rattle.rtc_sctp_laws.proofs.KnownStreams.{AreKnown, HasEntry}
 use Rattle.rtc_peer_laws.specs.Drained.{AllHeard, AreHeard, AreTriedAgain, IsHeard, IsTriedAgain, is_opening_refused}
 use Rattle.rtc_run_laws.specs.PlainPairs.{PlainPolled}
@@ -82,17 +83,17 @@ module _ {N : Type 0} (draws : Draws N) where
       there false y e h = absurd (true≢false (sym h ∙ e))
 
   -- each is, as the association is established, and so it is started
-  pub tried_in : (q : PlainPolled N) → IsSettledPeer q → AllHeard plain_meaning q.core.sctp → AreKnown plain_meaning q.core.sctp
+  pub tried_in : (q : PlainPolled N) → IsSettledPeer q → AllHeard plain_meaning q.core.sctp → AreKnown plain_meaning plain_sound q.core.sctp
       → AreTriedAgain q.core.sctp.last q.core.sctp.entries
   tried_in q settled all known =
       all.tried
       (both_true (is_established q.core.sctp.state) (is_started q.core.sctp.association) settled.established (known.begun settled.established))
 
   pub none_unread : (q : PlainPolled N) (s : ℕ) → IsSettledPeer q → AllHeard plain_meaning q.core.sctp
-      → AreHeard plain_meaning q.core.sctp.association q.core.sctp.entries → AreKnown plain_meaning q.core.sctp
-      → closed_here q.core.sctp.association s ≡ false
+      → AreHeard plain_meaning q.core.sctp.association q.core.sctp.entries → AreKnown plain_meaning plain_sound q.core.sctp
+      → plain_sound q.core.sctp.association → closed_here q.core.sctp.association s ≡ false
       → IsOpeningRefused s q ⊎ (has_unread q.core.sctp.association s (generation_of q.core.sctp.association s) ≡ false)
-  none_unread q s settled all heard known unclosed = by (has_unread a s (generation_of a s)) refl
+  none_unread q s settled all heard known ok unclosed = by (has_unread a s (generation_of a s)) refl
     where
       a : Contents
       a = q.core.sctp.association
@@ -115,5 +116,5 @@ module _ {N : Type 0} (draws : Draws N) where
       from (inr (inr spent)) = absurd (true≢false (sym spent ∙ free_of draws q s settled unclosed))
 
       by : (b : Bool) → has_unread a s (generation_of a s) ≡ b → IsOpeningRefused s q ⊎ (has_unread a s (generation_of a s) ≡ false)
-      by true e = from (known.known s e)
+      by true e = from (known.known s ok e)
       by false e = inr e

@@ -211,6 +211,10 @@ pub mod StepWalks
 pub mod BandedSteps
 pub mod BandedRuns
 pub mod SettlesRuns
+pub mod SentOrder
+pub mod TimelyItems
+pub mod ClosingLevels
+pub mod SoundActs
 pub mod Silence
 pub mod SentUses
 pub mod SilentRuns

@@ -31,7 +31,7 @@ use Rattle.rtc_run_laws.specs.PlainPairs.{HasExchanged, PlainPair, PlainPolled, 
 use Rattle.rtc_run_laws.proofs.NewPeers.{new_exchanged}
 use Rattle.rtc_run_laws.proofs.RunsExchange.{reached_exchanged}
 use Rattle.rtc_run_laws.proofs.StepsExchange.{plain_over_laws}
-use Rattle.rtc_sctp_laws.proofs.BackedRows.{plain_unread}
+use Rattle.rtc_sctp_laws.proofs.BackedRows.{plain_sound, plain_unread}
 use Rattle.rtc_sctp_laws.proofs.KnownStreams.{AreKnown}
 use Rattle.rtc_sctp_laws.proofs.PlainGenerations.{plain_generations}
 use Rattle.rtc_run_laws.specs.SettledPairs.{AreOnSides, IsSettledPair, IsSettledPeer}
@@ -100,12 +100,12 @@ module _ {N : Type 0} (draws : Draws N) (stun : List ℕ → Bool) (start : Plai
   new_role Right = λ started. absurd (true≢false (sym started ∙ new_unstarted draws start.right new.right))
 
   -- an association that is established was started
-  known_at : (at : Side) → IsSettledPeer (rtc_at at pair) → AreKnown plain_meaning (rtc_at at pair).core.sctp
+  known_at : (at : Side) → IsSettledPeer (rtc_at at pair) → AreKnown plain_meaning plain_sound (rtc_at at pair).core.sctp
   known_at at settled =
-      by (run_known (plain_over draws) (plain_over_laws draws) plain_generations plain_unread stun start past pair go ran (new_pair_known draws start new) at)
+      by (run_known (plain_over draws) (plain_over_laws draws) plain_sound plain_generations plain_unread stun start past pair go ran (new_pair_known draws start new) at)
     where
-      by : SideKnown (plain_over draws) (plain_over_laws draws) plain_generations plain_unread (rtc_at at pair)
-          → AreKnown plain_meaning (rtc_at at pair).core.sctp
+      by : SideKnown (plain_over draws) (plain_over_laws draws) plain_sound plain_generations plain_unread (rtc_at at pair)
+          → AreKnown plain_meaning plain_sound (rtc_at at pair).core.sctp
       by (inl closed) = absurd (not_closed draws (rtc_at at pair) settled.alive closed)
       by (inr known) = known
 

@@ -40,12 +40,12 @@ use Rattle.rtc_run_laws.proofs.ConfirmedRuns.{SideBegun, SideSound, run_begun}
 use Rattle.rtc_run_laws.proofs.ConfirmedSides.{IsOpen, Opening, StandsAs, Unanswered, confirmed_stands, new_sound, stands_as}
 use Rattle.rtc_run_laws.proofs.OpenSides.{both_true, last_all, last_heard, not_closed, stays_under}
 use Rattle.rtc_run_laws.proofs.IdleSides.{none_due, none_retried}
-use Rattle.rtc_run_laws.proofs.KeptStreams.{AreKeptStreams, AreLevelStreams, kept_by, pair_level}
+use Rattle.rtc_run_laws.proofs.KeptStreams.{AreKeptStreams, AreLevelStreams, kept_by, pair_level, pair_sound}
 use Rattle.rtc_run_laws.proofs.KnownRuns.{SideKnown, new_pair_known, run_known}
 use Rattle.rtc_run_laws.proofs.RefusedSides.{shut_there}
 use Rattle.rtc_run_laws.proofs.KnownSides.{none_unread, refused_of, refused_opening, tried_in}
 use Rattle.rtc_run_laws.proofs.StillSides.{awaits_retried, none_opening, taken_up}
-use Rattle.rtc_sctp_laws.proofs.BackedRows.{plain_unread}
+use Rattle.rtc_sctp_laws.proofs.BackedRows.{plain_sound, plain_unread}
 use Rattle.rtc_sctp_laws.proofs.KnownStreams.{AreKnown}
 use Rattle.rtc_sctp_laws.proofs.PlainGenerations.{plain_generations}
 use Rattle.rtc_run_laws.proofs.RestingSides.{PolledLast, resting_drained, resting_last}
@@ -125,15 +125,15 @@ module _ {N : Type 0} (draws : Draws N) where
       numbers Left = told.left.side.told.numbers
       numbers Right = told.right.side.told.numbers
 
-      known_at : (at : Side) → SideKnown (plain_over draws) (plain_over_laws draws) plain_generations plain_unread (rtc_at at pair)
-          → AreKnown plain_meaning (rtc_at at pair).core.sctp
+      known_at : (at : Side) → SideKnown (plain_over draws) (plain_over_laws draws) plain_sound plain_generations plain_unread (rtc_at at pair)
+          → AreKnown plain_meaning plain_sound (rtc_at at pair).core.sctp
       known_at at (inl closed) = absurd (not_closed draws (rtc_at at pair) (settled.peers at).alive closed)
       known_at at (inr known) = known
 
-      known : (at : Side) → AreKnown plain_meaning (rtc_at at pair).core.sctp
+      known : (at : Side) → AreKnown plain_meaning plain_sound (rtc_at at pair).core.sctp
       known at =
           known_at at
-          (run_known (plain_over draws) (plain_over_laws draws) plain_generations plain_unread stun start past pair go ran (new_pair_known draws start new) at)
+          (run_known (plain_over draws) (plain_over_laws draws) plain_sound plain_generations plain_unread stun start past pair go ran (new_pair_known draws start new) at)
 
       quiet : (at : Side) (s : ℕ) → closed_here (rtc_at at pair).core.sctp.association s ≡ false
           → IsOpeningRefused s (rtc_at at pair)
@@ -141,7 +141,7 @@ module _ {N : Type 0} (draws : Draws N) where
       quiet at s unclosed =
           none_unread draws (rtc_at at pair) s (settled.peers at)
           (last_all draws (rtc_at at pair) (resting_last (plain_over draws) (λ n. Unit {0}) stun start past pair ran at (settled.resting at)) (settled.peers at)) (heard at)
-          (known at) unclosed
+          (known at) (pair_sound told.acts pair told.exchange at) unclosed
 
       tried : (at : Side) → AreTriedAgain (rtc_at at pair).core.sctp.last (rtc_at at pair).core.sctp.entries
       tried at =

@@ -10,7 +10,7 @@ use Rattle.rtc_plain_dtls.specs.Contents.{DtlsContents}
 use Rattle.rtc_plain_ice.specs.Contents.{IceContents}
 use Rattle.rtc_plain_media.specs.MediaContents.{MediaContents}
 use Rattle.rtc_sctp_laws.proofs.HeldRows.{IsKept}
-use Rattle.rtc_sctp_laws.proofs.HeldActs.{plain_keeping}
+use Rattle.rtc_sctp_laws.proofs.HeldActs.{IsKeptIf, plain_keeping}
 use Rattle.rtc_sctp_laws.proofs.ThereStreams.{AreBegunStreams, KeepingLaws, fine_on, goes_act}
 use Rattle.rtc_sctp_laws.proofs.PlainGenerations.{plain_generations}
 use Rattle.rtc_peer_core.specs.Built.{payload_of_mtu}
@@ -58,21 +58,21 @@ module _ {I D S M E X T W N : Type 0} (m : Meanings I D S M E X T W N) (laws : P
 -- ---- new peers
 
 module _ {N : Type 0} (draws : Draws N) where
-  pub new_there : (p : PlainPolled N) → IsNewPeer draws p.core → AreBegunStreams plain_meaning IsKept p.core.sctp
-  new_there p h = subst (λ (x : SctpStreams Contents). AreBegunStreams plain_meaning IsKept x) (sym sctp) built
+  pub new_there : (p : PlainPolled N) → IsNewPeer draws p.core → AreBegunStreams plain_meaning IsKeptIf p.core.sctp
+  new_there p h = subst (λ (x : SctpStreams Contents). AreBegunStreams plain_meaning IsKeptIf x) (sym sctp) built
     where
       sctp : p.core.sctp ≡ h.built.sctp
       sctp = ap (λ (x : Peer IceContents DtlsContents Contents MediaContents N). x.sctp) h.rest
 
-      built : AreBegunStreams plain_meaning IsKept h.built.sctp
+      built : AreBegunStreams plain_meaning IsKeptIf h.built.sctp
       built s =
           inr
-          (fine_on plain_meaning IsKept s fresh_contents h.built.sctp.association
-          (goes_act plain_meaning IsKept plain_laws plain_generations plain_keeping s fresh_contents h.built.sctp.association (Stirred Other)
+          (fine_on plain_meaning IsKeptIf s fresh_contents h.built.sctp.association
+          (goes_act plain_meaning IsKeptIf plain_laws plain_generations plain_keeping s fresh_contents h.built.sctp.association (Stirred Other)
           (LimitsSet (payload_of_mtu h.config.mtu.0) h.config.sctp.max_message_size h.by_build.by_limits) refl)
           (λ z there. absurd (true≢false (sym there))))
 
   pub new_pair_there : (pair : PlainPair N) → IsNewPair draws pair → (at : Side)
-      → SideThere (plain_over draws) (plain_over_laws draws) plain_generations IsKept plain_keeping (rtc_at at pair)
+      → SideThere (plain_over draws) (plain_over_laws draws) plain_generations IsKeptIf plain_keeping (rtc_at at pair)
   new_pair_there pair h Left = inr (new_there pair.left h.left)
   new_pair_there pair h Right = inr (new_there pair.right h.right)

@@ -5,7 +5,7 @@ use Rattle.rtc_assoc_state.specs.Contents.{generation_of}
 use Rattle.rtc_assoc_state.specs.PlainMeaning.{plain_meaning}
 use Rattle.rtc_part_values.specs.Draws.{Draws}
 use Rattle.rtc_plain_media.specs.declared.plain_media_event.PlainMediaEvent.{PlainMediaEvent}
-use Rattle.rtc_sctp_laws.proofs.HeldActs.{plain_keeping}
+use Rattle.rtc_sctp_laws.proofs.HeldActs.{IsKeptIf, plain_keeping}
 use Rattle.rtc_sctp_laws.proofs.HeldRows.{IsKept}
 use Rattle.rtc_sctp_laws.proofs.KeptLists.{HasPart}
 use Rattle.rtc_sctp_laws.proofs.PlainGenerations.{plain_generations}
@@ -17,6 +17,7 @@ use Rattle.rtc_run_history.specs.PairState.{rtc_at}
 use Rattle.rtc_run_history.specs.Past.{Entry, steps_of}
 use Rattle.rtc_run_history.specs.Runs.{Reached}
 use Rattle.rtc_run_history.specs.Sides.{other_side}
+use Rattle.rtc_run_laws.proofs.KeptStreams.{pair_sound}
 use Rattle.rtc_run_laws.proofs.EmptyStreams.{AreUnused}
 use Rattle.rtc_peer_laws.specs.Exchanging.{parts_past}
 use Rattle.rtc_peer_laws.specs.JoinedPeers.{ends_of, packet_parts}
@@ -49,15 +50,15 @@ module _ {N : Type 0} (draws : Draws N) (stun : List ℕ → Bool) (start : Plai
     (go : go_forward (steps_of past) ≡ true) (ran : Reached (plain_over draws) stun start past pair) (new : IsNewPair draws start)
     (h : PairTold draws start (λ x. []) (λ x s g. []) (λ x c s g. [])) (unused : AreUnused (plain_over draws) (plain_over_laws draws) start)
     (settled : IsSettledPair past pair) where
-  there_by : (at : Side) → SideThere (plain_over draws) (plain_over_laws draws) plain_generations IsKept plain_keeping (rtc_at at pair)
-      → AreBegunStreams plain_meaning IsKept (rtc_at at pair).core.sctp
+  there_by : (at : Side) → SideThere (plain_over draws) (plain_over_laws draws) plain_generations IsKeptIf plain_keeping (rtc_at at pair)
+      → AreBegunStreams plain_meaning IsKeptIf (rtc_at at pair).core.sctp
   there_by at (inl closed) = absurd (not_closed draws (rtc_at at pair) (settled.peers at).alive closed)
   there_by at (inr begun) = begun
 
-  begun_at : (at : Side) → AreBegunStreams plain_meaning IsKept (rtc_at at pair).core.sctp
+  begun_at : (at : Side) → AreBegunStreams plain_meaning IsKeptIf (rtc_at at pair).core.sctp
   begun_at at =
       there_by at
-      (run_there (plain_over draws) (plain_over_laws draws) plain_generations IsKept plain_keeping stun start past pair go ran
+      (run_there (plain_over draws) (plain_over_laws draws) plain_generations IsKeptIf plain_keeping stun start past pair go ran
       (new_pair_there draws start new) at)
 
   -- the other side opened a stream whose opening is refused alone
@@ -68,14 +69,14 @@ module _ {N : Type 0} (draws : Draws N) (stun : List ℕ → Bool) (start : Plai
       let k = told draws stun start past pair go ran h unused settled in
       alone_waits draws k.acts.left k.acts.right (uses draws stun start past pair go ran h unused settled Left)
       (uses draws stun start past pair go ran h unused settled Right) pair.left pair.right k.left.side k.right.side (settled.peers Left)
-      (settled.peers Right) (heard draws stun start past pair go ran h unused settled Right) (begun_at Left)
+      (settled.peers Right) (heard draws stun start past pair go ran h unused settled Right) (begun_at Left) (pair_sound k.acts pair k.exchange Left)
       (λ t g. side_all k.acts pair Right t g k.exchange) (side_parts k.acts pair k.exchange Left) s
       (kept_streams draws stun start past pair go ran h unused settled Left s band) alone first
   waits_there Right s band alone first =
       let k = told draws stun start past pair go ran h unused settled in
       alone_waits draws k.acts.right k.acts.left (uses draws stun start past pair go ran h unused settled Right)
       (uses draws stun start past pair go ran h unused settled Left) pair.right pair.left k.right.side k.left.side (settled.peers Right)
-      (settled.peers Left) (heard draws stun start past pair go ran h unused settled Left) (begun_at Right)
+      (settled.peers Left) (heard draws stun start past pair go ran h unused settled Left) (begun_at Right) (pair_sound k.acts pair k.exchange Right)
       (λ t g. side_all k.acts pair Left t g k.exchange) (side_parts k.acts pair k.exchange Right) s
       (kept_streams draws stun start past pair go ran h unused settled Right s band) alone first
 

@@ -1,7 +1,7 @@
 -- Messages that stand unread at an end of the plain association are of generations that their streams had, or that they have and are there.
 use Rattle.std.proofs.Common.{◌≡◌, ◌∙◌, ◌⊎◌, ◌+◌, ◌<◌, ◌≤◌, ◌++◌, ◌∷◌, ◌==◌, ◌&&◌, ◌||◌, inl, inr, not, nat_lt, cond, ℕ, Bool, true, false, true≢false, List, [], Option, Some, None, Result, refl, sym, ap, subst, arith}
 use Rattle.std.specs.declared.alloc.AllocError.{AllocError}
-use Rattle.std.proofs.lemmas.Bool.{eqb-true}
+use Rattle.std.proofs.lemmas.Bool.{eqb-true, or_parts}
 use Rattle.rtc_part_association.specs.declared.assoc_event.AssocEvent.TheVariants.{Connected}
 use Rattle.rtc_part_association.specs.AssociationActs.{AssociationAct, Given, Acted}
 use Rattle.rtc_assoc_packets.specs.declared.item.Item.{Item}
@@ -18,7 +18,7 @@ use Rattle.rtc_assoc_state.specs.Contents.{Contents, generation_of, has_unread, 
 use Rattle.rtc_assoc_state.specs.Streams.{stream_of, put, reset_row, takes_messages}
 use Rattle.rtc_assoc_state.specs.Inbox.{bytes_so_far, is_message_of, message_of}
 use Rattle.rtc_assoc_state.specs.Settling.{can_reset}
-use Rattle.rtc_assoc_state.specs.Calls.{sent, greeted, welcomed, acknowledged, item_counted, more_kept, last_kept, piece_kept, finished, reset_told, close_came_at, part_came, item_taken, is_ahead, item_came, answered, lost, framed, at_moment, half_taken}
+use Rattle.rtc_assoc_state.specs.Calls.{sent, greeted, welcomed, acknowledged, item_counted, more_kept, last_kept, piece_kept, finished, reset_told, close_came_at, part_came, item_put, item_taken, is_ahead, item_came, answered, lost, framed, at_moment, half_taken}
 use Rattle.rtc_assoc_state.specs.PlainMeaning.{Gives, plain_meaning}
 use Rattle.rtc_assoc_state.proofs.DoesLemmas.{gives}
 use Rattle.rtc_assoc_state.proofs.RaiseLemmas.{stream_of-put, stream_of-stream}
@@ -28,13 +28,17 @@ use Rattle.rtc_sctp_laws.proofs.KnownStreams.{AreBacked, IsBackedBy, UnreadLaws}
 use Rattle.rtc_sctp_laws.proofs.PlainGenerations.{stays_act}
 use Rattle.rtc_sctp_laws.proofs.RowsGo.{RowStays}
 
+-- no item of a generation to come was taken
+abbrev pub plain_sound : Contents → Type 0
+plain_sound p = p.inbox.ahead ≡ false
+
 -- no more stands unread
 abbrev Fewer : Contents → Contents → Type 0
 Fewer p q = (s g : ℕ) → has_unread q s g ≡ true → has_unread p s g ≡ true
 
 -- what stands unread stood so before, or is of a generation that the stream had, or that it has and is there
 abbrev Brings : Contents → Contents → Type 0
-Brings p q = (s g : ℕ) → has_unread q s g ≡ true → (has_unread p s g ≡ true) ⊎ IsBackedBy plain_meaning q s g
+Brings p q = (s g : ℕ) → has_unread q s g ≡ true → (has_unread p s g ≡ true) ⊎ IsBackedBy plain_meaning plain_sound q s g
 
 none_brought : (p q : Contents) → Fewer p q → Brings p q
 none_brought p q h = λ s g k. inl (h s g k)
@@ -143,7 +147,7 @@ unfolding last_kept item_counted
 brings_last item row p same there le = λ s g h. by s g (any-with (is_message_of s g) p.inbox.unread (message_of item (bytes_so_far item.stream item.generation p.inbox.parts ++ item.bytes)) h)
   where
     by : (s g : ℕ) → (has_unread p s g ≡ true) ⊎ (((item.stream == s) && (item.generation == g)) ≡ true)
-        → (has_unread p s g ≡ true) ⊎ IsBackedBy plain_meaning (last_kept item (item_counted row p)) s g
+        → (has_unread p s g ≡ true) ⊎ IsBackedBy plain_meaning plain_sound (last_kept item (item_counted row p)) s g
     by s g (inl before) = inl before
     by s g (inr own) =
         let two = both_true (item.stream == s) (item.generation == g) own in
@@ -172,26 +176,24 @@ brings_part Last now item row p is same there le =
     subst (λ (x : ItemPart). Brings p (cond (takes_messages row item.generation) (piece_kept x item (item_counted row p)) (item_counted row p))) (sym is)
     (brings_piece (takes_messages row item.generation) item row p same there le)
 
-brings_item : (now : ℕ) (item : Item) (p : Contents) → item.generation ≤ generation_of p item.stream → Brings p (item_taken now item p)
-brings_item now item p le =
+brings_put_item : (now : ℕ) (item : Item) (p : Contents) → item.generation ≤ generation_of p item.stream → Brings p (item_put now item p)
+brings_put_item now item p le =
     brings_part item.part now item (record (stream_of item.stream p.streams) { there = true }) p refl (stream_of-stream item.stream p.streams) refl le
 
-brings_if : (b : Bool) (now : ℕ) (item : Item) (p : Contents) → (b ≡ true → item.generation ≤ generation_of p item.stream)
-    → Brings p (cond b (item_taken now item p) p)
-brings_if true now item p le = brings_item now item p (le refl)
-brings_if false now item p le = λ s g h. inl h
+brings_item : (now : ℕ) (item : Item) (p : Contents) → item.generation ≤ generation_of p item.stream → Brings p (item_taken now item p)
+brings_item now item p le = λ s g h. brings_put_item now item p le s g h
 
-not_ahead : (now number : ℕ) (item : Item) (p : Contents) → ((number == p.inbox.received + 1) && not (is_ending p || is_ahead item p)) ≡ true
-    → item.generation ≤ generation_of p item.stream
-not_ahead now number item p h =
-    let none : nat_lt (stream_of item.stream p.streams).generation item.generation ≡ false =
-    neither (is_ending p) (is_ahead item p) (both_true (number == p.inbox.received + 1) (not (is_ending p || is_ahead item p)) h).1 in
-    grind (arith, none)
+-- an item that is not ahead
+not_ahead : (item : Item) (p : Contents) → is_ahead item p ≡ false → item.generation ≤ generation_of p item.stream
+not_ahead item p none = grind (arith, none)
 
-brings_came : (now number : ℕ) (item : Item) (p : Contents) → Brings p (item_came now number item p)
+brings_if : (b : Bool) (now : ℕ) (item : Item) (p : Contents) → plain_sound (cond b (item_taken now item p) p) → Brings p (cond b (item_taken now item p) p)
+brings_if true now item p ok = brings_item now item p (not_ahead item p (or_parts (item_put now item p).inbox.ahead (is_ahead item p) ok).1)
+brings_if false now item p ok = λ s g h. inl h
+
+brings_came : (now number : ℕ) (item : Item) (p : Contents) → plain_sound (item_came now number item p) → Brings p (item_came now number item p)
 unfolding item_came
-brings_came now number item p =
-    brings_if ((number == p.inbox.received + 1) && not (is_ending p || is_ahead item p)) now item p (λ e. not_ahead now number item p e)
+brings_came now number item p ok = brings_if ((number == p.inbox.received + 1) && not (is_ending p)) now item p ok
 
 -- ---- packets
 
@@ -204,24 +206,28 @@ fewer_moment : (now : ℕ) (p q : Contents) → Fewer p q → Brings p (at_momen
 unfolding at_moment
 fewer_moment now p q h = none_brought p q h
 
-brings_data : (now n number : ℕ) (item : Item) (p : Contents) → Brings p (at_moment now (framed now (Some (Data n number item)) p))
-brings_data now n number item p =
+sound_answered : (now : ℕ) (q : Contents) → plain_sound (at_moment now (answered q)) → plain_sound q
+unfolding answered at_moment
+sound_answered now q ok = ok
+
+brings_data : (now n number : ℕ) (item : Item) (p : Contents) → plain_sound (at_moment now (framed now (Some (Data n number item)) p)) → Brings p (at_moment now (framed now (Some (Data n number item)) p))
+brings_data now n number item p ok =
     brings_answered now p (item_came now number item (acknowledged n (greeted p)))
-    (λ s g h. before s g (brings_came now number item (acknowledged n (greeted p)) s g h))
+    (λ s g h. before s g (brings_came now number item (acknowledged n (greeted p)) (sound_answered now (item_came now number item (acknowledged n (greeted p))) ok) s g h))
   where
     before : (s g : ℕ)
-        → (has_unread (acknowledged n (greeted p)) s g ≡ true) ⊎ IsBackedBy plain_meaning (item_came now number item (acknowledged n (greeted p))) s g
-        → (has_unread p s g ≡ true) ⊎ IsBackedBy plain_meaning (item_came now number item (acknowledged n (greeted p))) s g
+        → (has_unread (acknowledged n (greeted p)) s g ≡ true) ⊎ IsBackedBy plain_meaning plain_sound (item_came now number item (acknowledged n (greeted p))) s g
+        → (has_unread p s g ≡ true) ⊎ IsBackedBy plain_meaning plain_sound (item_came now number item (acknowledged n (greeted p))) s g
     before s g (inl k) = inl (fewer_front n p s g k)
     before s g (inr k) = inr k
 
-brings_framed : (now : ℕ) (f : Option Frame) (p : Contents) → Brings p (at_moment now (framed now f p))
-brings_framed now None p = fewer_moment now p p (λ s g h. h)
-brings_framed now (Some Hello) p = fewer_moment now p (welcomed p) (fewer_welcomed p)
-brings_framed now (Some Welcome) p = fewer_moment now p (greeted p) (fewer_greeted p)
-brings_framed now (Some (Data n number item)) p = brings_data now n number item p
-brings_framed now (Some (Acknowledgement n)) p = fewer_moment now p (acknowledged n p) (fewer_acknowledged n p)
-brings_framed now (Some Shutdown) p = fewer_moment now p (lost p) (fewer_lost p)
+brings_framed : (now : ℕ) (f : Option Frame) (p : Contents) → plain_sound (at_moment now (framed now f p)) → Brings p (at_moment now (framed now f p))
+brings_framed now None p ok = fewer_moment now p p (λ s g h. h)
+brings_framed now (Some Hello) p ok = fewer_moment now p (welcomed p) (fewer_welcomed p)
+brings_framed now (Some Welcome) p ok = fewer_moment now p (greeted p) (fewer_greeted p)
+brings_framed now (Some (Data n number item)) p ok = brings_data now n number item p ok
+brings_framed now (Some (Acknowledgement n)) p ok = fewer_moment now p (acknowledged n p) (fewer_acknowledged n p)
+brings_framed now (Some Shutdown) p ok = fewer_moment now p (lost p) (fewer_lost p)
 
 brings_half : (f : Option Frame) (p : Contents) → Brings p (half_taken f p)
 brings_half None p = λ s g h. inl h
@@ -231,29 +237,36 @@ brings_half (Some (Data n number item)) p = none_brought p (acknowledged n (gree
 brings_half (Some (Acknowledgement n)) p = λ s g h. inl h
 brings_half (Some Shutdown) p = λ s g h. inl h
 
-brings_given : (p q : Contents) (now : ℕ) (bytes : List ℕ) (r : Result (Unit {0}) AllocError) → Gives p now bytes r q → Brings p q
+brings_given : (p q : Contents) (now : ℕ) (bytes : List ℕ) (r : Result (Unit {0}) AllocError) → Gives p now bytes r q → plain_sound q → Brings p q
 brings_given p q now bytes r h =
-    gives (Brings p) p q now bytes r (λ s g k. inl k) (brings_half (frame_in bytes) p) (brings_framed now (frame_in bytes) p) h
+    gives (λ x. plain_sound x → Brings p x) p q now bytes r (λ ok s g k. inl k) (λ ok. brings_half (frame_in bytes) p) (λ ok. brings_framed now (frame_in bytes) p ok) h
 
 -- ---- acts
 
 record Went (p q : Contents) : Type 0 where
   goes : EndGoes p q
-  brings : Brings p q
+  brings : plain_sound q → Brings p q
 
 went_by : (p q : Contents) (act : AssociationAct) → Acted plain_meaning p act q → Went p q
-went_by p q (Given bytes) h = record { goes = goes_given p q h.0 bytes h.1.0 h.1.1; brings = brings_given p q h.0 bytes h.1.0 h.1.1 }
-went_by p q act h = let k = stays_act p q act refl h in record { goes = k.goes; brings = none_brought p q k.fewer }
+went_by p q (Given bytes) h = record { goes = goes_given p q h.0 bytes h.1.0 h.1.1; brings = λ ok. brings_given p q h.0 bytes h.1.0 h.1.1 ok }
+went_by p q act h = let k = stays_act p q act refl h in record { goes = k.goes; brings = λ ok. none_brought p q k.fewer }
 
-backed_act : (p q : Contents) (act : AssociationAct) → Acted plain_meaning p act q → AreBacked plain_meaning p → AreBacked plain_meaning q
-backed_act p q act h backed = λ s g k. by s g (went.brings s g k)
+sound_before : (p q : Contents) → EndGoes p q → plain_sound q → plain_sound p
+sound_before p q goes ok = by p.inbox.ahead refl
+  where
+    by : (b : Bool) → p.inbox.ahead ≡ b → p.inbox.ahead ≡ false
+    by true e = absurd (true≢false (sym (goes.ahead e) ∙ ok))
+    by false e = e
+
+backed_act : (p q : Contents) (act : AssociationAct) → Acted plain_meaning p act q → AreBacked plain_meaning plain_sound p → AreBacked plain_meaning plain_sound q
+backed_act p q act h backed = λ ok s g k. by ok s g (went.brings ok s g k)
   where
     went : Went p q
     went = went_by p q act h
 
-    on : (s g : ℕ) → IsBackedBy plain_meaning p s g
+    on : (s g : ℕ) → IsBackedBy plain_meaning plain_sound p s g
         → RowStays (stream_of s p.streams) (stream_of s q.streams) ⊎ ((stream_of s p.streams).generation < (stream_of s q.streams).generation)
-        → IsBackedBy plain_meaning q s g
+        → IsBackedBy plain_meaning plain_sound q s g
     on s g (inl lt) (inl stays) =
         let same : (stream_of s q.streams).generation ≡ (stream_of s p.streams).generation = stays.generation_is in
         inl (omega (arith, lt, same))
@@ -261,12 +274,13 @@ backed_act p q act h backed = λ s g k. by s g (went.brings s g k)
     on s g (inr own) (inl stays) = inr (own.0 ∙ sym stays.generation_is, stays.there own.1)
     on s g (inr own) (inr up) = let same : g ≡ (stream_of s p.streams).generation = own.0 in inl (omega (arith, same, up))
 
-    by : (s g : ℕ) → (has_unread p s g ≡ true) ⊎ IsBackedBy plain_meaning q s g → IsBackedBy plain_meaning q s g
-    by s g (inl before) = on s g (backed s g before) (went.goes.rows.each s).goes
-    by s g (inr k) = k
+    by : plain_sound q → (s g : ℕ) → (has_unread p s g ≡ true) ⊎ IsBackedBy plain_meaning plain_sound q s g → IsBackedBy plain_meaning plain_sound q s g
+    by ok s g (inl before) = on s g (backed (sound_before p q went.goes ok) s g before) (went.goes.rows.each s).goes
+    by ok s g (inr k) = k
 
-pub plain_unread : UnreadLaws plain_meaning
+pub plain_unread : UnreadLaws plain_meaning plain_sound
 plain_unread = record {
+  before = λ a b act h ok. sound_before a b (Went.goes (went_by a b act h)) ok;
   backed = backed_act;
   fewer = λ a b act g h. (stays_act a b act g h).fewer;
 }

@@ -1,7 +1,7 @@
 -- What acts leave of the streams of the plain association that are in their first generation.
-use Rattle.std.proofs.Common.{◌≡◌, ◌∙◌, ◌⊎◌, ◌+◌, ◌≤◌, ◌++◌, ◌∷◌, ◌==◌, ◌&&◌, ◌||◌, inl, inr, not, nat_lt, cond, ℕ, Bool, true, false, true≢false, List, [], Option, Some, None, Result, refl, sym, ap, subst, arith}
+use Rattle.std.proofs.Common.{◌≡◌, ◌∙◌, ◌⊎◌, ◌+◌, ◌≤◌, ◌++◌, ◌∷◌, ◌==◌, ◌&&◌, ◌||◌, inl, inr, not, cond, ℕ, Bool, true, false, true≢false, List, [], Option, Some, None, Result, refl, sym, ap, subst, arith}
 use Rattle.std.specs.declared.alloc.AllocError.{AllocError}
-use Rattle.std.proofs.lemmas.Bool.{eqb-true, eqb-false, ne_eqb}
+use Rattle.std.proofs.lemmas.Bool.{eqb-true, eqb-false, ne_eqb, or_parts}
 use Rattle.rtc_part_association.specs.declared.assoc_event.AssocEvent.TheVariants.{Connected}
 use Rattle.rtc_assoc_packets.specs.declared.item.Item.{Item}
 use Rattle.rtc_assoc_packets.specs.declared.frame.Frame.{Frame}
@@ -11,7 +11,7 @@ use Rattle.rtc_assoc_state.specs.declared.close_state.CloseState.TheVariants.{Qu
 use Rattle.rtc_assoc_state.specs.declared.stream_row.StreamRow.{StreamRow}
 use Rattle.rtc_assoc_state.specs.Contents.{Contents, closed_here, generation_of, has_stream, is_ending, is_server}
 use Rattle.rtc_assoc_state.specs.Streams.{stream_of, put, is_closed_here}
-use Rattle.rtc_assoc_state.specs.Calls.{sent, greeted, welcomed, acknowledged, item_taken, is_ahead, item_came, answered, lost, framed, at_moment, half_taken}
+use Rattle.rtc_assoc_state.specs.Calls.{sent, greeted, welcomed, acknowledged, item_put, item_taken, is_ahead, item_came, answered, lost, framed, at_moment, half_taken}
 use Rattle.rtc_assoc_state.specs.PlainMeaning.{Gives}
 use Rattle.rtc_assoc_state.proofs.DoesLemmas.{gives}
 use Rattle.rtc_assoc_state.proofs.RaiseLemmas.{stream_of-put, stream_of-put_other, stream_of-stream}
@@ -26,35 +26,26 @@ use Rattle.rtc_assoc_state.specs.PlainMeaning.{plain_meaning, open_cause, write_
 use Rattle.rtc_assoc_state.proofs.DoesLemmas.{refused_changes_nothing, does_leaves, times, polls_some, transmits_some, reads_some}
 use Rattle.rtc_sctp_laws.proofs.KeptLists.{message_behind}
 use Rattle.rtc_sctp_laws.proofs.ThereStreams.{IsHeld, KeepingLaws, uses_stream}
+use Rattle.rtc_sctp_laws.specs.StreamUses.{is_spent_stream}
+use Rattle.rtc_sctp_laws.proofs.BackedRows.{plain_sound, plain_unread}
+use Rattle.rtc_sctp_laws.proofs.KnownStreams.{UnreadLaws}
 use Rattle.rtc_sctp_laws.proofs.HeldRows.{IsKept, IsKeptOpen, Beside, Comes, comes_beside, comes_none, comes_then, beside_same, beside_acknowledged, beside_front, there_put}
 use Rattle.rtc_sctp_laws.proofs.HeldItems.{comes_item}
 
-both_true : (a b : Bool) → (a && b) ≡ true → (a ≡ true) × (b ≡ true)
-both_true true true h = (refl, refl)
-both_true true false h = absurd (true≢false (sym h))
-both_true false b h = absurd (true≢false (sym h))
+not_ahead : (item : Item) (p : Contents) → is_ahead item p ≡ false → item.generation ≤ generation_of p item.stream
+not_ahead item p none = grind (arith, none)
 
-neither : (a b : Bool) → not (a || b) ≡ true → b ≡ false
-neither true b h = absurd (true≢false (sym h))
-neither false true h = absurd (true≢false (sym h))
-neither false false h = refl
+comes_if : (s : ℕ) (b : Bool) (now : ℕ) (item : Item) (p : Contents) → plain_sound (cond b (item_taken now item p) p) → Comes s p (cond b (item_taken now item p) p)
+comes_if s true now item p ok = comes_item item p (not_ahead item p (or_parts (item_put now item p).inbox.ahead (is_ahead item p) ok).1) s now
+comes_if s false now item p ok = comes_none s p
 
-not_ahead : (number : ℕ) (item : Item) (p : Contents) → ((number == p.inbox.received + 1) && not (is_ending p || is_ahead item p)) ≡ true
-    → item.generation ≤ generation_of p item.stream
-not_ahead number item p h =
-    let none : nat_lt (stream_of item.stream p.streams).generation item.generation ≡ false =
-    neither (is_ending p) (is_ahead item p) (both_true (number == p.inbox.received + 1) (not (is_ending p || is_ahead item p)) h).1 in
-    grind (arith, none)
-
-comes_if : (s : ℕ) (b : Bool) (now : ℕ) (item : Item) (p : Contents) → (b ≡ true → item.generation ≤ generation_of p item.stream)
-    → Comes s p (cond b (item_taken now item p) p)
-comes_if s true now item p le = comes_item item p (le refl) s now
-comes_if s false now item p le = comes_none s p
-
-comes_came : (s now number : ℕ) (item : Item) (p : Contents) → Comes s p (item_came now number item p)
+comes_came : (s now number : ℕ) (item : Item) (p : Contents) → plain_sound (item_came now number item p) → Comes s p (item_came now number item p)
 unfolding item_came
-comes_came s now number item p =
-    comes_if s ((number == p.inbox.received + 1) && not (is_ending p || is_ahead item p)) now item p (λ e. not_ahead number item p e)
+comes_came s now number item p ok = comes_if s ((number == p.inbox.received + 1) && not (is_ending p)) now item p ok
+
+sound_answered : (now : ℕ) (q : Contents) → plain_sound (at_moment now (answered q)) → plain_sound q
+unfolding answered at_moment
+sound_answered now q ok = ok
 
 -- ---- packets
 
@@ -82,16 +73,16 @@ comes_moment : (s now : ℕ) (p q : Contents) → Beside s p q → Comes s p (at
 unfolding at_moment
 comes_moment s now p q h = record { there = λ z t. inl (h.there t); kept = λ z k. inl (h.kept k) }
 
-comes_framed : (s now : ℕ) (f : Option Frame) (p : Contents) → Comes s p (at_moment now (framed now f p))
-comes_framed s now None p = comes_moment s now p p (beside_same s p p refl refl refl)
-comes_framed s now (Some Hello) p = comes_moment s now p (welcomed p) (beside_welcomed s p)
-comes_framed s now (Some Welcome) p = comes_moment s now p (greeted p) (beside_greeted s p)
-comes_framed s now (Some (Data n number item)) p =
+comes_framed : (s now : ℕ) (f : Option Frame) (p : Contents) → plain_sound (at_moment now (framed now f p)) → Comes s p (at_moment now (framed now f p))
+comes_framed s now None p ok = comes_moment s now p p (beside_same s p p refl refl refl)
+comes_framed s now (Some Hello) p ok = comes_moment s now p (welcomed p) (beside_welcomed s p)
+comes_framed s now (Some Welcome) p ok = comes_moment s now p (greeted p) (beside_greeted s p)
+comes_framed s now (Some (Data n number item)) p ok =
     comes_answered s now p (item_came now number item (acknowledged n (greeted p)))
     (comes_then s p (acknowledged n (greeted p)) (item_came now number item (acknowledged n (greeted p))) (beside_front s n p)
-    (comes_came s now number item (acknowledged n (greeted p))))
-comes_framed s now (Some (Acknowledgement n)) p = comes_moment s now p (acknowledged n p) (beside_acknowledged s n p)
-comes_framed s now (Some Shutdown) p = comes_moment s now p (lost p) (beside_lost s p)
+    (comes_came s now number item (acknowledged n (greeted p)) (sound_answered now (item_came now number item (acknowledged n (greeted p))) ok)))
+comes_framed s now (Some (Acknowledgement n)) p ok = comes_moment s now p (acknowledged n p) (beside_acknowledged s n p)
+comes_framed s now (Some Shutdown) p ok = comes_moment s now p (lost p) (beside_lost s p)
 
 comes_half : (s : ℕ) (f : Option Frame) (p : Contents) → Comes s p (half_taken f p)
 comes_half s None p = comes_none s p
@@ -101,9 +92,9 @@ comes_half s (Some (Data n number item)) p = comes_beside s p (acknowledged n (g
 comes_half s (Some (Acknowledgement n)) p = comes_none s p
 comes_half s (Some Shutdown) p = comes_none s p
 
-pub comes_given : (s : ℕ) (p q : Contents) (now : ℕ) (bytes : List ℕ) (r : Result (Unit {0}) AllocError) → Gives p now bytes r q → Comes s p q
+pub comes_given : (s : ℕ) (p q : Contents) (now : ℕ) (bytes : List ℕ) (r : Result (Unit {0}) AllocError) → Gives p now bytes r q → plain_sound q → Comes s p q
 comes_given s p q now bytes r h =
-    gives (Comes s p) p q now bytes r (comes_none s p) (comes_half s (frame_in bytes) p) (comes_framed s now (frame_in bytes) p) h
+    gives (λ x. plain_sound x → Comes s p x) p q now bytes r (λ ok. comes_none s p) (λ ok. comes_half s (frame_in bytes) p) (λ ok. comes_framed s now (frame_in bytes) p ok) h
 
 -- ---- calls
 
@@ -211,39 +202,58 @@ comes_stirs s p q (ThresholdSet id n r h) =
     does_leaves (Comes s p) (stream_cause p id) p (thresholded id n p) q r (comes_none s p) (comes_beside s p (thresholded id n p) (beside_thresholded s id n p)) h
 comes_stirs s p q (ReliabilitySet id u t n r h) = does_leaves (Comes s p) (stream_cause p id) p p q r (comes_none s p) (comes_none s p) h
 
-comes_act : (s : ℕ) (p q : Contents) (act : AssociationAct) → Acted plain_meaning p act q → uses_stream s act ≡ false → Comes s p q
-comes_act s p q Started h none = comes_started s p q h.1
-comes_act s p q (Opened t n) h none = comes_at s p q (opened t p) h.0.1 (beside_opened s t p (eqb-false t s none))
-comes_act s p q (Wrote t n i b) h none =
+comes_act : (s : ℕ) (p q : Contents) (act : AssociationAct) → Acted plain_meaning p act q → uses_stream s act ≡ false → plain_sound q → Comes s p q
+comes_act s p q Started h none ok = comes_started s p q h.1
+comes_act s p q (Opened t n) h none ok = comes_at s p q (opened t p) h.0.1 (beside_opened s t p (eqb-false t s none))
+comes_act s p q (Wrote t n i b) h none ok =
     comes_at s p q (message_written t (ppi_number h.0) b p) h.1.1.0.1.1.0 (beside_written s t (ppi_number h.0) b p)
-comes_act s p q (Ended t n) h none =
+comes_act s p q (Ended t n) h none ok =
     subst (Comes s p) (sym h.0.1.0) (comes_ended s p.clock.now t p)
-comes_act s p q (Given b) h none = comes_given s p q h.0 b h.1.0 h.1.1
-comes_act s p q (Taken b) h none =
+comes_act s p q (Given b) h none ok = comes_given s p q h.0 b h.1.0 h.1.1 ok
+comes_act s p q (Taken b) h none ok =
     let w = transmits_some p.packets p q b h in comes_at s p q (packet_given w.0.rest p) w.1.1 (beside_same s p (packet_given w.0.rest p) refl refl refl)
-comes_act s p q (Read t n i b) h none =
+comes_act s p q (Read t n i b) h none ok =
     let w = reads_some (next_message t p) t p q (h.0, b) h.1.0.1 in comes_at s p q (taken_out t p) w.1.2 (beside_taken_out s t p (eqb-false t s none))
-comes_act s p q (ToldEvent e) h none =
+comes_act s p q (ToldEvent e) h none ok =
     let w = polls_some p.events p q e h in comes_at s p q (event_given w.0.rest p) w.1 (beside_same s p (event_given w.0.rest p) refl refl refl)
-comes_act s p q (Stirred (Timed now)) h none =
+comes_act s p q (Stirred (Timed now)) h none ok =
     times (Comes s p) p q now h.0 (comes_none s p) (comes_beside s p (timed now p) (beside_timed s now p)) h.1
-comes_act s p q (Stirred ShutDown) h none =
+comes_act s p q (Stirred ShutDown) h none ok =
     does_leaves (Comes s p) (ending_cause p) p (shut_down p) q h.0 (comes_none s p) (comes_beside s p (shut_down p) (beside_shut_down s p)) h.1
-comes_act s p q (Stirred Other) h none = comes_stirs s p q h
+comes_act s p q (Stirred Other) h none ok = comes_stirs s p q h
 
 or_left : (a b : Bool) → a ≡ true → (a || b) ≡ true
 or_left a b e = rw e refl
 
-held_open : (p : Contents) (s : ℕ) → IsKeptOpen p s → IsHeld plain_meaning IsKept s p
-held_open p s (inl k) = inl k
-held_open p s (inr closed) = inr (or_left (closed_here p s) (is_closing p || is_closed p) closed)
+-- kept, where no item of a generation to come was taken
+abbrev pub IsKeptIf : Contents → ℕ → Type 0
+IsKeptIf p s = plain_sound p → IsKept p s
 
-rises_open : (p q : Contents) (s : ℕ) → (has_stream p s ≡ true) ⊎ IsKeptOpen q s → (has_stream p s ≡ true) ⊎ IsHeld plain_meaning IsKept s q
-rises_open p q s (inl t) = inl t
-rises_open p q s (inr k) = inr (held_open q s k)
+spent_open : (p : Contents) (s : ℕ) → is_spent_stream plain_meaning s p ≡ false → IsKeptOpen p s → IsKept p s
+spent_open p s unspent (inl k) = k
+spent_open p s unspent (inr closed) = absurd (true≢false (sym (or_left (closed_here p s) (is_closing p || is_closed p) closed) ∙ unspent))
 
-pub plain_keeping : KeepingLaws plain_meaning IsKept
+rises_open : (p q : Contents) (s : ℕ) → (plain_sound q → (has_stream p s ≡ true) ⊎ IsKeptOpen q s) → (has_stream p s ≡ true) ⊎ IsHeld plain_meaning IsKeptIf s q
+rises_open p q s come = by (has_stream p s) (is_spent_stream plain_meaning s q) refl refl
+  where
+    of_come : has_stream p s ≡ false → is_spent_stream plain_meaning s q ≡ false → (has_stream p s ≡ true) ⊎ IsKeptOpen q s → IsKept q s
+    of_come absent unspent (inl there) = absurd (true≢false (sym there ∙ absent))
+    of_come absent unspent (inr k) = spent_open q s unspent k
+
+    by : (there spent : Bool) → has_stream p s ≡ there → is_spent_stream plain_meaning s q ≡ spent → (has_stream p s ≡ true) ⊎ IsHeld plain_meaning IsKeptIf s q
+    by true spent e f = inl e
+    by false true e f = inr (inr f)
+    by false false e f = inr (inl (λ ok. of_come e f (come ok)))
+
+stays_open : (q : Contents) (s : ℕ) → (plain_sound q → IsKeptOpen q s) → IsHeld plain_meaning IsKeptIf s q
+stays_open q s come = by (is_spent_stream plain_meaning s q) refl
+  where
+    by : (spent : Bool) → is_spent_stream plain_meaning s q ≡ spent → IsHeld plain_meaning IsKeptIf s q
+    by true f = inr f
+    by false f = inl (λ ok. spent_open q s f (come ok))
+
+pub plain_keeping : KeepingLaws plain_meaning IsKeptIf
 plain_keeping = record {
-  rises = λ a b act s h none z t. rises_open a b s ((comes_act s a b act h none).there z t);
-  stays = λ a b act s h none z k. held_open b s ((comes_act s a b act h none).kept z k);
+  rises = λ a b act s h none z t. rises_open a b s (λ ok. (comes_act s a b act h none ok).there z t);
+  stays = λ a b act s h none z k. stays_open b s (λ ok. (comes_act s a b act h none ok).kept z (k (UnreadLaws.before plain_unread a b act h ok)));
 }

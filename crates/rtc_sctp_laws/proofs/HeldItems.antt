@@ -11,7 +11,7 @@ use Rattle.rtc_assoc_state.specs.Contents.{Contents, generation_of}
 use Rattle.rtc_assoc_state.specs.Streams.{stream_of, put, reset_row, takes_messages, is_closed_here, is_unclosed}
 use Rattle.rtc_assoc_state.specs.Inbox.{bytes_so_far, message_of}
 use Rattle.rtc_assoc_state.specs.Settling.{can_reset}
-use Rattle.rtc_assoc_state.specs.Calls.{sent, item_counted, more_kept, last_kept, piece_kept, finished, reset_told, close_came_at, part_came, item_taken}
+use Rattle.rtc_assoc_state.specs.Calls.{sent, item_counted, more_kept, last_kept, piece_kept, finished, reset_told, close_came_at, part_came, item_put, item_taken}
 use Rattle.rtc_assoc_state.proofs.RaiseLemmas.{stream_of-put, stream_of-put_other, stream_of-stream}
 use Rattle.rtc_sctp_laws.proofs.KeptLists.{HasMessage, HasPart, bytes_keeps, bytes_own, message_beside, message_keeps, message_own, part_beside}
 use Rattle.rtc_sctp_laws.proofs.HeldRows.{IsKept, IsKeptOpen, Beside, Comes, comes_beside, comes_held}
@@ -139,7 +139,7 @@ module _ (item : Item) (p : Contents) (within : item.generation ≤ generation_o
   held_part More now is z = held_piece (takes_messages row item.generation) item.part (λ e. no_more (sym is ∙ e)) refl z
   held_part Last now is z = held_piece (takes_messages row item.generation) item.part (λ e. no_last (sym is ∙ e)) refl z
 
-  held_item : (now : ℕ) → generation_of (item_taken now item p) item.stream ≡ 0 → IsKeptOpen (item_taken now item p) item.stream
+  held_item : (now : ℕ) → generation_of (item_put now item p) item.stream ≡ 0 → IsKeptOpen (item_put now item p) item.stream
   held_item now z = held_part item.part now refl z
 
   -- of another stream
@@ -221,11 +221,14 @@ module _ (item : Item) (p : Contents) (within : item.generation ≤ generation_o
     beside_part More now = beside_piece (takes_messages row item.generation)
     beside_part Last now = beside_piece (takes_messages row item.generation)
 
-  pub comes_item : (s now : ℕ) → Comes s p (item_taken now item p)
-  comes_item s now = by (item.stream == s) refl
+  comes_put : (s now : ℕ) → Comes s p (item_put now item p)
+  comes_put s now = by (item.stream == s) refl
     where
-      by : (b : Bool) → (item.stream == s) ≡ b → Comes s p (item_taken now item p)
+      by : (b : Bool) → (item.stream == s) ≡ b → Comes s p (item_put now item p)
       by true e =
-          subst (λ (n : ℕ). Comes n p (item_taken now item p)) (eqb-true item.stream s e)
-          (comes_held item.stream p (item_taken now item p) (λ z. held_item now z))
-      by false e = comes_beside s p (item_taken now item p) (beside_part s (eqb-false item.stream s e) item.part now)
+          subst (λ (n : ℕ). Comes n p (item_put now item p)) (eqb-true item.stream s e)
+          (comes_held item.stream p (item_put now item p) (λ z. held_item now z))
+      by false e = comes_beside s p (item_put now item p) (beside_part s (eqb-false item.stream s e) item.part now)
+
+  pub comes_item : (s now : ℕ) → Comes s p (item_taken now item p)
+  comes_item s now = let h = comes_put s now in record { there = h.there; kept = h.kept }

@@ -99,36 +99,36 @@ module _ {S : Type 0} (m : AssociationMeaning S) where
     ap (λ (y : SctpStreams S). y.state) h.1,
   )
 
-  module _ (w : AssociationLaws m) (v : GenerationLaws m) (u : UnreadLaws m) where
+  module _ (sound : S → Type 0) (w : AssociationLaws m) (v : GenerationLaws m) (u : UnreadLaws m sound) where
     -- ---- calls
 
-    call_known : (p q : SctpStreams S) → CallDid m [] [] p q → Has p.entries q.entries → q.state ≡ p.state → AreKnown m p → AreKnown m q
-    call_known p q d has state k = quiet_known m w v u p q (quiet_by m w v u [] p q d.did has (λ e. ap is_established (sym state) ∙ e)) k
+    call_known : (p q : SctpStreams S) → CallDid m [] [] p q → Has p.entries q.entries → q.state ≡ p.state → AreKnown m sound p → AreKnown m sound q
+    call_known p q d has state k = quiet_known m sound w v u p q (quiet_by m sound w v u [] p q d.did has (λ e. ap is_established (sym state) ∙ e)) k
 
     pub timeout_known : (now : ℕ) (p : SctpStreams S) (wake : Signals) (r : Result (Unit {0}) AllocError) (q : SctpStreams S) (wake' : Signals)
-        → TakesTimeout m now p wake r q wake' → AreKnown m p → AreKnown m q
+        → TakesTimeout m now p wake r q wake' → AreKnown m sound p → AreKnown m sound q
     timeout_known now p wake r q wake' h k =
         let at = timed_at p.state now p wake r q wake' h in
         call_known p q (timeout_did m now p wake r q wake' h) at.0 at.1 k
 
     pub opens_known : (id : ℕ) (config : ChannelConfig) (p : SctpStreams S) (r : Result (Unit {0}) AllocError) (q : SctpStreams S)
-        → OpensStream m id config p r q → AreKnown m p → AreKnown m q
+        → OpensStream m id config p r q → AreKnown m sound p → AreKnown m sound q
     opens_known id config p r q h k =
         call_known p q (opens_did m id config p r q h)
         (opens_at (entry_place id p.entries) id config p.association p.entries r q.association q.entries h.0) (ap (λ (y : SctpStreams S). y.state) h.1) k
 
-    pub closes_known : (id : ℕ) (p : SctpStreams S) (r : Result (Unit {0}) AllocError) (q : SctpStreams S) → ClosesDataStream m id p r q → AreKnown m p
-        → AreKnown m q
+    pub closes_known : (id : ℕ) (p : SctpStreams S) (r : Result (Unit {0}) AllocError) (q : SctpStreams S) → ClosesDataStream m id p r q → AreKnown m sound p
+        → AreKnown m sound q
     closes_known id p r q h k =
         call_known p q (closes_did m id p r q h)
         (closes_at (entry_place id p.entries) id p.association p.entries p.resets r q.association q.entries q.resets h.0)
         (ap (λ (y : SctpStreams S). y.state) h.1) k
 
-    pub threshold_known : (n : ℕ) (place : Option ℕ) (p q : SctpStreams S) → SetsThreshold S n place p q → AreKnown m p → AreKnown m q
-    threshold_known n None p q h k = subst (λ (x : SctpStreams S). AreKnown m x) (sym h) k
+    pub threshold_known : (n : ℕ) (place : Option ℕ) (p q : SctpStreams S) → SetsThreshold S n place p q → AreKnown m sound p → AreKnown m sound q
+    threshold_known n None p q h k = subst (λ (x : SctpStreams S). AreKnown m sound x) (sym h) k
     threshold_known n (Some place) p q h k =
-        quiet_known m w v u p q
-        (quiet_by m w v u [] p q (did_same m p.association q.association (ap (λ (y : SctpStreams S). y.association) h.2))
+        quiet_known m sound w v u p q
+        (quiet_by m sound w v u [] p q (did_same m p.association q.association (ap (λ (y : SctpStreams S). y.association) h.2))
         (λ s x.
         has_is s (slice_set p.entries place (record h.0 { threshold = threshold_set n h.0.threshold })) q.entries
         (ap (λ (y : SctpStreams S). y.entries) h.2)
@@ -138,12 +138,12 @@ module _ {S : Type 0} (m : AssociationMeaning S) where
 
     -- acts that told nothing, over the same entries
     pub acts_known : (acts : List AssociationAct) (p q : SctpStreams S) → Moved m p.association acts q.association → told acts ≡ [] → q.entries ≡ p.entries
-        → (is_established q.state ≡ true → (is_established p.state ≡ true) ⊎ (m.started q.association ≡ true)) → AreKnown m p → AreKnown m q
+        → (is_established q.state ≡ true → (is_established p.state ≡ true) ⊎ (m.started q.association ≡ true)) → AreKnown m sound p → AreKnown m sound q
     acts_known acts p q went untold entries lasts k = record {
-      backed = moved_backed m w v u acts p.association q.association went k.backed;
+      backed = moved_backed m sound w v u acts p.association q.association went k.backed;
       known = λ s.
-          subst (λ (l : List StreamEntry). IsKnown m s q.association l) (sym entries)
-          (known_acts m w v u acts p.association q.association p.entries s untold went k.backed (k.known s));
+          subst (λ (l : List StreamEntry). IsKnown m sound s q.association l) (sym entries)
+          (known_acts m sound w v u acts p.association q.association p.entries s untold went k.backed (k.known s));
       begun = λ e. by (lasts e);
     }
       where

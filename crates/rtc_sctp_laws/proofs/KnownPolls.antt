@@ -25,25 +25,25 @@ use Rattle.rtc_sctp_laws.proofs.VisitActs.{visit_did}
 use Rattle.rtc_sctp_laws.specs.GenerationLaws.{GenerationLaws}
 use Rattle.rtc_sctp_laws.specs.StreamUses.{is_spent_stream}
 use Rattle.rtc_sctp_laws.proofs.KeptUses.{acts_keep, spent_kept}
-use Rattle.rtc_sctp_laws.proofs.KnownStreams.{AreBacked, AreKnown, HasEntry, IsKnown, IsSilent, NoneClosed, UnreadLaws, known_quiet, moved_backed, silent_on, unread_before}
+use Rattle.rtc_sctp_laws.proofs.KnownStreams.{AreBacked, AreKnown, HasEntry, IsKnown, IsSilent, NoneClosed, UnreadLaws, known_quiet, moved_backed, moved_before, silent_on, unread_before}
 use Rattle.rtc_sctp_laws.proofs.KnownEntries.{has_after, expected_own, has_is, has_unclosed, none_unclosed}
 use Rattle.rtc_sctp_laws.proofs.KnownVisits.{visit_left}
 
-module _ {S : Type 0} (m : AssociationMeaning S) (w : AssociationLaws m) (v : GenerationLaws m) (u : UnreadLaws m) where
+module _ {S : Type 0} (m : AssociationMeaning S) (sound : S → Type 0) (w : AssociationLaws m) (v : GenerationLaws m) (u : UnreadLaws m sound) where
   -- what gave no packet and told nothing, and what became of the entries
   pub record QuietGoes (p q : SctpStreams S) : Type 0 where
     pub acts : List AssociationAct
     pub went : Moved m p.association acts q.association
     pub given_is : given acts ≡ []
     pub told_is : told acts ≡ []
-    pub entries : (s : ℕ) → HasEntry s p.entries → HasEntry s q.entries ⊎ IsSilent m s q.association
+    pub entries : (s : ℕ) → HasEntry s p.entries → HasEntry s q.entries ⊎ IsSilent m sound s q.association
     pub lasts : is_established q.state ≡ true → (is_established p.state ≡ true) ⊎ (m.started q.association ≡ true)
 
-  pub quiet_known : (p q : SctpStreams S) → QuietGoes p q → AreKnown m p → AreKnown m q
+  pub quiet_known : (p q : SctpStreams S) → QuietGoes p q → AreKnown m sound p → AreKnown m sound q
   quiet_known p q h k = record {
-    backed = moved_backed m w v u h.acts p.association q.association h.went k.backed;
+    backed = moved_backed m sound w v u h.acts p.association q.association h.went k.backed;
     known = λ s.
-        known_quiet m w v u h.acts p.association q.association p.entries q.entries s h.given_is h.told_is h.went (h.entries s) (k.known s);
+        known_quiet m sound w v u h.acts p.association q.association p.entries q.entries s h.given_is h.told_is h.went (h.entries s) (k.known s);
     begun = λ e. by (h.lasts e);
   }
     where
@@ -107,25 +107,25 @@ module _ {S : Type 0} (m : AssociationMeaning S) (w : AssociationLaws m) (v : Ge
 
   -- visits
   abbrev Tour : List StreamEntry → S → List StreamEntry → Type 0
-  Tour es a es' = (s : ℕ) → HasEntry s es → HasEntry s es' ⊎ IsSilent m s a
+  Tour es a es' = (s : ℕ) → HasEntry s es → HasEntry s es' ⊎ IsSilent m sound s a
 
-  visited_first : (s : ℕ) (e e' : StreamEntry) (a : S) (es : List StreamEntry) → (e'.id ≡ s) × ((is_closed_state e'.state ≡ false) ⊎ IsSilent m s a)
-      → HasEntry s (e' ∷ es) ⊎ IsSilent m s a
+  visited_first : (s : ℕ) (e e' : StreamEntry) (a : S) (es : List StreamEntry) → (e'.id ≡ s) × ((is_closed_state e'.state ≡ false) ⊎ IsSilent m sound s a)
+      → HasEntry s (e' ∷ es) ⊎ IsSilent m sound s a
   visited_first s e e' a es (id, inl free) = inl (inl (id, free))
   visited_first s e e' a es (id, inr silent) = inr silent
 
-  silent_by : (s : ℕ) (a b : S) (met : Met) → VisitDid m a met b → IsSilent m s a → IsSilent m s b
-  silent_by s a b met d h = silent_on m w v u d.did.acts a b s d.did.given_is d.did.went h
+  silent_by : (s : ℕ) (a b : S) (met : Met) → VisitDid m a met b → IsSilent m sound s a → IsSilent m sound s b
+  silent_by s a b met d h = silent_on m sound w v u d.did.acts a b s d.did.given_is d.did.went h
 
-  backed_by : (a b : S) (met : Met) → VisitDid m a met b → AreBacked m a → AreBacked m b
-  backed_by a b met d h = moved_backed m w v u d.did.acts a b d.did.went h
+  backed_by : (a b : S) (met : Met) → VisitDid m a met b → AreBacked m sound a → AreBacked m sound b
+  backed_by a b met d h = moved_backed m sound w v u d.did.acts a b d.did.went h
 
   -- the first gives something
-  stopped : (now : ℕ) (e : StreamEntry) (es : List StreamEntry) (a : S) (rs : List ℕ) (own : Met) (b : Turn S) → AreBacked m a
+  stopped : (now : ℕ) (e : StreamEntry) (es : List StreamEntry) (a : S) (rs : List ℕ) (own : Met) (b : Turn S) → AreBacked m sound a
       → Visits m now (turn a e rs) own b → Tour (e ∷ es) b.association (b.entry ∷ es)
   stopped now e es a rs own b k h s (inl here) =
       visited_first s e b.entry b.association es
-      (visit_left m w v u s now (turn a e rs) own b h (record { id_is = here.0; unclosed = here.1; backed = k }))
+      (visit_left m sound w v u s now (turn a e rs) own b h (record { id_is = here.0; unclosed = here.1; backed = k }))
   stopped now e es a rs own b k h s (inr later) = inl (inr later)
 
   tour_is : (es : List StreamEntry) (a a' : S) (fs es' : List StreamEntry) → a' ≡ a → es' ≡ fs → Tour es a fs → Tour es a' es'
@@ -133,20 +133,20 @@ module _ {S : Type 0} (m : AssociationMeaning S) (w : AssociationLaws m) (v : Ge
 
   -- it gives nothing, and the others are visited
   went_on : (now : ℕ) (e : StreamEntry) (es : List StreamEntry) (a : S) (rs : List ℕ) (own : Met) (b : Turn S) (met : Met) (a' : S)
-      (tail : List StreamEntry) → AreBacked m a → Visits m now (turn a e rs) own b → VisitDid m b.association met a' → Tour es a' tail
+      (tail : List StreamEntry) → AreBacked m sound a → Visits m now (turn a e rs) own b → VisitDid m b.association met a' → Tour es a' tail
       → Tour (e ∷ es) a' (b.entry ∷ tail)
   went_on now e es a rs own b met a' tail k h d rest = by
     where
-      first : (s : ℕ) → HasEntry s (b.entry ∷ es) ⊎ IsSilent m s b.association → HasEntry s es ⊎ (IsSilent m s a' ⊎ HasEntry s (b.entry ∷ tail))
+      first : (s : ℕ) → HasEntry s (b.entry ∷ es) ⊎ IsSilent m sound s b.association → HasEntry s es ⊎ (IsSilent m sound s a' ⊎ HasEntry s (b.entry ∷ tail))
       first s (inl (inl here)) = inr (inr (inl here))
       first s (inl (inr later)) = inl later
       first s (inr silent) = inr (inl (silent_by s b.association a' met d silent))
 
-      later : (s : ℕ) → HasEntry s tail ⊎ IsSilent m s a' → HasEntry s (b.entry ∷ tail) ⊎ IsSilent m s a'
+      later : (s : ℕ) → HasEntry s tail ⊎ IsSilent m sound s a' → HasEntry s (b.entry ∷ tail) ⊎ IsSilent m sound s a'
       later s (inl x) = inl (inr x)
       later s (inr x) = inr x
 
-      join : (s : ℕ) → HasEntry s es ⊎ (IsSilent m s a' ⊎ HasEntry s (b.entry ∷ tail)) → HasEntry s (b.entry ∷ tail) ⊎ IsSilent m s a'
+      join : (s : ℕ) → HasEntry s es ⊎ (IsSilent m sound s a' ⊎ HasEntry s (b.entry ∷ tail)) → HasEntry s (b.entry ∷ tail) ⊎ IsSilent m sound s a'
       join s (inl x) = later s (rest s x)
       join s (inr (inl x)) = inr x
       join s (inr (inr x)) = inl x
@@ -155,9 +155,9 @@ module _ {S : Type 0} (m : AssociationMeaning S) (w : AssociationLaws m) (v : Ge
       by s x = join s (first s (stopped now e es a rs own b k h s x))
 
   then_goes : (now : ℕ) (es : List StreamEntry)
-      → ((a : S) (rs : List ℕ) (met : Met) (a' : S) (rs' : List ℕ) (es' : List StreamEntry) → AreBacked m a
+      → ((a : S) (rs : List ℕ) (met : Met) (a' : S) (rs' : List ℕ) (es' : List StreamEntry) → AreBacked m sound a
       → VisitsAll m now es a rs met a' rs' es' → Tour es a' es')
-      → (own : Met) (e : StreamEntry) (a : S) (rs : List ℕ) (b : Turn S) (met : Met) (a' : S) (rs' : List ℕ) (es' : List StreamEntry) → AreBacked m a
+      → (own : Met) (e : StreamEntry) (a : S) (rs : List ℕ) (b : Turn S) (met : Met) (a' : S) (rs' : List ℕ) (es' : List StreamEntry) → AreBacked m sound a
       → Visits m now (turn a e rs) own b → VisitedThen m (VisitsAll m now es) own es b met a' rs' es' → Tour (e ∷ es) a' es'
   then_goes now es rest Nothing e a rs b met a' rs' es' k h t =
       let d = tour_did m w now es b.association b.resets met a' rs' t.0 t.1 in
@@ -171,12 +171,12 @@ module _ {S : Type 0} (m : AssociationMeaning S) (w : AssociationLaws m) (v : Ge
   then_goes now es rest OutOfMemory e a rs b met a' rs' es' k h t =
       tour_is (e ∷ es) b.association a' (b.entry ∷ es) es' t.1 t.3 (stopped now e es a rs OutOfMemory b k h)
 
-  tour_goes : (now : ℕ) (es : List StreamEntry) (a : S) (rs : List ℕ) (met : Met) (a' : S) (rs' : List ℕ) (es' : List StreamEntry) → AreBacked m a
+  tour_goes : (now : ℕ) (es : List StreamEntry) (a : S) (rs : List ℕ) (met : Met) (a' : S) (rs' : List ℕ) (es' : List StreamEntry) → AreBacked m sound a
       → VisitsAll m now es a rs met a' rs' es' → Tour es a' es'
   tour_goes now [] a rs met a' rs' es' k h = λ s x. absurd x
   tour_goes now (e ∷ es) a rs met a' rs' es' k h = then_goes now es (tour_goes now es) h.0 e a rs h.1 met a' rs' es' k h.2 h.3
 
-  visits_if : (b : Bool) (p : SctpStreams S) (met : Met) (q : SctpStreams S) → VisitsIf m b p met q → AreKnown m p → AreKnown m q
+  visits_if : (b : Bool) (p : SctpStreams S) (met : Met) (q : SctpStreams S) → VisitsIf m b p met q → AreKnown m sound p → AreKnown m sound q
   visits_if false p met q h k = quiet_known p q (quiet_still p p q h.1 refl refl refl) k
   visits_if true p met q h k =
       let d = tour_did m w p.last p.entries p.association p.resets met q.association q.resets q.entries h.0 in
@@ -202,9 +202,9 @@ module _ {S : Type 0} (m : AssociationMeaning S) (w : AssociationLaws m) (v : Ge
   event_state (assoc.BufferedAmountLow id) b b' h = inr (ap (λ (x : Book). x.state) h)
 
   taken_known : (e : AssocEvent) (p q : SctpStreams S) → NoneClosed p.entries → m.started p.association ≡ true
-      → m.polled p.association (Some e) q.association → AfterEvent e (book_of p) (book_of q) → AreKnown m p → AreKnown m q
+      → m.polled p.association (Some e) q.association → AfterEvent e (book_of p) (book_of q) → AreKnown m sound p → AreKnown m sound q
   taken_known e p q free begun h after k =
-      record { backed = moved_backed m w v u d.acts a b d.went k.backed; known = known; begun = λ x. started_moved m w d.acts a b begun d.went }
+      record { backed = moved_backed m sound w v u d.acts a b d.went k.backed; known = known; begun = λ x. started_moved m w d.acts a b begun d.went }
     where
       a : S
       a = p.association
@@ -230,8 +230,8 @@ module _ {S : Type 0} (m : AssociationMeaning S) (w : AssociationLaws m) (v : Ge
       by s (inr (inl due)) = of_due s (subst (λ (l : List AssocEvent). Member (assoc.Readable s) l) (w.poll_head a b e h) due)
       by s (inr (inr spent)) = inr (inr (spent_kept m s a b (acts_keep m v s d.acts a b d.given_is d.went) spent))
 
-      known : (s : ℕ) → IsKnown m s b q.entries
-      known s stands = by s (k.known s (unread_before m w v u d.acts a b s d.given_is d.went stands))
+      known : (s : ℕ) → IsKnown m sound s b q.entries
+      known s ok stands = by s (k.known s (moved_before m sound w v u d.acts a b d.went ok) (unread_before m sound w v u d.acts a b s d.given_is d.went stands))
 
   same_book : (p q : SctpStreams S) → q.association ≡ p.association → book_of q ≡ book_of p → QuietGoes p q
   same_book p q same is =
@@ -240,7 +240,7 @@ module _ {S : Type 0} (m : AssociationMeaning S) (w : AssociationLaws m) (v : Ge
       (λ e. ap is_established (sym (ap (λ (x : Book). x.state) is)) ∙ e)
 
   event_known : (p : SctpStreams S) (met : Met) (q : SctpStreams S) → TakesEvent m p.association (book_of p) met q.association (book_of q)
-      → (NoneClosed p.entries) × AreKnown m p → AreKnown m q
+      → (NoneClosed p.entries) × AreKnown m sound p → AreKnown m sound q
   event_known p met q (NotStarted s e a b) k = quiet_known p q (same_book p q a b) k.1
   event_known p met q (NoRoom e a b) k = quiet_known p q (same_book p q a b) k.1
   event_known p met q (NoEvent begun h e b) k = quiet_known p q (same_book p q (w.event_none p.association q.association h) b) k.1
@@ -264,7 +264,7 @@ module _ {S : Type 0} (m : AssociationMeaning S) (w : AssociationLaws m) (v : Ge
       then_step OutOfMemory between d t = at between d t.1
 
   abbrev IsDropped : SctpStreams S → Type 0
-  IsDropped p = NoneClosed p.entries × AreKnown m p
+  IsDropped p = NoneClosed p.entries × AreKnown m sound p
 
   -- packets leave the entries
   packet_kept : (b : Bool) (p : SctpStreams S) (met : Met) (q : SctpStreams S) → TransmitIf m b p met q → q.entries ≡ p.entries
@@ -281,20 +281,20 @@ module _ {S : Type 0} (m : AssociationMeaning S) (w : AssociationLaws m) (v : Ge
     quiet_known p q (transmit_of p.pushed p met q h) k.1,
   )
 
-  pass_known : (p : SctpStreams S) (met : Met) (q : SctpStreams S) → MakesPass m p met q → AreKnown m p → AreKnown m q
+  pass_known : (p : SctpStreams S) (met : Met) (q : SctpStreams S) → MakesPass m p met q → AreKnown m sound p → AreKnown m sound q
   unfolding MakesPass
   pass_known p met q h k =
-      else_by IsDropped IsDropped (AreKnown m) _ _ (λ q d. d.1) transmit_dropped
-      (else_by IsDropped (AreKnown m) (AreKnown m) _ _ (λ q d. d) (λ p met q t d. event_known p met q t.0 d)
-      (else_by (AreKnown m) (AreKnown m) (AreKnown m) _ _ (λ q d. d)
+      else_by IsDropped IsDropped (AreKnown m sound) _ _ (λ q d. d.1) transmit_dropped
+      (else_by IsDropped (AreKnown m sound) (AreKnown m sound) _ _ (λ q d. d) (λ p met q t d. event_known p met q t.0 d)
+      (else_by (AreKnown m sound) (AreKnown m sound) (AreKnown m sound) _ _ (λ q d. d)
       (λ p met q t d. visits_if (is_established p.state && m.started p.association) p met q t d)
       (λ p met q t d. quiet_known p q (completion_of p.completed p met q t) d)))
       (unclosed_streams p) met q h
       (none_unclosed p.entries, quiet_known p (unclosed_streams p) (dropped p) k)
 
-  over_known : (n : ℕ) (p q : SctpStreams S) → Over m n p q → AreKnown m p → AreKnown m q
-  over_known zero p q h k = subst (λ (x : SctpStreams S). AreKnown m x) (sym h) k
+  over_known : (n : ℕ) (p q : SctpStreams S) → Over m n p q → AreKnown m sound p → AreKnown m sound q
+  over_known zero p q h k = subst (λ (x : SctpStreams S). AreKnown m sound x) (sym h) k
   over_known (suc n) p q h k = pass_known h.0 Again q h.2 (over_known n p h.0 h.1 k)
 
-  pub poll_known : (p : SctpStreams S) (r : Result (Option SctpEvent) AllocError) (q : SctpStreams S) → PollsStreams m p r q → AreKnown m p → AreKnown m q
+  pub poll_known : (p : SctpStreams S) (r : Result (Option SctpEvent) AllocError) (q : SctpStreams S) → PollsStreams m p r q → AreKnown m sound p → AreKnown m sound q
   poll_known p r q h k = pass_known h.between h.met q h.last (over_known h.passes p h.between h.over k)

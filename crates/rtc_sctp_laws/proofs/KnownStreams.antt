@@ -37,17 +37,18 @@ untold_parts : (act : AssociationAct) (acts : List AssociationAct) → told (act
 untold_parts (Told e) acts h = absurd (no_told e (told acts) h)
 untold_parts act acts h = (refl, h)
 
-module _ {S : Type 0} (m : AssociationMeaning S) where
+module _ {S : Type 0} (m : AssociationMeaning S) (sound : S → Type 0) where
   -- a generation that the stream had, or that it has while it is there
   abbrev pub IsBackedBy : S → (stream generation : ℕ) → Type 0
   IsBackedBy a s g = (g < m.generation a s) ⊎ ((g ≡ m.generation a s) × (m.has_stream a s ≡ true))
 
   -- of such generations alone whole messages stand unread
   abbrev pub AreBacked : S → Type 0
-  AreBacked a = (s g : ℕ) → m.has_unread a s g ≡ true → IsBackedBy a s g
+  AreBacked a = sound a → (s g : ℕ) → m.has_unread a s g ≡ true → IsBackedBy a s g
 
   -- What holds of associations whose messages come with the items of their streams.
   pub record UnreadLaws : Type 0 where
+    pub before : (a b : S) (act : AssociationAct) → Acted m a act b → sound b → sound a
     pub backed : (a b : S) (act : AssociationAct) → Acted m a act b → AreBacked a → AreBacked b
     pub fewer : (a b : S) (act : AssociationAct) → gives_packet act ≡ false → Acted m a act b → (s g : ℕ) → m.has_unread b s g ≡ true
         → m.has_unread a s g ≡ true
@@ -56,7 +57,7 @@ module _ {S : Type 0} (m : AssociationMeaning S) where
   -- the generation any more.
   abbrev pub IsKnown : ℕ → S → List StreamEntry → Type 0
   IsKnown s a entries =
-      m.has_unread a s (m.generation a s) ≡ true
+      sound a → m.has_unread a s (m.generation a s) ≡ true
       → HasEntry s entries ⊎ (Member (Readable s) (m.due a) ⊎ (is_spent_stream m s a ≡ true))
 
   pub record AreKnown (p : SctpStreams S) : Type 0 where
@@ -66,12 +67,16 @@ module _ {S : Type 0} (m : AssociationMeaning S) where
 
   -- nothing of the stream stands unread, or it takes no message of its generation any more
   abbrev pub IsSilent : ℕ → S → Type 0
-  IsSilent s a = (m.has_unread a s (m.generation a s) ≡ false) ⊎ (is_spent_stream m s a ≡ true)
+  IsSilent s a = sound a → (m.has_unread a s (m.generation a s) ≡ false) ⊎ (is_spent_stream m s a ≡ true)
 
   module _ (w : AssociationLaws m) (v : GenerationLaws m) (u : UnreadLaws) where
     pub moved_backed : (acts : List AssociationAct) (a b : S) → Moved m a acts b → AreBacked a → AreBacked b
     moved_backed [] a b h k = subst (λ (x : S). AreBacked x) (sym h) k
     moved_backed (act ∷ acts) a b h k = moved_backed acts h.0 b h.1.1 (u.backed a h.0 act h.1.0 k)
+
+    pub moved_before : (acts : List AssociationAct) (a b : S) → Moved m a acts b → sound b → sound a
+    moved_before [] a b h k = subst sound h k
+    moved_before (act ∷ acts) a b h k = u.before a h.0 act h.1.0 (moved_before acts h.0 b h.1.1 k)
 
     pub moved_fewer : (acts : List AssociationAct) (a b : S) → given acts ≡ [] → Moved m a acts b → (s g : ℕ) → m.has_unread b s g ≡ true
         → m.has_unread a s g ≡ true
@@ -86,13 +91,17 @@ module _ {S : Type 0} (m : AssociationMeaning S) where
         let same = (acts_keep m v s acts a b none h).generation_is in
         ap (λ (n : ℕ). m.has_unread a s n) (sym same) ∙ moved_fewer acts a b none h s (m.generation b s) k
 
-    pub silent_on : (acts : List AssociationAct) (a b : S) (s : ℕ) → given acts ≡ [] → Moved m a acts b → IsSilent s a → IsSilent s b
-    silent_on acts a b s none h (inr spent) = inr (spent_kept m s a b (acts_keep m v s acts a b none h) spent)
-    silent_on acts a b s none h (inl quiet) = inl (by (m.has_unread b s (m.generation b s)) refl)
+    silent_so : (acts : List AssociationAct) (a b : S) (s : ℕ) → given acts ≡ [] → Moved m a acts b
+        → (m.has_unread a s (m.generation a s) ≡ false) ⊎ (is_spent_stream m s a ≡ true) → (m.has_unread b s (m.generation b s) ≡ false) ⊎ (is_spent_stream m s b ≡ true)
+    silent_so acts a b s none h (inr spent) = inr (spent_kept m s a b (acts_keep m v s acts a b none h) spent)
+    silent_so acts a b s none h (inl quiet) = inl (by (m.has_unread b s (m.generation b s)) refl)
       where
         by : (c : Bool) → m.has_unread b s (m.generation b s) ≡ c → m.has_unread b s (m.generation b s) ≡ false
         by true e = absurd (true≢false (sym (unread_before acts a b s none h e) ∙ quiet))
         by false e = e
+
+    pub silent_on : (acts : List AssociationAct) (a b : S) (s : ℕ) → given acts ≡ [] → Moved m a acts b → IsSilent s a → IsSilent s b
+    silent_on acts a b s none h silent = λ ok. silent_so acts a b s none h (silent (moved_before acts a b h ok))
 
     -- what was due is still, where nothing was told
     due_on : (acts : List AssociationAct) (a b : S) (e : AssocEvent) → told acts ≡ [] → Moved m a acts b → Member e (m.due a) → Member e (m.due b)
@@ -104,24 +113,23 @@ module _ {S : Type 0} (m : AssociationMeaning S) where
     -- acts that gave no packet and told nothing, with what became of the entries
     pub known_quiet : (acts : List AssociationAct) (a b : S) (es es' : List StreamEntry) (s : ℕ) → given acts ≡ [] → told acts ≡ [] → Moved m a acts b
         → (HasEntry s es → HasEntry s es' ⊎ IsSilent s b) → IsKnown s a es → IsKnown s b es'
-    known_quiet acts a b es es' s none untold h goes k = λ stands. by stands (k (unread_before acts a b s none h stands))
+    known_quiet acts a b es es' s none untold h goes k = λ ok stands. by ok stands (k (moved_before acts a b h ok) (unread_before acts a b s none h stands))
       where
-        of_entry : m.has_unread b s (m.generation b s) ≡ true → HasEntry s es' ⊎ IsSilent s b
+        of_entry : sound b → m.has_unread b s (m.generation b s) ≡ true → HasEntry s es' ⊎ IsSilent s b
             → HasEntry s es' ⊎ (Member (Readable s) (m.due b) ⊎ (is_spent_stream m s b ≡ true))
-        of_entry stands (inl there) = inl there
-        of_entry stands (inr (inl quiet)) = absurd (true≢false (sym stands ∙ quiet))
-        of_entry stands (inr (inr spent)) = inr (inr spent)
+        of_entry ok stands (inl there) = inl there
+        of_entry ok stands (inr silent) = elim (silent ok) [ inl quiet ↦ absurd (true≢false (sym stands ∙ quiet)) | inr spent ↦ inr (inr spent) ]
 
-        by : m.has_unread b s (m.generation b s) ≡ true → HasEntry s es ⊎ (Member (Readable s) (m.due a) ⊎ (is_spent_stream m s a ≡ true))
+        by : sound b → m.has_unread b s (m.generation b s) ≡ true → HasEntry s es ⊎ (Member (Readable s) (m.due a) ⊎ (is_spent_stream m s a ≡ true))
             → HasEntry s es' ⊎ (Member (Readable s) (m.due b) ⊎ (is_spent_stream m s b ≡ true))
-        by stands (inl there) = of_entry stands (goes there)
-        by stands (inr (inl due)) = inr (inl (due_on acts a b (Readable s) untold h due))
-        by stands (inr (inr spent)) = inr (inr (spent_kept m s a b (acts_keep m v s acts a b none h) spent))
+        by ok stands (inl there) = of_entry ok stands (goes there)
+        by ok stands (inr (inl due)) = inr (inl (due_on acts a b (Readable s) untold h due))
+        by ok stands (inr (inr spent)) = inr (inr (spent_kept m s a b (acts_keep m v s acts a b none h) spent))
 
     -- an act of any kind that told nothing, over the same entries
     known_act : (act : AssociationAct) (a b : S) (es : List StreamEntry) (s : ℕ) → told (act ∷ []) ≡ [] → Acted m a act b → AreBacked a
         → IsKnown s a es → IsKnown s b es
-    known_act act a b es s untold h backed k = λ stands. by stands (adds.readable s (m.generation b s) stands)
+    known_act act a b es s untold h backed k = λ ok stands. by ok stands (adds.readable s (m.generation b s) stands)
       where
         adds : AddsEvents m a (act ∷ []) b
         adds = w.adds a b act h
@@ -137,9 +145,9 @@ module _ {S : Type 0} (m : AssociationMeaning S) where
         spent : is_spent_stream m s a ≡ true → m.generation b s ≡ m.generation a s → is_spent_stream m s b ≡ true
         spent is same = spent_by act h same is
 
-        old : m.generation b s ≡ m.generation a s → m.has_unread a s (m.generation b s) ≡ true
+        old : sound b → m.generation b s ≡ m.generation a s → m.has_unread a s (m.generation b s) ≡ true
             → HasEntry s es ⊎ (Member (Readable s) (m.due b) ⊎ (is_spent_stream m s b ≡ true))
-        old same stands = from (k (ap (λ (n : ℕ). m.has_unread a s n) (sym same) ∙ stands))
+        old ok same stands = from (k (u.before a b act h ok) (ap (λ (n : ℕ). m.has_unread a s n) (sym same) ∙ stands))
           where
             from : HasEntry s es ⊎ (Member (Readable s) (m.due a) ⊎ (is_spent_stream m s a ≡ true))
                 → HasEntry s es ⊎ (Member (Readable s) (m.due b) ⊎ (is_spent_stream m s b ≡ true))
@@ -149,15 +157,15 @@ module _ {S : Type 0} (m : AssociationMeaning S) where
             from (inr (inr is)) = inr (inr (spent is same))
 
         -- a generation to come has no message
-        by_backed : m.has_unread a s (m.generation b s) ≡ true → IsBackedBy a s (m.generation b s)
+        by_backed : sound b → m.has_unread a s (m.generation b s) ≡ true → IsBackedBy a s (m.generation b s)
             → HasEntry s es ⊎ (Member (Readable s) (m.due b) ⊎ (is_spent_stream m s b ≡ true))
-        by_backed stands (inl lt) = let up = generation_rises m w a b act s h in absurd (omega (arith, up, lt))
-        by_backed stands (inr here) = old here.0 stands
+        by_backed ok stands (inl lt) = let up = generation_rises m w a b act s h in absurd (omega (arith, up, lt))
+        by_backed ok stands (inr here) = old ok here.0 stands
 
-        by : m.has_unread b s (m.generation b s) ≡ true → (m.has_unread a s (m.generation b s) ≡ true) ⊎ Member (Readable s) adds.more
+        by : sound b → m.has_unread b s (m.generation b s) ≡ true → (m.has_unread a s (m.generation b s) ≡ true) ⊎ Member (Readable s) adds.more
             → HasEntry s es ⊎ (Member (Readable s) (m.due b) ⊎ (is_spent_stream m s b ≡ true))
-        by stands (inl before) = by_backed before (backed s (m.generation b s) before)
-        by stands (inr come) =
+        by ok stands (inl before) = by_backed ok before (backed (u.before a b act h ok) s (m.generation b s) before)
+        by ok stands (inr come) =
             inr (inl (subst (λ (l : List AssocEvent). Member (Readable s) l) (sym due_is) (member-right (Readable s) (m.due a) adds.more come)))
 
     -- acts of any kind that told nothing, over the same entries

@@ -33,16 +33,16 @@ use Rattle.rtc_sctp_laws.proofs.KeptUses.{did_keeps}
 use Rattle.rtc_sctp_laws.proofs.KnownUses.{done_alloc, end_facts, not_alloc, refused_alloc}
 use Rattle.rtc_sctp_laws.proofs.KnownStreams.{AreBacked, IsBackedBy, IsSilent, UnreadLaws, moved_backed, silent_on}
 
-module _ {S : Type 0} (m : AssociationMeaning S) (w : AssociationLaws m) (v : GenerationLaws m) (u : UnreadLaws m) (s : ℕ) where
+module _ {S : Type 0} (m : AssociationMeaning S) (sound : S → Type 0) (w : AssociationLaws m) (v : GenerationLaws m) (u : UnreadLaws m sound) (s : ℕ) where
   -- an entry of the stream that is not closed, before a visit
   pub record IsReady (t : Turn S) : Type 0 where
     pub id_is : t.entry.id ≡ s
     pub unclosed : is_closed_state t.entry.state ≡ false
-    pub backed : AreBacked m t.association
+    pub backed : AreBacked m sound t.association
 
   -- it is of the stream still, and is not closed, or the stream is silent
   abbrev pub IsLeft : Turn S → Type 0
-  IsLeft t = (t.entry.id ≡ s) × ((is_closed_state t.entry.state ≡ false) ⊎ IsSilent m s t.association)
+  IsLeft t = (t.entry.id ≡ s) × ((is_closed_state t.entry.state ≡ false) ⊎ IsSilent m sound s t.association)
 
   left_by : (x t : Turn S) → t ≡ x → IsLeft x → IsLeft t
   left_by x t is h = subst (λ (y : Turn S). IsLeft y) (sym is) h
@@ -55,7 +55,7 @@ module _ {S : Type 0} (m : AssociationMeaning S) (w : AssociationLaws m) (v : Ge
   ready_on t q outs tells wrote heard d k = record {
     id_is = k.id_is;
     unclosed = k.unclosed;
-    backed = moved_backed m w v u d.acts t.association q d.went k.backed;
+    backed = moved_backed m sound w v u d.acts t.association q d.went k.backed;
   }
 
   starves : (t : Turn S) (met : Met) (t' : Turn S) → IsReady t → Starves t met t' → IsLeft t'
@@ -67,31 +67,31 @@ module _ {S : Type 0} (m : AssociationMeaning S) (w : AssociationLaws m) (v : Ge
   -- ---- an entry that is closed
 
   -- of a stream that is not there nothing stands unread
-  absent_quiet : (a : S) → AreBacked m a → m.has_stream a s ≡ false → m.has_unread a s (m.generation a s) ≡ false
-  absent_quiet a backed absent = by (m.has_unread a s (m.generation a s)) refl
+  absent_quiet : (a : S) → AreBacked m sound a → sound a → m.has_stream a s ≡ false → m.has_unread a s (m.generation a s) ≡ false
+  absent_quiet a backed ok absent = by (m.has_unread a s (m.generation a s)) refl
     where
-      not_backed : IsBackedBy m a s (m.generation a s) → ⊥
+      not_backed : IsBackedBy m sound a s (m.generation a s) → ⊥
       not_backed (inl lt) = omega (arith, lt)
       not_backed (inr here) = true≢false (sym here.1 ∙ absent)
 
       by : (b : Bool) → m.has_unread a s (m.generation a s) ≡ b → m.has_unread a s (m.generation a s) ≡ false
-      by true e = absurd (not_backed (backed s (m.generation a s) e))
+      by true e = absurd (not_backed (backed ok s (m.generation a s) e))
       by false e = e
 
   ended_silent : (t : Turn S) (q : S) (r : Result (Unit {0}) AssocError) → IsReady t → m.ended t.association t.entry.id r q → (r ≡ Err Alloc → ⊥)
-      → IsSilent m s q
+      → IsSilent m sound s q
   ended_silent t q r k called found = by (end_facts m w v t.entry.id t.association q r (did_keeps m v t.entry.id [] [] [] [] t.association q d) called found)
     where
       d : AssociationDid m [] [] [] [] [] t.association q
       d = ended_did m t.association q t.entry.id r called
 
-      by : (is_spent_stream m t.entry.id q ≡ true) ⊎ (m.has_stream t.association t.entry.id ≡ false) → IsSilent m s q
-      by (inl spent) = inr (ap (λ (n : ℕ). is_spent_stream m n q) (sym k.id_is) ∙ spent)
+      by : (is_spent_stream m t.entry.id q ≡ true) ⊎ (m.has_stream t.association t.entry.id ≡ false) → IsSilent m sound s q
+      by (inl spent) = λ ok. inr (ap (λ (n : ℕ). is_spent_stream m n q) (sym k.id_is) ∙ spent)
       by (inr absent) =
-          silent_on m w v u d.acts t.association q s d.given_is d.went
-          (inl (absent_quiet t.association k.backed (ap (λ (n : ℕ). m.has_stream t.association n) (sym k.id_is) ∙ absent)))
+          silent_on m sound w v u d.acts t.association q s d.given_is d.went
+          (λ ok. inl (absent_quiet t.association k.backed ok (ap (λ (n : ℕ). m.has_stream t.association n) (sym k.id_is) ∙ absent)))
 
-  closed_by : (answer : Asked) (t : Turn S) (met : Met) (t' : Turn S) → IsReady t → ((did.OutOfMemory ≡ answer → ⊥) → IsSilent m s t.association)
+  closed_by : (answer : Asked) (t : Turn S) (met : Met) (t' : Turn S) → IsReady t → ((did.OutOfMemory ≡ answer → ⊥) → IsSilent m sound s t.association)
       → ClosedBy m answer t met t' → IsLeft t'
   closed_by did.Done t met t' k silent h = left_by _ t' h.1 (k.id_is, inr (silent done_alloc))
   closed_by did.Refused t met t' k silent h = left_by _ t' h.1 (k.id_is, inr (silent refused_alloc))

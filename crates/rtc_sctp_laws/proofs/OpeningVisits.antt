@@ -21,47 +21,7 @@ use Rattle.rtc_sctp_entries.specs.declared.sctp_event.SctpEvent.TheVariants as e
 use Rattle.rtc_sctp_entries.specs.declared.met.Met.{Met}
 use Rattle.rtc_sctp_entries.specs.declared.met.Met.TheVariants.{Nothing, Again, Output, OutOfMemory}
 use Rattle.rtc_sctp_entries.specs.Entries.{is_short_entry, is_out_of_band}
-use Rattle.rtc_sctp_entries.specs.Visits.{
-  Turn,
-  is_opening_over,
-  Marks,
-  Starves,
-  Settles,
-  TakesAck,
-  ClosedBy,
-  Closes,
-  NoRoom,
-  Ended,
-  AnnouncedBy,
-  Announces,
-  NoMessage,
-  Written,
-  AnnouncesIf,
-  BegunAs,
-  BegunBy,
-  Begins,
-  RetriedIf,
-  RetriedAt,
-  is_adopted,
-  AdoptedIf,
-  OpenedBy,
-  OpensEntry,
-  AcknowledgedBy,
-  Acknowledges,
-  TakenUpBy,
-  TakesUp,
-  TakenAs,
-  TakesOpen,
-  TakesDcep,
-  TakesStreamMessage,
-  ReadBy,
-  HandedBy,
-  AttendsBy,
-  AttendsIf,
-  is_entry_there,
-  VisitsIn,
-  Visits,
-}
+use Rattle.rtc_sctp_entries.specs.Visits.{Turn, is_opening_over, Marks, Starves, Settles, TakesAck, ClosedBy, Closes, NoRoom, Ended, AnnouncedBy, Announces, NoMessage, Written, AnnouncesIf, BegunAs, BegunBy, Begins, RetriedIf, RetriedAt, is_adopted, AdoptedIf, OpenedBy, OpensEntry, AcknowledgedBy, Acknowledges, TakenUpBy, TakesUp, TakenAs, TakesDcep, TakesStreamMessage, ReadBy, HandedBy, AttendsBy, AttendsIf, is_entry_there, VisitsIn, Visits}
 use Rattle.rtc_sctp_laws.specs.StreamUses.{IsOpenInBand, TellsStreamOpen}
 
 -- what a visit leaves open was open, or is told to be

@@ -1,6 +1,6 @@
 -- Parts of messages that came to an end of the plain association are of pieces that packets brought, and pieces that it sends of messages
 -- that were written.
-use Rattle.std.proofs.Common.{◌≡◌, ◌∙◌, ◌⊎◌, ◌+◌, ◌++◌, ◌∷◌, ◌==◌, ◌&&◌, ◌||◌, inl, inr, not, nat_le, cond, zero, suc, ℕ, Bool, true, false, true≢false, List, [], drop, take, length, Option, Some, None, refl, sym, subst, arith}
+use Rattle.std.proofs.Common.{◌≡◌, ◌∙◌, ◌⊎◌, ◌+◌, ◌++◌, ◌∷◌, ◌==◌, ◌&&◌, inl, inr, not, nat_le, cond, zero, suc, ℕ, Bool, true, false, true≢false, List, [], drop, take, length, Option, Some, None, refl, sym, subst, arith}
 use Rattle.std.specs.Prelude.{if◌then◌else◌}
 use Rattle.rtc_part_association.specs.AssociationActs.{AssociationAct, Wrote, Given}
 use Rattle.rtc_part_association.specs.AssociationWords.{AssociationMessage, written}
@@ -18,7 +18,7 @@ use Rattle.rtc_assoc_state.specs.Contents.{Contents, is_ending}
 use Rattle.rtc_assoc_state.specs.Streams.{stream_of, reset_row, takes_messages}
 use Rattle.rtc_assoc_state.specs.Outbox.{settled_count}
 use Rattle.rtc_assoc_state.specs.Settling.{can_reset}
-use Rattle.rtc_assoc_state.specs.Calls.{sent, greeted, acknowledged, item_counted, more_kept, last_kept, piece_kept, finished, reset_told, close_came_at, part_came, item_taken, is_ahead, item_came}
+use Rattle.rtc_assoc_state.specs.Calls.{sent, greeted, acknowledged, item_counted, more_kept, last_kept, piece_kept, finished, reset_told, close_came_at, part_came, item_taken, item_came}
 use Rattle.rtc_sctp_laws.proofs.KeptLists.{HasPart, bytes_back, part_before}
 
 -- an item is a piece of a message, and no close
@@ -217,9 +217,9 @@ module _ (n number : ℕ) (item : Item) (p : Contents) where
   item_parts Last now is = piece_parts (takes_messages row item.generation) item.part refl (λ e. no_last (sym is ∙ e))
 
   if_parts : (b : Bool) (now : ℕ) → PacketParts (Some (Data n number item)) p (cond b (item_taken now item p) p)
-  if_parts true now = item_parts item.part now refl
+  if_parts true now = let h = item_parts item.part now refl in record { items = h.items; parts = h.parts }
   if_parts false now = packet_stay (Some (Data n number item)) p p (stay_none p)
 
   pub came_parts : (now : ℕ) → PacketParts (Some (Data n number item)) p (item_came now number item p)
   unfolding item_came
-  came_parts now = if_parts ((number == p.inbox.received + 1) && not (is_ending p || is_ahead item p)) now
+  came_parts now = if_parts ((number == p.inbox.received + 1) && not (is_ending p)) now

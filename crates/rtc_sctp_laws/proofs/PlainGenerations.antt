@@ -103,9 +103,9 @@ stays_act p q (Opened s n) g h = stays_at p q (opened s p) h.0.1 (stays_opened s
 stays_act p q (Wrote s n i b) g h = stays_at p q (message_written s (ppi_number h.0) b p) h.1.1.0.1.1.0 (stays_written s (ppi_number h.0) b p)
 stays_act p q (Ended s n) g h = stays_at p q (stream_ended p.clock.now s p) h.0.1.0 (stays_ended p.clock.now s p)
 stays_act p q (Given b) g h = absurd (no_packet g)
-stays_act p q (Taken b) g h = let w = transmits_some p.packets p q b h in stays_at p q (packet_given w.0.rest p) w.1.1 (record { goes = goes_same p (packet_given w.0.rest p) refl refl refl refl; same = λ s. refl; fewer = λ s g h. h })
+stays_act p q (Taken b) g h = let w = transmits_some p.packets p q b h in stays_at p q (packet_given w.0.rest p) w.1.1 (record { goes = goes_same p (packet_given w.0.rest p) refl refl refl refl refl; same = λ s. refl; fewer = λ s g h. h })
 stays_act p q (Read s n i b) g h = let w = reads_some (next_message s p) s p q (h.0, b) h.1.0.1 in stays_at p q (taken_out s p) w.1.2 (stays_taken_out s p)
-stays_act p q (ToldEvent e) g h = let w = polls_some p.events p q e h in stays_at p q (event_given w.0.rest p) w.1 (record { goes = goes_same p (event_given w.0.rest p) refl refl refl refl; same = λ s. refl; fewer = λ s g h. h })
+stays_act p q (ToldEvent e) g h = let w = polls_some p.events p q e h in stays_at p q (event_given w.0.rest p) w.1 (record { goes = goes_same p (event_given w.0.rest p) refl refl refl refl refl; same = λ s. refl; fewer = λ s g h. h })
 stays_act p q (Stirred (Timed now)) g h = times (Stays p) p q now h.0 (stays_none p) (stays_timed now p) h.1
 stays_act p q (Stirred ShutDown) g h = does_leaves (Stays p) (ending_cause p) p (shut_down p) q h.0 (stays_none p) (stays_shut_down p) h.1
 stays_act p q (Stirred Other) g h = stays_stirs p q h

@@ -16,28 +16,7 @@ use Rattle.rtc_sctp_entries.specs.declared.stream_entry.StreamEntry.{StreamEntry
 use Rattle.rtc_sctp_entries.specs.declared.met.Met.{Met}
 use Rattle.rtc_sctp_entries.specs.declared.met.Met.TheVariants.{Nothing, Again, Output, OutOfMemory}
 use Rattle.rtc_sctp_entries.specs.Answers.{asked_of}
-use Rattle.rtc_sctp_entries.specs.Visits.{
-  Turn,
-  given_config,
-  TakesAck,
-  ForEntry,
-  AcknowledgedBy,
-  Acknowledges,
-  TakenUpBy,
-  TakesUp,
-  TakenAs,
-  TakesDcep,
-  TakesStreamMessage,
-  ReadBy,
-  ReadsEntry,
-  is_entry_there,
-  HandedBy,
-  HandsThreshold,
-  AttendsBy,
-  AttendsIf,
-  VisitsIn,
-  Visits,
-}
+use Rattle.rtc_sctp_entries.specs.Visits.{Turn, given_config, TakesAck, ForEntry, AcknowledgedBy, Acknowledges, TakenUpBy, TakesUp, TakenAs, TakesDcep}
 use Rattle.rtc_sctp_laws.specs.StreamMessages.{StreamMessage, stream_message, is_dcep_message}
 use Rattle.rtc_sctp_laws.specs.StreamRuns.{is_past_opening}
 use Rattle.rtc_sctp_laws.proofs.ActLemmas.{reliability_did, wrote_did}
@@ -46,7 +25,7 @@ use Rattle.rtc_sctp_laws.specs.StreamUses.{IsOpened, IsUsedIn, IsReached}
 use Rattle.rtc_sctp_laws.proofs.GenerationMessages.{own_one}
 use Rattle.rtc_sctp_laws.proofs.KnownUses.{opened_by_ack, opened_by_answer, now_of, now_kept, now_more, write_facts, not_spent}
 use Rattle.rtc_sctp_laws.proofs.KeptUses.{did_keeps, used_in_kept, reached_kept, reached_wrote}
-use Rattle.rtc_sctp_laws.proofs.UsedVisits.{Arm, still, behind, known, plainly, marks, closes, starves, settles, opens}
+use Rattle.rtc_sctp_laws.proofs.UsedVisits.{Arm, still, behind, known, plainly, marks, closes, starves, settles}
 
 module _ {S : Type 0} (m : AssociationMeaning S) where
   -- a message was read, last of those of its generation

@@ -18,30 +18,9 @@ use Rattle.rtc_sctp_entries.specs.declared.stream_entry_state.StreamEntryState.T
 use Rattle.rtc_sctp_entries.specs.declared.sctp_event.SctpEvent.{SctpEvent}
 use Rattle.rtc_sctp_entries.specs.declared.sctp_event.SctpEvent.TheVariants as event
 use Rattle.rtc_sctp_entries.specs.declared.met.Met.{Met}
-use Rattle.rtc_sctp_entries.specs.declared.met.Met.TheVariants.{Nothing, Again, Output, OutOfMemory}
+use Rattle.rtc_sctp_entries.specs.declared.met.Met.TheVariants.{Nothing, Again, Output}
 use Rattle.rtc_sctp_entries.specs.Answers.{heard_of}
-use Rattle.rtc_sctp_entries.specs.Visits.{
-  Turn,
-  given_config,
-  TakesAck,
-  ForEntry,
-  AcknowledgedBy,
-  Acknowledges,
-  TakenUpBy,
-  TakesUp,
-  TakenAs,
-  TakesDcep,
-  TakesStreamMessage,
-  ReadBy,
-  ReadsEntry,
-  is_entry_there,
-  HandedBy,
-  HandsThreshold,
-  AttendsBy,
-  AttendsIf,
-  VisitsIn,
-  Visits,
-}
+use Rattle.rtc_sctp_entries.specs.Visits.{Turn, TakesStreamMessage, ReadBy, ReadsEntry, is_entry_there, HandedBy, HandsThreshold, AttendsBy, AttendsIf, VisitsIn, Visits}
 use Rattle.rtc_sctp_laws.specs.StreamMessages.{StreamMessage, stream_message, is_dcep_message, shown_message}
 use Rattle.rtc_sctp_laws.specs.StreamActs.{AssociationDid, VisitDid}
 use Rattle.rtc_sctp_laws.specs.StreamRuns.{is_past_opening}

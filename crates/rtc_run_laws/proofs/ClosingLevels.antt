@@ -1,0 +1,61 @@
+-- Two joined ends: what each sent the other, and what of closes and generations that makes of their rows.
+use Rattle.std.proofs.Common.{◌≡◌, ◌∙◌, ◌⊎◌, inl, inr, ◌<◌, ◌≤◌, ◌==◌, ◌||◌, nat_lt, ℕ, zero, suc, not, Bool, true, false, true≢false, List, [], ◌∷◌, ◌++◌, drop, take, length, append-nil, append_assoc, Option, Some, None, refl, sym, ap, subst, arith}
+use Rattle.std.proofs.lemmas.Bool.Decides.{leb_tells, nat_tests}
+use Rattle.std.proofs.lemmas.List.{append_cancel_left, take-append-le}
+use Rattle.rtc_part_values.specs.Among.{Among, Member}
+use Rattle.rtc_part_association.specs.AssociationActs.{AssociationAct, Given, Taken, Moved}
+use Rattle.rtc_part_association.specs.AssociationWords.{ended, given, taken}
+use Rattle.rtc_part_association.proofs.AmongLemmas.{member-append}
+use Rattle.rtc_part_association.proofs.AssociationLemmas.{taken-append}
+use Rattle.rtc_assoc_packets.specs.Packets.{frame_in}
+use Rattle.rtc_assoc_state.specs.Says.{SaysPacket}
+use Rattle.rtc_assoc.proofs.MessageLemmas.{HasClose}
+use Rattle.rtc_assoc.proofs.OrderLemmas.{SenderOk, honest_says}
+use Rattle.rtc_sctp_laws.proofs.BackedRows.{plain_sound}
+use Rattle.rtc_run_laws.proofs.SentOrder.{OrderedFrom, Within, close_take, ordered_append, within_at}
+use Rattle.rtc_assoc_packets.specs.declared.item.Item.{Item}
+use Rattle.rtc_assoc_packets.specs.declared.frame.Frame.{Frame}
+use Rattle.rtc_assoc_packets.specs.declared.frame.Frame.TheVariants.{Hello, Welcome, Data, Acknowledgement, Shutdown}
+use Rattle.rtc_assoc_state.specs.declared.close_state.CloseState.{CloseState}
+use Rattle.rtc_assoc_state.specs.declared.close_state.CloseState.TheVariants.{Unclosed, Queued, Acknowledged}
+use Rattle.rtc_assoc_state.specs.declared.stream_row.StreamRow.{StreamRow}
+use Rattle.rtc_assoc_state.specs.Contents.{Contents, closed_here, fresh_contents, generation_of, is_ending}
+use Rattle.rtc_assoc_state.specs.PlainMeaning.{plain_meaning}
+use Rattle.rtc_assoc_state.specs.Settling.{can_reset}
+use Rattle.rtc_assoc_state.specs.Streams.{LAST_GENERATION, any_at_last_generation, is_at_last_generation, is_closed_here, is_unclosed, stream_of}
+use Rattle.rtc_assoc.specs.Joined.{Ends, fresh_ends, Move, LeftMoves, RightMoves, Goes, Run}
+use Rattle.rtc_assoc.proofs.FrameLemmas.{Brings}
+use Rattle.rtc_assoc.proofs.CoreLemmas.{Causes, Step}
+use Rattle.rtc_assoc.proofs.StepLemmas.{step_of}
+use Rattle.rtc_assoc.proofs.DirectedLemmas.{Directed, brings_of, next_of, receiver_moves, sender_moves}
+use Rattle.rtc_assoc.proofs.RunLemmas.{both_run}
+use Rattle.rtc_run_laws.proofs.ClosingRows.{Keeps, RowKeeps}
+use Rattle.rtc_run_laws.proofs.ClosingEnds.{act_frame, act_go}
+use Rattle.rtc_run_laws.proofs.ClosingSteps.{EndGo}
+
+-- a packet with an item names, as come, the closes of all generations before that of the item
+abbrev pub Timely : List Item → Option Frame → Type 0
+Timely back None = Unit {0}
+Timely back (Some Hello) = Unit {0}
+Timely back (Some Welcome) = Unit {0}
+Timely back (Some (Data n number item)) = (g : ℕ) → g < item.generation → HasClose item.stream g (take n back)
+Timely back (Some (Acknowledgement n)) = Unit {0}
+Timely back (Some Shutdown) = Unit {0}
+
+-- what each end sent the other in all, and what of closes that makes of their rows
+pub record Level (a b : Contents) (v u : List AssociationAct) : Type 0 where
+  pub there : List Item
+  pub back : List Item
+  pub forth_is : Directed there a b v u
+  pub back_is : Directed back b a u v
+  pub left : Keeps a.streams a.outbox.items there (take a.inbox.received back)
+  pub right : Keeps b.streams b.outbox.items back (take b.inbox.received there)
+  pub left_sound : plain_sound a
+  pub right_sound : plain_sound b
+  pub there_order : OrderedFrom [] there
+  pub back_order : OrderedFrom [] back
+  pub there_timely : (packet : List ℕ) → Member packet a.packets ⊎ Member packet (taken v) → Timely back (frame_in packet)
+  pub back_timely : (packet : List ℕ) → Member packet b.packets ⊎ Member packet (taken u) → Timely there (frame_in packet)
+
+pub level_swap : (a b : Contents) (v u : List AssociationAct) → Level a b v u → Level b a u v
+level_swap a b v u h = record { there = h.back; back = h.there; forth_is = h.back_is; back_is = h.forth_is; left = h.right; right = h.left; left_sound = h.right_sound; right_sound = h.left_sound; there_order = h.back_order; back_order = h.there_order; there_timely = h.back_timely; back_timely = h.there_timely }
