@@ -35,9 +35,23 @@ class Item:
         self.stream, self.generation, self.part, self.content, self.kind = stream, generation, part, content, kind
 
 
+# What came of messages is kept by its generation: the pieces of one, and the whole ones in order.
 class Stream:
-    def __init__(self, generation):
-        self.generation, self.there, self.close, self.finished, self.came, self.unread = generation, False, None, False, b"", []
+    def __init__(self, generation, came=None, unread=None):
+        self.generation, self.there, self.close, self.finished = generation, False, None, False
+        self.came, self.unread = came or {}, unread or []
+
+    # What came of the current generation is dropped.
+    def forget(self):
+        self.came.pop(self.generation, None)
+        self.unread = [message for message in self.unread if message[0] != self.generation]
+
+    # The first message of the current generation, if there is one.
+    def read(self):
+        for place, message in enumerate(self.unread):
+            if message[0] == self.generation:
+                return self.unread.pop(place)[1:]
+        return None
 
 
 def after(moment, span):
@@ -110,7 +124,8 @@ class Association:
     def send_close(self, now, number):
         stream = self.stream(number)
         self.send(now, [Item(number, stream.generation, "close")])
-        stream.close, stream.came, stream.unread = "queued", b"", []
+        stream.close = "queued"
+        stream.forget()
 
     def shut_down(self):
         self.shut = True
@@ -159,28 +174,29 @@ class Association:
     def reset_if_both_closed(self, number):
         stream = self.stream(number)
         if stream.finished and stream.close == "acknowledged":
-            self.streams[number] = Stream(stream.generation + 1)
+            self.streams[number] = Stream(stream.generation + 1, stream.came, stream.unread)
             self.events.append(("reset", number))
 
     def take_item(self, number, item, now):
         stream = self.stream(item.stream)
-        if number != self.received + 1 or self.is_ending() or item.generation > stream.generation:
+        if number != self.received + 1 or self.is_ending():
             return
         self.received, stream.there = number, True
-        if item.generation < stream.generation:
-            return
-        if item.part == "close":
-            stream.finished, stream.came, stream.unread = True, b"", []
+        if item.part == "close" and item.generation == stream.generation:
+            stream.finished = True
+            stream.forget()
             self.events.append(("finished", item.stream))
             if stream.close is None:
                 self.send_close(now, item.stream)
             self.reset_if_both_closed(item.stream)
-        elif stream.close is None:
-            stream.came += item.content
+        elif item.part != "close" and (item.generation > stream.generation
+                                       or item.generation == stream.generation and stream.close is None):
+            content = stream.came.pop(item.generation, b"") + item.content
             if item.part == "last":
-                stream.unread.append((item.kind, stream.came))
-                stream.came = b""
+                stream.unread.append((item.generation, item.kind, content))
                 self.events.append(("readable", item.stream))
+            else:
+                stream.came[item.generation] = content
 
 
 def open_message(label):
@@ -334,7 +350,8 @@ class Streams:
         if not stream.there:
             entry.marked = True
             return "again"
-        return self.read(number, entry, *stream.unread.pop(0)) if stream.unread else None
+        message = stream.read()
+        return self.read(number, entry, *message) if message else None
 
     def visit_opening(self, number, entry):
         stream = self.association.stream(number)
