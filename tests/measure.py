@@ -192,7 +192,7 @@ def memory(words, given=b""):
 def forged():
     print("| Forged packets | Greatest memory, KiB |\n|---|---|")
     for packets in (1, 1_000, 100_000):
-        print(f"| {packets:,} | {memory([program('rtc_examples_parts')], work(0, 'association', 'forged', packets)):,} |")
+        print(f"| {packets:,} | {memory([program('rtc_examples_parts')], work(1, 'association', 'forged', packets)):,} |")
 
 
 # Look-ups of the last of so many entries of a plain part.
