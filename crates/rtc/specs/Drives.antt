@@ -1,4 +1,4 @@
--- How a peer is driven: it is given the moment, and each of its outputs is handed to a sink.
+-- How a peer is driven: it is given the moment, and each of its outputs is given to a sink.
 use Rattle.std.specs.Prelude.{◌≡◌, ◌≤◌, ◌-◌, ◌^◌, ℕ, List, [], ◌∷◌, length, Result, Ok, Err}
 use Rattle.rtc_peer_core.specs.Meanings.{Meanings}
 use Rattle.rtc_peer_core.specs.declared.rtc_error.RtcError.{RtcError}
@@ -64,7 +64,7 @@ module _ {I D S M E X T W N K : Type 0} (m : Meanings I D S M E X T W N) (sink :
     Fails : (error : RtcError) → r ≡ Err error → FailsToHand p a error q b → EndsDrain now count p a r q b
     HasMore : 2 ^ 64 - 1 ≤ count → r ≡ Ok now → q ≡ p → b ≡ a → EndsDrain now count p a r q b
 
-  -- All outputs of a peer are handed to the sink, up to that end.
+  -- All outputs of a peer are given to the sink, up to that end.
   pub record DrainsInto (now : ℕ) (p : PolledPeer I D S M N) (a : K) (r : Result ℕ RtcError) (q : PolledPeer I D S M N) (b : K)
       : Type 0 where
     pub outputs : List (Output E)
@@ -73,7 +73,7 @@ module _ {I D S M E X T W N K : Type 0} (m : Meanings I D S M E X T W N) (sink :
     pub handed : HandedOver outputs p a last held
     pub ends : EndsDrain now (length outputs) last held r q b
 
-  -- A peer is given the moment, and then drained. Where it does not take the moment, the sink is unchanged.
+  -- A peer is given the moment, and then drained. If it does not take the moment, the sink is unchanged.
   pub data Drives (now : ℕ) (p : PolledPeer I D S M N) (a : K) (r : Result ℕ RtcError) (q : PolledPeer I D S M N) (b : K) : Type 0 where
     TimeFails : (error : RtcError) → r ≡ Err error → HandlesInput m (given.Timeout now) p (Err error) q → b ≡ a → Drives now p a r q b
     TimeTaken : (between : PolledPeer I D S M N) → HandlesInput m (given.Timeout now) p (Ok tt) between → DrainsInto now between a r q b

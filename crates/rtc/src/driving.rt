@@ -7,7 +7,7 @@ use crate::{Parts, Peer, Sink};
 use rtc_peer::{Input, RtcError};
 use rtc_wire::Moment;
 
-// Polls a peer once, and hands its output to the sink.
+// Polls a peer once, and passes its output to the sink.
 fn hand_next<P: Parts, K: Sink<P::MediaEvent>>(peer: &mut Peer<P>, sink: &mut K) -> Handed
     ensures { HandsNext (meanings P.Ice.ice P.Dtls.dtls P.Sctp.association P.Media.media P.Ids.ids) K.sink
         peer.old sink.old result peer.new sink.new }
@@ -37,7 +37,7 @@ fn drain<P: Parts, K: Sink<P::MediaEvent>>(
     Ok(now)
 }
 
-/// Gives a peer the moment, hands all its outputs to the sink, and returns the moment at which it wants the next call.
+/// Gives a peer the moment, passes all its outputs to the sink, and returns the moment at which it wants the next call.
 ///
 /// Call it at that moment, and after every other call on the peer. After 2^64 - 1 outputs it returns `now`.
 pub fn drive<P: Parts, K: Sink<P::MediaEvent>>(

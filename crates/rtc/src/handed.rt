@@ -1,4 +1,4 @@
-//! One output, handed to a sink.
+//! One output, given to a sink.
 ghost use Rattle.std.specs.Prelude.{◌≡◌};
 ghost use Rattle.rtc.specs.Drives.{HandsOutput, handed_by, moment_wanted};
 
@@ -36,7 +36,7 @@ fn moment_wanted<E>(output: &Output<E>) -> Moment
     }
 }
 
-/// Hands an output to the method of the sink that is for it; a moment is for none.
+/// Passes an output to the method of the sink that is for it; a moment is for none.
 pub fn hand<E, K: Sink<E>>(sink: &mut K, output: Output<E>) -> Handed
     ensures { HandsOutput K.sink output sink.old result sink.new }
 {

@@ -54,7 +54,7 @@ fn answer_offer<P: Parts>(peer: &mut Peer<P>, offer: SdpOffer) -> Result<Text, R
     }
 }
 
-/// Accepts the offer of a text, and returns the text of the answer (RFC 8829, section 5.3).
+/// Accepts the offer in a text, and returns the text of the answer (RFC 8829, section 5.3).
 ///
 /// A text that is no offer leaves the peer unchanged. `Alloc` may be returned after the offer was accepted.
 pub fn accept_offer_text<P: Parts>(
@@ -72,9 +72,9 @@ pub fn accept_offer_text<P: Parts>(
     }
 }
 
-/// Accepts the answer of a text to an offer of this side, whose token is spent (RFC 8829, section 5.11).
+/// Accepts the answer in a text; the token is consumed, also if the text is refused (RFC 8829, section 5.11).
 ///
-/// A text that is no answer leaves the peer unchanged, and spends the token too.
+/// A text that is no answer leaves the peer unchanged.
 pub fn accept_answer_text<P: Parts>(
     alloc: Global,
     peer: &mut Peer<P>,

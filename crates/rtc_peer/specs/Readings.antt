@@ -1,4 +1,4 @@
--- What a peer answers of itself.
+-- What a peer returns of itself.
 use Rattle.std.specs.Prelude.{ℕ, Bool, true, false, List, Option, Some, None, option_and_then, Result, Ok, Err}
 use Rattle.std.specs.declared.alloc.AllocError.{AllocError}
 use Rattle.rtc_sdp_values.specs.declared.candidate.Candidate.{Candidate}
@@ -13,7 +13,7 @@ abbrev pub if_of_media : LineRow → Option LineRow
 if_of_media (Media place mid kind dir stopped remote_created) = Some (Media place mid kind dir stopped remote_created)
 if_of_media (App place mid) = None
 
--- the row of a mid, where it is of media
+-- the row of a mid, if it is of media
 abbrev pub media_row_of : List LineRow → List ℕ → Option LineRow
 media_row_of rows mid = option_and_then if_of_media (row_of rows mid)
 

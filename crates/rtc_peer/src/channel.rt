@@ -35,8 +35,8 @@ impl<I: IceAgent, D: DtlsInstance, S: Association, M: MediaSession, N: Ids> Chan
     M,
     N,
 > {
-    /// Writes a message, text or binary. It answers false, and nothing is written, where the message is longer than what may
-    /// be buffered yet over all channels.
+    /// Writes a message, text or binary. Returns false, and writes nothing, if it is longer than what may still be
+    /// buffered over all channels.
     pub fn write(&mut self, binary: bool, buf: &[u8]) -> Result<bool, RtcError>
         ensures writes { WritesChannel (meanings I.ice D.dtls S.association M.media N.ids)
             self.old.stream binary buf.now self.old.rtc.now result self.new.rtc.now }
@@ -55,7 +55,7 @@ impl<I: IceAgent, D: DtlsInstance, S: Association, M: MediaSession, N: Ids> Chan
         rtc.polled.core.sctp.buffered_amount(self.stream)
     }
 
-    /// Asks to be told where what the channel has buffered falls to `threshold` bytes.
+    /// Asks for a `ChannelBufferedAmountLow` event once `threshold` bytes or fewer are buffered.
     pub fn set_buffered_amount_low_threshold(&mut self, threshold: usize)
         ensures asks { SetsChannelThreshold self.old.stream threshold self.old.rtc.now self.new.rtc.now }
         ensures same_stream { self.new.stream ≡ self.old.stream }

@@ -24,7 +24,7 @@ use rtc_sctp::SctpInitData;
 use rtc_wire::{ChannelConfig, ChannelId};
 use std::alloc::AllocError;
 
-/// A handle by which a user drives a peer without session descriptions, where both sides agree by other means.
+/// A handle to drive a peer without session descriptions, if both sides agree out-of-band.
 ///
 /// Its calls act at once, also on a peer that is closing or closed.
 pub struct DirectApi<'a, I, D, S, M, N> {
@@ -110,7 +110,7 @@ impl<'a, I: IceAgent, D: DtlsInstance, S: Association, M: MediaSession, N: Ids> 
         set_remote_credentials(&mut rtc.polled, creds);
     }
 
-    /// Stops using a candidate. Answers whether it was there.
+    /// Stops using a candidate. Returns whether it was there.
     pub fn invalidate_candidate(&mut self, candidate: &Candidate) -> bool
         ensures same_reference { self.new.rtc.ghost_name ≡ self.old.rtc.ghost_name }
         ensures does { InvalidatesCandidate I.ice candidate.now result self.old.rtc.now self.new.rtc.now }
@@ -136,8 +136,7 @@ impl<'a, I: IceAgent, D: DtlsInstance, S: Association, M: MediaSession, N: Ids> 
         set_remote_fingerprint(&mut rtc.polled, fingerprint);
     }
 
-    /// Takes a DTLS role, where there is none: an active side begins the handshake. Ok, and nothing happens, where there is
-    /// one.
+    /// Takes a DTLS role; an active side begins the handshake. Ok, and nothing happens, if there is a role.
     pub fn start_dtls(&mut self, active: bool) -> Result<(), RtcError>
         ensures same_reference { self.new.rtc.ghost_name ≡ self.old.rtc.ghost_name }
         ensures does { TakesDtlsRole D.dtls active self.old.rtc.now result self.new.rtc.now }
@@ -171,7 +170,7 @@ impl<'a, I: IceAgent, D: DtlsInstance, S: Association, M: MediaSession, N: Ids> 
         rtc.polled.core.dtls.protocol_version()
     }
 
-    /// Starts the association as client or as server. Ok, and nothing happens, where it was started before.
+    /// Starts the association as client or as server. Ok, and nothing happens, if it was started before.
     pub fn start_sctp(&mut self, client: bool) -> Result<(), RtcError>
         ensures same_reference { self.new.rtc.ghost_name ≡ self.old.rtc.ghost_name }
         ensures does { StartsStreams S.association client None self.old.rtc.now result self.new.rtc.now }
@@ -180,9 +179,9 @@ impl<'a, I: IceAgent, D: DtlsInstance, S: Association, M: MediaSession, N: Ids> 
         start_sctp(&mut rtc.polled, client)
     }
 
-    /// Starts the association by the halves of both sides (draft-hancke-tsvwg-snap): it is established at once, and session
-    /// descriptions tell this side's half. Where a half is not there, `SnapHalf` is answered, and nothing happens. Ok, and nothing
-    /// happens, where it was started before.
+    /// Starts the association by both SNAP INIT chunks (draft-hancke-tsvwg-snap): it is established at once, and later
+    /// session descriptions carry this side's chunk. `SnapHalf`, and nothing happens, if a chunk is missing. Ok, and
+    /// nothing happens, if it was started before.
     pub fn start_sctp_with_snap(
         &mut self,
         client: bool,
@@ -195,7 +194,7 @@ impl<'a, I: IceAgent, D: DtlsInstance, S: Association, M: MediaSession, N: Ids> 
         start_sctp_with_snap(&mut rtc.polled, client, halves)
     }
 
-    /// Makes a channel, and answers its number: it is opened once the association is started and it has a stream.
+    /// Makes a channel, and returns its number. It is opened once the association is started and it has a stream.
     pub fn create_data_channel(&mut self, config: ChannelConfig) -> Result<ChannelId, RtcError>
         ensures same_reference { self.new.rtc.ghost_name ≡ self.old.rtc.ghost_name }
         ensures does { CreatesChannel config self.old.rtc.now result self.new.rtc.now }
@@ -204,8 +203,8 @@ impl<'a, I: IceAgent, D: DtlsInstance, S: Association, M: MediaSession, N: Ids> 
         create_data_channel(&mut rtc.polled, config)
     }
 
-    /// Closes a data channel: its stream is reset, if it has one (RFC 8831, section 6.7). Nothing happens where there is no such
-    /// channel, or it has no stream yet.
+    /// Closes a data channel: its stream, if it has one, is reset (RFC 8831, section 6.7). Nothing happens if there is
+    /// no such channel, or it has no stream yet.
     pub fn close_data_channel(&mut self, id: ChannelId) -> Result<(), AllocError>
         ensures same_reference { self.new.rtc.ghost_name ≡ self.old.rtc.ghost_name }
         ensures does { ClosesDataChannel (meanings I.ice D.dtls S.association M.media N.ids) id self.old.rtc.now result self.new.rtc.now }

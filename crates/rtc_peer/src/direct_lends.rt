@@ -14,8 +14,8 @@ use rtc_part_values::Ids;
 use rtc_peer_direct::lend_writer;
 
 impl<I: IceAgent, D: DtlsInstance, S: Association, M: MediaSession, N: Ids> Rtc<I, D, S, M, N> {
-    /// What sends on a media line. None exactly in RTP mode, where the peer is closing or closed, where no row of media has the mid,
-    /// and where the media part has none.
+    /// What sends on a media line. None in RTP mode, if the peer is closing or closed, if no media row has the mid, and
+    /// if the media part has none.
     pub fn writer(&mut self, mid: Mid) -> Option<&mut M::Writer>
         ensures* leaves { sem 𝓛 (LendsSo
             (the_row I.row D.row S.row M.row N.row)

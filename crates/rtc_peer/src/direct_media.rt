@@ -25,7 +25,7 @@ impl<'a, I: IceAgent, D: DtlsInstance, S: Association, M: MediaSession, N: Ids> 
     M,
     N,
 > {
-    /// Draws a source that no stream has; where there is none, the answer is that of the number drawn.
+    /// Returns an unused SSRC (if all 2^32 are in use, the one drawn).
     pub fn new_ssrc(&mut self) -> Ssrc
         ensures same_reference { self.new.rtc.ghost_name ≡ self.old.rtc.ghost_name }
         ensures does { DrawsSource M.media N.ids self.old.rtc.now result self.new.rtc.now }
@@ -34,7 +34,7 @@ impl<'a, I: IceAgent, D: DtlsInstance, S: Association, M: MediaSession, N: Ids> 
         draw_ssrc(&mut rtc.polled)
     }
 
-    /// Declares a media line behind the others, which sends and receives and was created here. False where a row has the mid.
+    /// Declares a media line behind the others, sendrecv and created here. False if a row has the mid.
     pub fn declare_media(&mut self, mid: Mid, kind: MediaKind) -> Result<bool, AllocError>
         ensures same_reference { self.new.rtc.ghost_name ≡ self.old.rtc.ghost_name }
         ensures does { DeclaresMedia mid kind self.old.rtc.now result self.new.rtc.now }
@@ -43,8 +43,7 @@ impl<'a, I: IceAgent, D: DtlsInstance, S: Association, M: MediaSession, N: Ids> 
         declare_media(&mut rtc.polled, mid, kind)
     }
 
-    /// Removes a media line with its streams: the last row goes, and another is stopped for good. False where no row of media
-    /// has the mid.
+    /// Removes a media line with its streams: the last row is removed, another one is stopped for good. False if no media row has the mid.
     pub fn remove_media(&mut self, mid: Mid) -> bool
         ensures same_reference { self.new.rtc.ghost_name ≡ self.old.rtc.ghost_name }
         ensures does { RemovesMedia M.media mid self.old.rtc.now result self.new.rtc.now }
@@ -53,7 +52,7 @@ impl<'a, I: IceAgent, D: DtlsInstance, S: Association, M: MediaSession, N: Ids> 
         remove_media(&mut rtc.polled, mid)
     }
 
-    /// Switches redundancy of what a line sends on or off (RFC 2198). False where the line has none.
+    /// Switches redundancy (RFC 2198) of what a line sends on or off. False if the line has no redundancy.
     pub fn set_red_send(&mut self, mid: Mid, on: bool) -> bool
         ensures same_reference { self.new.rtc.ghost_name ≡ self.old.rtc.ghost_name }
         ensures does { SetsRed M.media mid on self.old.rtc.now result self.new.rtc.now }
@@ -94,7 +93,7 @@ impl<'a, I: IceAgent, D: DtlsInstance, S: Association, M: MediaSession, N: Ids> 
         send_pli_feedback(&mut rtc.polled, sender, media_source)
     }
 
-    /// Drops the stream of a source that is received. False where there is none.
+    /// Drops the received stream of an SSRC. False if there is none.
     pub fn remove_stream_rx(&mut self, ssrc: Ssrc) -> bool
         ensures same_reference { self.new.rtc.ghost_name ≡ self.old.rtc.ghost_name }
         ensures does { RemovesRx M.media ssrc self.old.rtc.now result self.new.rtc.now }
@@ -103,7 +102,7 @@ impl<'a, I: IceAgent, D: DtlsInstance, S: Association, M: MediaSession, N: Ids> 
         remove_stream_rx(&mut rtc.polled, ssrc)
     }
 
-    /// Drops the stream of a source that is sent. False where there is none.
+    /// Drops the sent stream of an SSRC. False if there is none.
     pub fn remove_stream_tx(&mut self, ssrc: Ssrc) -> bool
         ensures same_reference { self.new.rtc.ghost_name ≡ self.old.rtc.ghost_name }
         ensures does { RemovesTx M.media ssrc self.old.rtc.now result self.new.rtc.now }

@@ -28,7 +28,7 @@ impl<'a, I: IceAgent, D: DtlsInstance, S: Association, M: MediaSession, N: Ids> 
     M,
     N,
 > {
-    /// Makes the stream of a source to be received, or replaces it, and lends it. The error says why there is none.
+    /// Makes or replaces the received stream of an SSRC, and lends it. The error says why there is none.
     pub fn make_stream_rx(
         &mut self,
         ssrc: Ssrc,
@@ -48,7 +48,7 @@ impl<'a, I: IceAgent, D: DtlsInstance, S: Association, M: MediaSession, N: Ids> 
         make_stream_rx(&mut rtc.polled, ssrc, rtx, mid, rid)
     }
 
-    /// Makes the stream of a source to be sent, or replaces it, and lends it. The error says why there is none.
+    /// Makes or replaces the sent stream of an SSRC, and lends it. The error says why there is none.
     pub fn make_stream_tx(
         &mut self,
         ssrc: Ssrc,
@@ -68,8 +68,8 @@ impl<'a, I: IceAgent, D: DtlsInstance, S: Association, M: MediaSession, N: Ids> 
         make_stream_tx(&mut rtc.polled, ssrc, rtx, mid, rid)
     }
 
-    /// `make_stream_rx` with None where no row of media has the mid, and where the media part has no such stream.
-    /// Its contract says only when it lends nothing; that of `make_stream_rx` also says what the peer is afterwards.
+    /// `make_stream_rx` with None in place of the reason. Its contract says only when it lends nothing; that of
+    /// `make_stream_rx` also says what the peer is afterwards.
     pub fn expect_stream_rx(
         &mut self,
         ssrc: Ssrc,
@@ -82,8 +82,8 @@ impl<'a, I: IceAgent, D: DtlsInstance, S: Association, M: MediaSession, N: Ids> 
         answer_of(self.make_stream_rx(ssrc, rtx, mid, rid))
     }
 
-    /// `make_stream_tx` with None where no row of media has the mid, and where the media part has no such stream.
-    /// Its contract says only when it lends nothing; that of `make_stream_tx` also says what the peer is afterwards.
+    /// `make_stream_tx` with None in place of the reason. Its contract says only when it lends nothing; that of
+    /// `make_stream_tx` also says what the peer is afterwards.
     pub fn declare_stream_tx(
         &mut self,
         ssrc: Ssrc,
@@ -96,7 +96,7 @@ impl<'a, I: IceAgent, D: DtlsInstance, S: Association, M: MediaSession, N: Ids> 
         answer_of(self.make_stream_tx(ssrc, rtx, mid, rid))
     }
 
-    /// The stream of a source that is received.
+    /// The received stream of an SSRC.
     pub fn stream_rx(&mut self, ssrc: Ssrc) -> Option<&mut M::Rx>
         ensures* leaves { sem 𝓛 (LendsSo
             (the_row (record { mir = named 1; lft = [] }) I.row D.row S.row M.row N.row)
@@ -110,7 +110,7 @@ impl<'a, I: IceAgent, D: DtlsInstance, S: Association, M: MediaSession, N: Ids> 
         lend_stream_rx(&mut rtc.polled, ssrc)
     }
 
-    /// The stream of a source that is sent.
+    /// The sent stream of an SSRC.
     pub fn stream_tx(&mut self, ssrc: Ssrc) -> Option<&mut M::Tx>
         ensures* leaves { sem 𝓛 (LendsSo
             (the_row (record { mir = named 1; lft = [] }) I.row D.row S.row M.row N.row)
@@ -152,8 +152,8 @@ impl<'a, I: IceAgent, D: DtlsInstance, S: Association, M: MediaSession, N: Ids> 
         lend_stream_tx_by_mid(&mut rtc.polled, mid, rid)
     }
 
-    /// Gives the stream of a line and a layer that is sent a new source. None where there is no such stream, or where it has this
-    /// source, or these retransmissions, already.
+    /// Gives the sent stream of a line and a layer a new SSRC. None if there is no such stream, or if it has this SSRC,
+    /// or this RTX SSRC, already.
     pub fn reset_stream_tx(
         &mut self,
         mid: Mid,

@@ -1,7 +1,7 @@
 //! A WebRTC peer that does no I/O of its own.
 //!
-//! The crate passes on all that its callers name, so that a program lists `rtc_peer`, `rtc_wire` and the crates of its parts and of its
-//! source of numbers: in memory these are `rtc_plain` and `rtc_assoc`.
+//! The crate re-exports all that its callers name. So a program lists `rtc_peer`, `rtc_wire`, and the crates of its
+//! parts and of its source of numbers: in memory these are `rtc_plain` and `rtc_assoc`.
 #![tactic(auto)]
 
 mod built;

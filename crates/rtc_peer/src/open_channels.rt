@@ -16,8 +16,7 @@ use rtc_wire::{ChannelConfig, ChannelId};
 use std::alloc::AllocError;
 
 impl<I: IceAgent, D: DtlsInstance, S: Association, M: MediaSession, N: Ids> Rtc<I, D, S, M, N> {
-    /// A data channel that is open. There is none where the peer is closing or closed, where the channel has no stream, and
-    /// where that is not open.
+    /// An open data channel. None if the peer is closing or closed, if the channel has no stream, and if that is not open.
     pub fn channel(&mut self, id: ChannelId) -> Option<Channel<'_, I, D, S, M, N>>
         ensures* none { sem 𝓛 (RestsIfNone
             (the_row I.row D.row S.row M.row N.row)
@@ -33,8 +32,7 @@ impl<I: IceAgent, D: DtlsInstance, S: Association, M: MediaSession, N: Ids> Rtc<
         }
     }
 
-    /// What a channel was opened with: the config of its stream. None where there is no such channel, it has no stream, or that
-    /// has no config yet.
+    /// The config of a channel's stream. None if there is no such channel, it has no stream, or that has no config yet.
     pub fn channel_config(&self, id: ChannelId) -> Option<&ChannelConfig>
         ensures { MatchOption result (config_under (stream_under id self.now.core.channels) self.now.core.sctp ≡ None)
             (λ config. config_under (stream_under id self.now.core.channels) self.now.core.sctp ≡ Some config.now) }
@@ -42,8 +40,8 @@ impl<I: IceAgent, D: DtlsInstance, S: Association, M: MediaSession, N: Ids> Rtc<
         self.polled.channel_config(id)
     }
 
-    /// Closes a data channel: its stream is reset, if it has one (RFC 8831, section 6.7). Nothing happens where there is no such
-    /// channel, or it has no stream yet. Its row goes with the poll that answers `ChannelClose`.
+    /// Closes a data channel: its stream, if it has one, is reset (RFC 8831, section 6.7). Nothing happens if there is
+    /// no such channel, or it has no stream yet. Its row is removed by the poll that returns `ChannelClose`.
     pub fn close_data_channel(&mut self, id: ChannelId) -> Result<(), AllocError>
         ensures { ClosesDataChannel (meanings I.ice D.dtls S.association M.media N.ids) id self.old result self.new }
     {

@@ -70,9 +70,9 @@ impl<
     M: MediaSession + Drop,
     N: Ids + Drop,
 > Rtc<I, D, S, M, N> {
-    /// The peer of a config over five fresh parts. It draws the number of its session, and its credentials and its certificate
-    /// where none are set. Unless the config says otherwise, the certificate of the other side has to match the fingerprint that it
-    /// announces.
+    /// The peer of a config over five fresh parts. It draws its session number, and credentials and certificate if none
+    /// are set. The other side's certificate has to match the fingerprint that it announces, unless the config says
+    /// otherwise.
     pub fn build(
         alloc: Global,
         config: RtcConfig,
@@ -161,8 +161,8 @@ impl<I: IceAgent, D: DtlsInstance, S: Association, M: MediaSession, N: Ids> Rtc<
         self.polled.core.phase = Phase::Closed;
     }
 
-    /// Gives the ICE agent an address of this side, which offers and answers then tell. Ok says whether it was taken: an
-    /// agent may have it already.
+    /// Gives the ICE agent an address of this side, which offers and answers carry from then on. Ok says whether it was
+    /// taken: an agent may have it already.
     pub fn add_local_candidate(&mut self, candidate: Candidate) -> Result<bool, AllocError>
         ensures added { I.ice.local_added self.old.core.ice candidate result self.new.core.ice }
         ensures others { self.new.core ≡ record self.old.core { ice = self.new.core.ice } }
@@ -171,7 +171,7 @@ impl<I: IceAgent, D: DtlsInstance, S: Association, M: MediaSession, N: Ids> Rtc<
         self.polled.core.ice.add_local_candidate(candidate)
     }
 
-    /// Gives the ICE agent an address of the other side that came apart from an offer or an answer (RFC 8838).
+    /// Gives the ICE agent an address of the other side that was signalled apart from an offer or an answer (RFC 8838).
     pub fn add_remote_candidate(&mut self, candidate: Candidate) -> Result<(), AllocError>
         ensures added { AddsRemote I.ice self.old.core.ice candidate result self.new.core.ice }
         ensures others { self.new.core ≡ record self.old.core { ice = self.new.core.ice } }

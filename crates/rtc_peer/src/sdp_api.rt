@@ -24,8 +24,7 @@ use std::alloc::AllocError;
 
 /// A handle on the negotiation of a peer.
 ///
-/// Changes are staged on it, and offered together by `apply`. A handle that is dropped offers nothing; what it set or
-/// stopped stays so.
+/// Changes are staged on it, and offered together by `apply`. A handle that is dropped offers nothing; what it set or stopped is kept.
 #[derive(Drop)]
 pub struct SdpApi<'a, I, D, S, M, N> {
     pub(crate) rtc: &'a mut Rtc<I, D, S, M, N>,
@@ -39,10 +38,11 @@ impl<'a, I: IceAgent, D: DtlsInstance, S: Association, M: MediaSession, N: Ids> 
     M,
     N,
 > {
-    /// Accepts an offer of the other side, and answers it (RFC 8829, section 5.3).
+    /// Accepts an offer of the other side, and returns the answer (RFC 8829, section 5.3).
     ///
-    /// An offer of this side that still awaits its answer is superseded, also where the offer is refused. An impolite peer refuses the
-    /// offer first of all in that case, as glare (RFC 3264, section 4), which changes nothing and supersedes nothing.
+    /// A pending offer of this side is invalidated, also if the other offer is refused. On such a glare (RFC 3264,
+    /// section 4), an impolite peer refuses the other offer instead, before anything else; this changes nothing and
+    /// invalidates nothing.
     pub fn accept_offer(self, offer: SdpOffer) -> Result<SdpAnswer, RtcError>
         ensures accepts { AcceptsOffer (meanings I.ice D.dtls S.association M.media N.ids)
             self.entry.rtc.now.core offer.0 (sdp_of_answer result) self.exit.0.now.core }
@@ -55,8 +55,7 @@ impl<'a, I: IceAgent, D: DtlsInstance, S: Association, M: MediaSession, N: Ids> 
         }
     }
 
-    /// Accepts the answer to an offer of this side (RFC 8829, section 5.11). The token is spent, also where the answer is
-    /// refused.
+    /// Accepts the answer to an offer of this side (RFC 8829, section 5.11). The token is consumed, also if the answer is refused.
     pub fn accept_answer(self, pending: SdpPendingOffer, answer: SdpAnswer) -> Result<(), RtcError>
         ensures accepts { AcceptsAnswer (meanings I.ice D.dtls S.association M.media N.ids)
             self.entry.rtc.now.core pending answer.0 result self.exit.0.now.core }
@@ -66,11 +65,11 @@ impl<'a, I: IceAgent, D: DtlsInstance, S: Association, M: MediaSession, N: Ids> 
         accept_answer(&mut rtc.polled.core, pending, answer.0)
     }
 
-    /// Rolls an offer of this side back (RFC 8829, section 5.7). The token is spent, also where it is refused. Nothing is allocated.
+    /// Rolls an offer of this side back (RFC 8829, section 5.7). The token is consumed, also if it is refused. Nothing is allocated.
     ///
-    /// The lines that were set or stopped for the offer are as they were before, and the channels that were added with it are gone.
-    /// What else the offer brought about stays: which side is controlling, and a chunk that was drawn for the start of the
-    /// association.
+    /// The lines that were set or stopped for the offer are as they were before, and the channels that were added with
+    /// it are gone. What else the offer brought about is kept: which side is controlling, and this side's SNAP INIT
+    /// chunk, if one was drawn.
     pub fn rollback(self, pending: SdpPendingOffer) -> Result<(), RtcError>
         ensures rolls_back { RollsBack self.entry.rtc.now.core pending result self.exit.0.now.core }
         ensures connection { self.exit.0.now.transport ≡ self.entry.rtc.now.transport }
@@ -94,7 +93,7 @@ impl<'a, I: IceAgent, D: DtlsInstance, S: Association, M: MediaSession, N: Ids> 
         self.rtc.lines()
     }
 
-    /// Stages a media line, and answers its mid, which no row and no staged line has.
+    /// Stages a media line, and returns its mid, which no row and no staged line has.
     ///
     /// Names of streams and tracks keep their token characters, at most 64; a name of which nothing is kept, or that is
     /// not given, is drawn.
@@ -122,7 +121,7 @@ impl<'a, I: IceAgent, D: DtlsInstance, S: Association, M: MediaSession, N: Ids> 
         )
     }
 
-    /// Stages a data channel with a label, and answers its number: ordered, reliable, announced by an open message.
+    /// Stages an ordered, reliable, in-band data channel with a label, and returns its number.
     pub fn add_channel(&mut self, label: String) -> Result<ChannelId, RtcError>
         ensures same_reference { self.new.rtc.ghost_name ≡ self.old.rtc.ghost_name }
         ensures adds { AddsChannel (meanings I.ice D.dtls S.association M.media N.ids)
@@ -135,10 +134,11 @@ impl<'a, I: IceAgent, D: DtlsInstance, S: Association, M: MediaSession, N: Ids> 
         stage_channel(&mut rtc.polled.core, config)
     }
 
-    /// Stages a data channel, and answers its number, which no channel of the peer had before (RFC 8831, section 6.4).
+    /// Stages a data channel, and returns its number, which no channel of the peer had before (RFC 8831, section 6.4).
     ///
-    /// The line of the data channels is staged with it where neither a row nor a staged line is one. A channel that was
-    /// staged and is not offered stays in the table, waits, and keeps its claim on a stream; one whose offer is rolled back goes.
+    /// The m-line of data channels is staged with it if neither a row nor a staged line is one. A staged channel that
+    /// is not offered is kept in the table, waits, and keeps its claim on a stream; one whose offer is rolled back is
+    /// removed.
     pub fn add_channel_with_config(&mut self, config: ChannelConfig) -> Result<ChannelId, RtcError>
         ensures same_reference { self.new.rtc.ghost_name ≡ self.old.rtc.ghost_name }
         ensures adds { AddsChannel (meanings I.ice D.dtls S.association M.media N.ids)
@@ -151,8 +151,8 @@ impl<'a, I: IceAgent, D: DtlsInstance, S: Association, M: MediaSession, N: Ids> 
 
     /// Sets the direction of a live media line, and stages it (RFC 8829, section 4.2.3).
     ///
-    /// It acts at once, before anything is applied, and answers whether the line changed, which str0m does not tell.
-    /// Nothing happens where the line is stopped, already has that direction, carries data channels or is not there.
+    /// It acts at once, before anything is applied, and returns whether the line changed, which str0m does not report.
+    /// Nothing happens if the line is stopped, already has that direction, carries data channels or does not exist.
     pub fn set_direction(&mut self, mid: Mid, dir: Direction) -> Result<bool, AllocError>
         ensures same_reference { self.new.rtc.ghost_name ≡ self.old.rtc.ghost_name }
         ensures sets { SetsDirection self.old.rtc.now.core mid dir result self.new.rtc.now.core }
@@ -164,9 +164,9 @@ impl<'a, I: IceAgent, D: DtlsInstance, S: Association, M: MediaSession, N: Ids> 
 
     /// Stops a live media line for good, and stages it (RFC 8829, section 4.2.1).
     ///
-    /// It acts at once, before anything is applied: the row stays at its place, inactive. It answers whether the line
-    /// changed, which str0m does not tell. Nothing happens where the line is stopped already, carries data channels or
-    /// is not there.
+    /// It acts at once, before anything is applied: the row keeps its place, inactive. It returns whether the line
+    /// changed, which str0m does not report. Nothing happens if the line is stopped already, carries data channels or
+    /// does not exist.
     pub fn stop_media(&mut self, mid: Mid) -> Result<bool, AllocError>
         ensures same_reference { self.new.rtc.ghost_name ≡ self.old.rtc.ghost_name }
         ensures stops { StopsMedia self.old.rtc.now.core mid result self.new.rtc.now.core }
@@ -176,8 +176,8 @@ impl<'a, I: IceAgent, D: DtlsInstance, S: Association, M: MediaSession, N: Ids> 
         stop_media(&mut rtc.polled.core, mid)
     }
 
-    /// Stages a restart of ICE with new credentials, which are drawn and answered, in place of one that was staged
-    /// (RFC 8839, section 4.4.1.1.1). The agent restarts once the answer is accepted.
+    /// Stages an ICE restart with drawn credentials, which it returns, in place of a staged one (RFC 8839, section
+    /// 4.4.1.1.1). The agent restarts once the answer is accepted.
     pub fn ice_restart(&mut self, keep_local_candidates: bool) -> Result<IceCreds, AllocError>
         ensures same_reference { self.new.rtc.ghost_name ≡ self.old.rtc.ghost_name }
         ensures stages { StagesRestart (meanings I.ice D.dtls S.association M.media N.ids)
@@ -190,8 +190,8 @@ impl<'a, I: IceAgent, D: DtlsInstance, S: Association, M: MediaSession, N: Ids> 
 
     /// Makes the offer of what is staged, with the token that `accept_answer` takes with its answer.
     ///
-    /// None where nothing but channels is staged, which no offer tells of: these are confirmed, and an offer that awaits its
-    /// answer is superseded. None, and nothing happens, where nothing is staged.
+    /// None if nothing but channels is staged, which no offer carries: these are confirmed, and a pending offer is
+    /// invalidated. None, and nothing happens, if nothing is staged.
     pub fn apply(self) -> Result<Option<(SdpOffer, SdpPendingOffer)>, AllocError>
         ensures applies { Applies (meanings I.ice D.dtls S.association M.media N.ids)
             self.entry.rtc.now.core (sdp_of_offer result) self.exit.0.now.core }

@@ -23,13 +23,13 @@ use Rattle.rtc_peer_core.specs.RtcErrors.{error_of_sctp}
 use Rattle.rtc_peer_transport.specs.declared.polled_peer.PolledPeer.{PolledPeer}
 use Rattle.rtc_peer_transport.specs.Connection.{with_sctp, with_channels}
 
--- what a start of the association answers
+-- what a start of the association returns
 abbrev pub start_answer : Result (Unit {0}) SctpError → Result (Unit {0}) RtcError
 start_answer (Ok done) = Ok tt
 start_answer (Err error) = Err (error_of_sctp error)
 
--- The association is started as client or as server, by the halves of both sides where they are given, with the greatest moment that was
--- given and the limit of an other side that tells none; where it was started before, it is Ok and nothing changes.
+-- The association is started as client or as server, by both SNAP INIT chunks if they are given, with the greatest moment that was given
+-- and the limit of an other side that announces none. If it was started before, it is Ok and nothing changes.
 abbrev pub StartsStreams : {I D S M N : Type 0} → AssociationMeaning S → (client : Bool) → Option InitHalves → PolledPeer I D S M N
     → Result (Unit {0}) RtcError → PolledPeer I D S M N → Type 0
 StartsStreams association client halves p r q =

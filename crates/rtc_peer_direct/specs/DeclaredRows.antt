@@ -16,13 +16,13 @@ has_media_row mid rows = is_some (media_place (row_of rows mid))
 abbrev pub with_lines : {I D S M N : Type 0} → List LineRow → PolledPeer I D S M N → PolledPeer I D S M N
 with_lines rows p = record p { core = record p.core { lines = rows } }
 
--- A media line is declared behind the others: it sends and receives, and was created here. Where a row has the mid, nothing changes.
+-- A media line is declared behind the others, sendrecv and created here. If a row has the mid, nothing changes.
 abbrev pub DeclaresMedia : {I D S M N : Type 0} → List ℕ → MediaKind → PolledPeer I D S M N → Result Bool AllocError → PolledPeer I D S M N
     → Type 0
 DeclaresMedia mid kind p r q = Declares p.core.lines mid kind r q.core.lines × (q ≡ with_lines q.core.lines p)
 
--- A media line is removed: the last row goes, and another is stopped; the media part drops the line with its streams. Where no row of
--- media has the mid, nothing changes.
+-- A media line is removed: the last row is dropped, another one is stopped; the media part drops the line with its streams. If no media row
+-- has the mid, nothing changes.
 abbrev pub RemovesMedia : {I D S M E X T W N : Type 0} → MediaMeaning M E X T W → List ℕ → PolledPeer I D S M N → Bool
     → PolledPeer I D S M N → Type 0
 RemovesMedia media mid p true q =

@@ -14,13 +14,13 @@ use Rattle.rtc_peer_transport.specs.Connection.{with_dtls}
 abbrev pub with_fingerprint : {I D S M N : Type 0} → Fingerprint → PolledPeer I D S M N → PolledPeer I D S M N
 with_fingerprint fingerprint p = record p { core = record p.core { fingerprint = Some fingerprint } }
 
--- what the start of the DTLS part answers, as a peer tells it
+-- what the start of the DTLS part returns, as a peer reports it
 abbrev pub role_answer : Result (Unit {0}) DtlsError → Result (Unit {0}) RtcError
 role_answer (Ok done) = Ok tt
 role_answer (Err error) = Err (error_of_dtls error)
 
--- A DTLS role is taken where there is none, at the greatest moment that was given; where there is one, it is Ok and nothing changes. A
--- fault of the part, or want of memory in it, is answered, and nothing but the part has changed; it never has to wait.
+-- A DTLS role is taken if there is none, at the greatest moment that was given; if there is one, it is Ok and nothing changes. A fault of
+-- the part, or running out of memory in it, is returned, and nothing but the part has changed; it never has to wait.
 abbrev pub TakesDtlsRole : {I D S M N : Type 0} → DtlsMeaning D → (active : Bool) → PolledPeer I D S M N
     → Result (Unit {0}) RtcError → PolledPeer I D S M N → Type 0
 TakesDtlsRole dtls active p r q =

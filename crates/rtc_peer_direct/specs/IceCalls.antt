@@ -23,6 +23,6 @@ module _ {I D S M N : Type 0} (ice : IceMeaning I) where
   abbrev pub SetsRemoteCreds : IceCreds → PolledPeer I D S M N → PolledPeer I D S M N → Type 0
   SetsRemoteCreds creds p q = ice.remote_set p.core.ice creds q.core.ice × (q ≡ with_ice q.core.ice p)
 
-  -- a candidate is used no longer; the answer says whether it was there
+  -- a candidate is used no longer; the call returns whether it was there
   abbrev pub InvalidatesCandidate : Candidate → (found : Bool) → PolledPeer I D S M N → PolledPeer I D S M N → Type 0
   InvalidatesCandidate candidate found p q = ice.invalidated p.core.ice candidate found q.core.ice × (q ≡ with_ice q.core.ice p)

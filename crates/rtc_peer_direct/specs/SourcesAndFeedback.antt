@@ -1,4 +1,4 @@
--- Sources that a user draws, and what a user has sent to the media of the other side: the media part does it, and nothing else changes.
+-- SSRCs that a user draws, and what a user has sent to the media of the other side: the media part does it, and nothing else changes.
 use Rattle.std.specs.Prelude.{◌≡◌, ℕ, Bool, List, [], Result}
 use Rattle.std.specs.declared.alloc.AllocError.{AllocError}
 use Rattle.rtc_sdp_values.specs.declared.ssrc.Ssrc.{Ssrc}
@@ -13,7 +13,7 @@ abbrev pub with_ids : {I D S M N : Type 0} → N → PolledPeer I D S M N → Po
 with_ids ids p = record p { core = record p.core { ids = ids } }
 
 module _ {I D S M E X T W N : Type 0} (media : MediaMeaning M E X T W) where
-  -- A source is drawn: the first counted on from the number drawn that no stream has.
+  -- An SSRC is drawn: the first counted on from the number drawn that no stream has.
   abbrev pub DrawsSource : Draws N → PolledPeer I D S M N → Ssrc → PolledPeer I D S M N → Type 0
   DrawsSource draws p ssrc q =
       (ssrc ≡ record { 0 = next_source draws (has_source media p.core.media) [] p.core.ids }) × (q ≡ with_ids (draws.after p.core.ids) p)

@@ -13,7 +13,7 @@ module _ {I D S M E X T W N : Type 0} (media : MediaMeaning M E X T W) where
   abbrev pub ByMedia : (M → Type 0) → PolledPeer I D S M N → PolledPeer I D S M N → Type 0
   ByMedia Did p q = Did q.core.media × (q ≡ with_media q.core.media p)
 
-  -- the stream of a source is dropped; the answer says whether it was there
+  -- the stream of an SSRC is dropped; the call returns whether it was there
   abbrev pub RemovesRx : Ssrc → PolledPeer I D S M N → Bool → PolledPeer I D S M N → Type 0
   RemovesRx ssrc p r q = ByMedia (media.rx_removed p.core.media ssrc r) p q
 
@@ -43,7 +43,7 @@ module _ {I D S M E X T W N : Type 0} (media : MediaMeaning M E X T W) where
       → Type 0
   DeclaresTx ssrc rtx mid rid p lent left q = ByMedia (media.tx_declared p.core.media ssrc rtx mid rid lent left) p q
 
-  -- a stream that is there is lent, by its source, or by its line and layer
+  -- a stream that is there is lent, by its SSRC, or by its line and layer
   abbrev pub LendsRx : Ssrc → PolledPeer I D S M N → (lent left : X) → PolledPeer I D S M N → Type 0
   LendsRx ssrc p lent left q = ByMedia (media.rx_lent p.core.media ssrc lent left) p q
 
@@ -56,7 +56,7 @@ module _ {I D S M E X T W N : Type 0} (media : MediaMeaning M E X T W) where
   abbrev pub LendsNamedTx : List ℕ → Option (List ℕ) → PolledPeer I D S M N → (lent left : T) → PolledPeer I D S M N → Type 0
   LendsNamedTx mid rid p lent left q = ByMedia (media.tx_named_lent p.core.media mid rid lent left) p q
 
-  -- a stream that is sent is given another source, and lent
+  -- a sent stream is given another SSRC, and lent
   abbrev pub ResetsTx : List ℕ → Option (List ℕ) → Ssrc → Option Ssrc → PolledPeer I D S M N → (lent left : T) → PolledPeer I D S M N
       → Type 0
   ResetsTx mid rid ssrc rtx p lent left q = ByMedia (media.tx_reset p.core.media mid rid ssrc rtx lent left) p q

@@ -28,7 +28,7 @@ fn start_streams<S: Association>(
     }
 }
 
-// What a start of the association answers, as a peer tells it.
+// What a start of the association returns, as a peer reports it.
 fn answer_start(answer: Result<(), SctpError>) -> Result<(), RtcError>
     ensures { result ≡ start_answer answer }
 {
@@ -38,7 +38,7 @@ fn answer_start(answer: Result<(), SctpError>) -> Result<(), RtcError>
     }
 }
 
-/// Starts the association, where nothing started it before.
+/// Starts the association, if nothing started it before.
 pub fn start_sctp<I, D, S: Association, M, N>(
     peer: &mut PolledPeer<I, D, S, M, N>,
     client: bool,
@@ -49,8 +49,8 @@ pub fn start_sctp<I, D, S: Association, M, N>(
     answer_start(start_streams(&mut peer.core.sctp, client, now, None))
 }
 
-/// Starts the association by the halves of both sides (draft-hancke-tsvwg-snap), where nothing started it before: it is established
-/// at once. Where a half is not there, nothing is started.
+/// Starts the association by both SNAP INIT chunks (draft-hancke-tsvwg-snap), if nothing started it before: it is
+/// established at once. If a chunk is missing, nothing is started.
 pub fn start_sctp_with_snap<I, D, S: Association, M, N>(
     peer: &mut PolledPeer<I, D, S, M, N>,
     client: bool,
@@ -62,7 +62,7 @@ pub fn start_sctp_with_snap<I, D, S: Association, M, N>(
     answer_start(start_streams(&mut peer.core.sctp, client, now, Some(halves)))
 }
 
-/// Makes a channel that is confirmed, and answers its number: it is opened once it has a stream.
+/// Makes a confirmed channel, and returns its number. It is opened once it has a stream.
 pub fn create_data_channel<I, D, S, M, N>(
     peer: &mut PolledPeer<I, D, S, M, N>,
     config: ChannelConfig,

@@ -17,7 +17,7 @@ pub fn set_remote_fingerprint<I, D, S, M, N>(
     peer.core.fingerprint = Some(fingerprint);
 }
 
-// What the start of the DTLS part answers, as a peer tells it.
+// What the start of the DTLS part returns, as a peer reports it.
 fn answer_role(answer: Result<(), DtlsError>) -> Result<(), RtcError>
     ensures { result ≡ role_answer answer }
 {
@@ -27,7 +27,7 @@ fn answer_role(answer: Result<(), DtlsError>) -> Result<(), RtcError>
     }
 }
 
-/// Takes a DTLS role, where there is none: an active side begins the handshake.
+/// Takes a DTLS role, if there is none; an active side begins the handshake.
 pub fn start_dtls<I, D: DtlsInstance, S, M, N>(
     peer: &mut PolledPeer<I, D, S, M, N>,
     active: bool,

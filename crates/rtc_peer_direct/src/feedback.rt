@@ -1,4 +1,4 @@
-//! Sources that are drawn, and what is sent to the media of the other side.
+//! SSRCs that are drawn, and what is sent to the media of the other side.
 ghost use Rattle.rtc_peer_direct.specs.SourcesAndFeedback.{DrawsSource, SetsRed, EnablesTwcc, SendsAppFeedback, SendsPli};
 
 use rtc_part_media::MediaSession;
@@ -8,7 +8,7 @@ use rtc_peer_transport::PolledPeer;
 use rtc_sdp_values::{Mid, Ssrc};
 use std::alloc::AllocError;
 
-/// Draws a source that no stream has; where there is none, the answer is that of the number drawn.
+/// Returns an unused SSRC (if all 2^32 are in use, the one drawn).
 pub fn draw_ssrc<I, D, S, M: MediaSession, N: Ids>(peer: &mut PolledPeer<I, D, S, M, N>) -> Ssrc
     ensures { DrawsSource M.media N.ids peer.old result peer.new }
 {
@@ -16,7 +16,7 @@ pub fn draw_ssrc<I, D, S, M: MediaSession, N: Ids>(peer: &mut PolledPeer<I, D, S
     draw_source(&mut peer.core.ids, &peer.core.media, &earlier)
 }
 
-/// Switches redundancy of what a line sends on or off (RFC 2198). False where the line has none.
+/// Switches redundancy (RFC 2198) of what a line sends on or off. False if the line has no redundancy.
 pub fn set_red_send<I, D, S, M: MediaSession, N>(
     peer: &mut PolledPeer<I, D, S, M, N>,
     mid: Mid,

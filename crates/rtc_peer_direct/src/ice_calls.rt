@@ -42,7 +42,7 @@ pub fn set_remote_credentials<I: IceAgent, D, S, M, N>(
     peer.core.ice.set_remote_credentials(creds);
 }
 
-/// Stops using a candidate. Answers whether it was there.
+/// Stops using a candidate. Returns whether it was there.
 pub fn invalidate_candidate<I: IceAgent, D, S, M, N>(
     peer: &mut PolledPeer<I, D, S, M, N>,
     candidate: &Candidate,

@@ -22,7 +22,7 @@ pub(crate) fn has_media(lines: &Lines, mid: Mid) -> bool
     }
 }
 
-/// Declares a media line behind the others, which sends and receives and was created here. False where a row has the mid.
+/// Declares a media line behind the others, sendrecv and created here. False if a row has the mid.
 pub fn declare_media<I, D, S, M, N>(
     peer: &mut PolledPeer<I, D, S, M, N>,
     mid: Mid,
@@ -37,8 +37,7 @@ pub fn declare_media<I, D, S, M, N>(
     }
 }
 
-/// Removes a media line with its streams: the last row goes, and another is stopped for good. False where no row of media has
-/// the mid.
+/// Removes a media line with its streams: the last row is removed, another one is stopped for good. False if no media row has the mid.
 pub fn remove_media<I, D, S, M: MediaSession, N>(
     peer: &mut PolledPeer<I, D, S, M, N>,
     mid: Mid,

@@ -22,7 +22,7 @@ fn is_open_phase(phase: Phase) -> bool
     }
 }
 
-/// Makes the stream of a source to be received, or replaces it, and lends it. The error says why there is none.
+/// Makes or replaces the received stream of an SSRC, and lends it. The error says why there is none.
 pub fn make_stream_rx<I, D, S, M: MediaSession, N>(
     peer: &mut PolledPeer<I, D, S, M, N>,
     ssrc: Ssrc,
@@ -41,7 +41,7 @@ pub fn make_stream_rx<I, D, S, M: MediaSession, N>(
     core.media.make_stream_rx(ssrc, rtx, mid, rid)
 }
 
-/// Makes the stream of a source to be sent, or replaces it, and lends it. The error says why there is none.
+/// Makes or replaces the sent stream of an SSRC, and lends it. The error says why there is none.
 pub fn make_stream_tx<I, D, S, M: MediaSession, N>(
     peer: &mut PolledPeer<I, D, S, M, N>,
     ssrc: Ssrc,
@@ -60,7 +60,7 @@ pub fn make_stream_tx<I, D, S, M: MediaSession, N>(
     core.media.make_stream_tx(ssrc, rtx, mid, rid)
 }
 
-/// Drops the stream of a source that is received. False where there is none.
+/// Drops the received stream of an SSRC. False if there is none.
 pub fn remove_stream_rx<I, D, S, M: MediaSession, N>(
     peer: &mut PolledPeer<I, D, S, M, N>,
     ssrc: Ssrc,
@@ -70,7 +70,7 @@ pub fn remove_stream_rx<I, D, S, M: MediaSession, N>(
     peer.core.media.remove_stream_rx(ssrc)
 }
 
-/// Drops the stream of a source that is sent. False where there is none.
+/// Drops the sent stream of an SSRC. False if there is none.
 pub fn remove_stream_tx<I, D, S, M: MediaSession, N>(
     peer: &mut PolledPeer<I, D, S, M, N>,
     ssrc: Ssrc,
@@ -80,7 +80,7 @@ pub fn remove_stream_tx<I, D, S, M: MediaSession, N>(
     peer.core.media.remove_stream_tx(ssrc)
 }
 
-/// The stream of a source that is received.
+/// The received stream of an SSRC.
 pub fn lend_stream_rx<I, D, S, M: MediaSession, N>(
     peer: &mut PolledPeer<I, D, S, M, N>,
     ssrc: Ssrc,
@@ -93,7 +93,7 @@ pub fn lend_stream_rx<I, D, S, M: MediaSession, N>(
     core.media.stream_rx(ssrc)
 }
 
-/// The stream of a source that is sent.
+/// The sent stream of an SSRC.
 pub fn lend_stream_tx<I, D, S, M: MediaSession, N>(
     peer: &mut PolledPeer<I, D, S, M, N>,
     ssrc: Ssrc,
@@ -134,8 +134,8 @@ pub fn lend_stream_tx_by_mid<I, D, S, M: MediaSession, N>(
     core.media.stream_tx_by_mid(mid, rid)
 }
 
-/// Gives the stream of a line and a layer that is sent a new source. None where there is no such stream, or where it has this
-/// source, or these retransmissions, already.
+/// Gives the sent stream of a line and a layer a new SSRC. None if there is no such stream, or if it has this SSRC, or
+/// this RTX SSRC, already.
 pub fn reset_stream_tx<I, D, S, M: MediaSession, N>(
     peer: &mut PolledPeer<I, D, S, M, N>,
     mid: Mid,
@@ -151,7 +151,7 @@ pub fn reset_stream_tx<I, D, S, M: MediaSession, N>(
     core.media.reset_stream_tx(mid, rid, new_ssrc, new_rtx)
 }
 
-/// What sends on a line. None in RTP mode, where the peer is closing or closed, and where no row of media has the mid.
+/// What sends on a line. None in RTP mode, if the peer is closing or closed, and if no media row has the mid.
 pub fn lend_writer<I, D, S, M: MediaSession, N>(
     peer: &mut PolledPeer<I, D, S, M, N>,
     mid: Mid,

@@ -10,12 +10,12 @@ use Rattle.rtc_peer_rows.specs.declared.why.Why.TheVariants.{NoMatch, UnknownHas
 abbrev pub is_checked_hash : List ℕ → Bool
 is_checked_hash name = bytes_eq name (codes "sha-256") || bytes_eq name (codes "sha-1")
 
--- the name of the hash function for a certificate: the announced one, where certificates are checked by it
+-- the name of the hash function for a certificate: the announced one, if certificates are checked by it
 abbrev pub hash_name : Option Fingerprint → List ℕ
 hash_name None = codes "sha-256"
 hash_name (Some announced) = if is_checked_hash announced.hash_func then announced.hash_func else codes "sha-256"
 
--- a certificate has a fingerprint, where another was announced, if any was
+-- a certificate has a fingerprint, and another was announced, if any was
 abbrev pub Hashes : Option Fingerprint → List ℕ → Fingerprint → Type 0
 Hashes announced cert got = certificate_fingerprint (hash_name announced) cert ≡ Some got
 

@@ -22,7 +22,7 @@ use Rattle.rtc_peer_transport.specs.Closing.{ClosesPeer}
 use Rattle.rtc_peer_transport.specs.Connection.{with_dtls, with_media, with_sctp, closed_peer}
 use Rattle.rtc_peer_transport.specs.Stages.{Stage, RepeatsStage}
 
--- a moment has come: it is one that is to happen, and not later than the greatest that was taken
+-- a moment is reached: it is one that is to happen, and not later than the greatest that was taken
 abbrev pub has_come : (moment greatest : ℕ) → Bool
 has_come moment greatest = not (moment == (2 ^ 64 - 1)) && nat_le moment greatest
 
@@ -30,17 +30,17 @@ has_come moment greatest = not (moment == (2 ^ 64 - 1)) && nat_le moment greates
 abbrev pub is_dtls_due : {I D S M N : Type 0} → PolledPeer I D S M N → Bool
 is_dtls_due p = has_come p.transport.dtls_wake p.core.greatest
 
--- the peer whose handshake has come so far
+-- the peer whose handshake has this progress
 abbrev pub with_handshake : {I D S M N : Type 0} → Handshake → PolledPeer I D S M N → PolledPeer I D S M N
 with_handshake handshake p = record p { transport = record p.transport { handshake = handshake } }
 
--- the handshake is finished, which is told once
+-- the handshake is finished, which is reported once
 abbrev pub finished_handshake : Handshake → Handshake
 finished_handshake Pending = Finished
 finished_handshake Finished = Finished
 finished_handshake Told = Told
 
--- that it is finished is no longer told
+-- its end is no longer to be reported
 abbrev pub silenced_handshake : Handshake → Handshake
 silenced_handshake Pending = Pending
 silenced_handshake Finished = Told
@@ -50,7 +50,7 @@ silenced_handshake Told = Told
 abbrev pub is_dtls_client : Option Bool → Bool
 is_dtls_client active = unwrap_or active false
 
--- the connection knows the fingerprint of the certificate that came
+-- the connection knows the fingerprint of the received certificate
 abbrev pub with_remote_fingerprint : {I D S M N : Type 0} → Fingerprint → PolledPeer I D S M N → PolledPeer I D S M N
 with_remote_fingerprint got p = record p { core = record p.core { dtls = record p.core.dtls { remote = Some got } } }
 
@@ -74,7 +74,7 @@ TellsConnectedFrom Pending p r q = (r ≡ Nothing) × (q ≡ p)
 TellsConnectedFrom Finished p r q = (r ≡ Event Connected) × (q ≡ with_handshake Told p)
 TellsConnectedFrom Told p r q = (r ≡ Nothing) × (q ≡ p)
 
--- that the handshake is finished is told once
+-- the end of the handshake is reported once
 abbrev pub TellsConnected : {I D S M E N : Type 0} → Stage (PolledPeer I D S M N) E
 TellsConnected p r q = TellsConnectedFrom p.transport.handshake p r q
 
@@ -97,7 +97,7 @@ module _ {I D S M E X T W N : Type 0} (m : Meanings I D S M E X T W N) where
   TimesDtlsIf true p r q = GivesDtlsTime p r q
   TimesDtlsIf false p r q = (r ≡ Nothing) × (q ≡ p)
 
-  -- a moment that the DTLS part asked for, and that has come, is handed to it
+  -- the DTLS part is given a moment that it asked for, and that is reached
   abbrev pub TimesDtls : Stage (PolledPeer I D S M N) E
   TimesDtls p r q = TimesDtlsIf (is_dtls_due p) p r q
 
@@ -110,8 +110,8 @@ module _ {I D S M E X T W N : Type 0} (m : Meanings I D S M E X T W N) where
       × (q ≡ closed_peer (with_media q.core.media p))
   TakesKeys key profile active p r q = ⊥
 
-  -- The other side closed the connection: closing begins, unless it has, and this is told each time. That the handshake is finished is
-  -- then no longer told.
+  -- The other side closed the connection: closing begins, unless it has, and this is reported each time. The end of the handshake is then
+  -- no longer reported.
   unfoldable pub TakesCloseNotify : Stage (PolledPeer I D S M N) E
   TakesCloseNotify p (Event ClosedEvent) q =
       (closing : PolledPeer I D S M N)
@@ -120,7 +120,7 @@ module _ {I D S M E X T W N : Type 0} (m : Meanings I D S M E X T W N) where
   TakesCloseNotify p (Error error) q = ClosesPeer m p (Err error) q
   TakesCloseNotify p r q = ⊥
 
-  -- application data is a packet for the association, which is handed it at the greatest moment that was taken (RFC 8261, section 5)
+  -- application data is a packet for the association, which is given it at the greatest moment that was taken (RFC 8261, section 5)
   unfoldable pub HandsPacket : List ℕ → Stage (PolledPeer I D S M N) E
   HandsPacket bytes p Again q =
       TakesInput m.association p.core.greatest bytes p.core.sctp (Ok tt) q.core.sctp × (q ≡ with_sctp q.core.sctp p)
@@ -139,7 +139,7 @@ module _ {I D S M E X T W N : Type 0} (m : Meanings I D S M E X T W N) where
       (r ≡ Nothing) × (q ≡ record p { transport = record p.transport { dtls_wake = moment } })
   TakesDtlsOutput outputs.CloseNotify p r q = TakesCloseNotify p r q
 
-  -- what becomes of the answer of its poll; running out of memory closes the peer
+  -- what becomes of the result of its poll; running out of memory closes the peer
   abbrev pub TakesDtlsAnswer : Result DtlsOutput AllocError → Stage (PolledPeer I D S M N) E
   TakesDtlsAnswer (Ok output) p r q = TakesDtlsOutput output p r q
   TakesDtlsAnswer (Err error) p r q = (r ≡ Error Alloc) × (q ≡ closed_peer p)

@@ -12,7 +12,7 @@ use Rattle.rtc_peer_transport.specs.Connection.{with_ice}
 use Rattle.rtc_peer_transport.specs.RecentAddrs.{with_recent}
 use Rattle.rtc_peer_transport.specs.Stages.{Stage, RepeatsStage}
 
--- what is met by an event: a change of state is told, and every other event is followed by the next
+-- what is met by an event: a change of state is reported, and every other event is followed by the next
 abbrev pub met_of_ice_event : {E : Type 0} → IceEvent → Met E
 met_of_ice_event IceRestart = Again
 met_of_ice_event (StateChange state) = Event (IceConnectionStateChange state)
@@ -27,7 +27,7 @@ after_ice_event (DiscoveredRecv proto source) t = record t { discovered = with_r
 after_ice_event (NominatedSend proto source destination) t =
     record t { send_addr = Some (record { proto = proto; source = source; destination = destination }) }
 
--- an event that was polled is told or kept
+-- an event that was polled is reported or kept
 abbrev pub TakesIceEvent : {I D S M E N : Type 0} → Option IceEvent → Stage (PolledPeer I D S M N) E
 TakesIceEvent None p r q = (r ≡ Nothing) × (q ≡ p)
 TakesIceEvent (Some event) p r q = (r ≡ met_of_ice_event event) × (q ≡ record p { transport = after_ice_event event p.transport })
@@ -40,6 +40,6 @@ module _ {I D S M E X T W N : Type 0} (m : Meanings I D S M E X T W N) where
     pub by_poll : m.ice.polled p.core.ice event ice
     pub by_event : TakesIceEvent event (with_ice ice p) r q
 
-  -- events are polled up to one that is told
+  -- events are polled up to one that is reported
   abbrev pub PollsIceEvents : Stage (PolledPeer I D S M N) E
   PollsIceEvents = RepeatsStage PollsIceEvent

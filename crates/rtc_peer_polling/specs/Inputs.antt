@@ -30,15 +30,15 @@ use Rattle.rtc_peer_transport.specs.Stages.{Call, InTurn}
 abbrev pub with_moment : {I D S M N : Type 0} → ℕ → PolledPeer I D S M N → PolledPeer I D S M N
 with_moment now p = record p { core = record p.core { greatest = now } }
 
--- the peer once bytes came in
+-- the peer once bytes were received
 abbrev pub with_received : {I D S M N : Type 0} → List ℕ → PolledPeer I D S M N → PolledPeer I D S M N
 with_received bytes p = record p { transport = record p.transport { received = bytes_counted p.transport.received bytes } }
 
--- the streams of an association are handed a moment
+-- the streams of an association are given a moment
 abbrev pub StreamsTimed : {S : Type 0} → AssociationMeaning S → ℕ → SctpStreams S → Result (Unit {0}) AllocError → SctpStreams S → Type 0
 StreamsTimed m now p r q = (wake : Signals) × TakesTimeout m now p both r q wake
 
--- channels over streams are handed a moment
+-- channels over streams are given a moment
 abbrev pub ChannelsTimed : {S : Type 0} → AssociationMeaning S → Channels → SctpStreams S → Result (Unit {0}) AllocError → Channels
     → SctpStreams S → Type 0
 ChannelsTimed m held p r held' q = (wake : Signals) × MeetsMoment m (is_progress_due m held p) held p both r held' q wake
@@ -76,8 +76,8 @@ module _ {I D S M E X T W N : Type 0} (m : Meanings I D S M E X T W N) where
       m.media.timed p.core.media now (Err MediaAlloc) q.core.media × (q ≡ closed_peer (with_media q.core.media p))
   TimesMedia now p (Err error) q = ⊥
 
-  -- A moment is handed to the ICE agent, the streams, the channels, the media part and the statistics. It stays taken where one of them
-  -- fails, and what comes behind that is left out.
+  -- The ICE agent, the streams, the channels, the media part and the statistics are given a moment. It remains taken if one of them fails,
+  -- and what follows that is left out.
   abbrev pub GivesTime : ℕ → Call (PolledPeer I D S M N)
   GivesTime now p r q =
       InTurn (TimesIce now) (InTurn (TimesStreams now) (InTurn TimesChannels (InTurn (TimesMedia now) (TimesStatistics m now))))
@@ -91,7 +91,7 @@ module _ {I D S M E X T W N : Type 0} (m : Meanings I D S M E X T W N) where
   abbrev pub TakesTime : ℕ → PolledPeer I D S M N → Result (Unit {0}) RtcError → PolledPeer I D S M N → Type 0
   TakesTime now p r q = TakesTimeIf (nat_lt now p.core.greatest) now p r q
 
-  -- a message is handed to the ICE agent
+  -- the ICE agent is given a message
   unfoldable pub HearsStun : ℕ → Receive → List ℕ → PolledPeer I D S M N → Result (Unit {0}) RtcError → PolledPeer I D S M N
       → Type 0
   HearsStun now datagram bytes p (Ok done) q =
@@ -102,7 +102,7 @@ module _ {I D S M E X T W N : Type 0} (m : Meanings I D S M E X T W N) where
       × (q ≡ closed_peer (with_ice q.core.ice p))
   HearsStun now datagram bytes p (Err error) q = ⊥
 
-  -- a packet is handed to the DTLS connection
+  -- the DTLS connection is given a packet
   unfoldable pub HearsDtls : List ℕ → PolledPeer I D S M N → Result (Unit {0}) RtcError → PolledPeer I D S M N → Type 0
   HearsDtls bytes p (Ok done) q =
       HandsOn m.dtls p.core.dtls p.core.dtls.active (λ i r j. m.dtls.given i bytes r j) (Ok tt) q.core.dtls
@@ -116,7 +116,7 @@ module _ {I D S M E X T W N : Type 0} (m : Meanings I D S M E X T W N) where
       × (q ≡ closed_peer (with_received bytes (with_dtls q.core.dtls p)))
   HearsDtls bytes p (Err error) q = ⊥
 
-  -- a packet of a kind is handed to the media part
+  -- the media part is given a packet of a kind
   unfoldable pub HearsMedia : (M → Result (Unit {0}) AllocError → M → Type 0) → List ℕ → PolledPeer I D S M N
       → Result (Unit {0}) RtcError → PolledPeer I D S M N → Type 0
   HearsMedia given bytes p (Ok done) q = given p.core.media (Ok tt) q.core.media × (q ≡ with_received bytes (with_media q.core.media p))
@@ -125,7 +125,7 @@ module _ {I D S M E X T W N : Type 0} (m : Meanings I D S M E X T W N) where
       × (q ≡ closed_peer (with_received bytes (with_media q.core.media p)))
   HearsMedia given bytes p (Err error) q = ⊥
 
-  -- a datagram is handed to the part of its kind
+  -- a datagram is given to the part of its kind
   abbrev pub HearsKind : ℕ → Receive → DatagramRecv → PolledPeer I D S M N → Result (Unit {0}) RtcError → PolledPeer I D S M N
       → Type 0
   HearsKind now datagram (datagrams.Stun view) p r q = HearsStun now datagram view.bytes.now p r q
@@ -133,7 +133,7 @@ module _ {I D S M E X T W N : Type 0} (m : Meanings I D S M E X T W N) where
   HearsKind now datagram (datagrams.Rtp bytes) p r q = HearsMedia (λ a r b. m.media.rtp_given a now bytes.now r b) bytes.now p r q
   HearsKind now datagram (datagrams.Rtcp bytes) p r q = HearsMedia (λ a r b. m.media.rtcp_given a now bytes.now r b) bytes.now p r q
 
-  -- A datagram is handed to its part, and then its moment is taken. Where the part fails, it is not.
+  -- A datagram is given to its part, and then its moment is taken. If the part fails, it is not.
   pub data Hears (now : ℕ) (datagram : Receive) (p : PolledPeer I D S M N) (r : Result (Unit {0}) RtcError)
       (q : PolledPeer I D S M N) : Type 0 where
     Heard : (between : PolledPeer I D S M N) → HearsKind now datagram datagram.contents p (Ok tt) between → TakesTime now between r q
@@ -150,6 +150,6 @@ module _ {I D S M E X T W N : Type 0} (m : Meanings I D S M E X T W N) where
   HandlesInputIn Closing input p r q = HandlesInputBy input p r q
   HandlesInputIn Closed input p r q = (r ≡ Ok tt) × (q ≡ p)
 
-  -- An input is handed to the parts; a closed peer ignores it.
+  -- The parts are given an input; a closed peer ignores it.
   abbrev pub HandlesInput : Input → PolledPeer I D S M N → Result (Unit {0}) RtcError → PolledPeer I D S M N → Type 0
   HandlesInput input p r q = HandlesInputIn p.core.phase input p r q

@@ -20,17 +20,17 @@ KeepsNegotiation p q =
       sctp = q.core.sctp;
     }
 
--- what session descriptions tell of the streams: the longest message that this side takes, and what is kept of their start
+-- what session descriptions carry of the streams: the longest message that this side takes, and what is kept of SNAP
 abbrev pub told_of_streams : {S : Type 0} → SctpStreams S → ℕ × KeptHalves
 told_of_streams s = (s.local_max, s.snap)
 
--- a started association stays so, and one that is not stays so too, with no stream in use where none was
+-- a started association remains started, and one that is not remains so too, with no stream in use if none was
 pub record KeepsStart {S : Type 0} (m : AssociationMeaning S) (p q : SctpStreams S) : Type 0 where
   pub started : m.started p.association ≡ true → m.started q.association ≡ true
   pub unstarted : m.started p.association ≡ false → (m.started q.association ≡ false) × (p.entries ≡ [] → q.entries ≡ [])
 
--- the settings of the ICE agent stay, and so do the DTLS role, the fingerprint of this side, the longest message that it takes, what is
--- kept of starts by session descriptions, the lines of the media part, and whether the association is started
+-- unchanged are the settings of the ICE agent, the DTLS role, the fingerprint of this side, the longest message that it takes, what is kept
+-- of SNAP, the lines of the media part, and whether the association is started
 abbrev pub KeepsParts : {I D S M E X T W N : Type 0} → Meanings I D S M E X T W N → PolledPeer I D S M N → PolledPeer I D S M N → Type 0
 KeepsParts m p q =
     (m.ice.settings q.core.ice ≡ m.ice.settings p.core.ice)

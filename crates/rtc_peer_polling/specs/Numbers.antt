@@ -7,7 +7,7 @@ use Rattle.rtc_peer_transport.specs.declared.event.Event.TheVariants.{ChannelOpe
 use Rattle.rtc_peer_transport.specs.declared.output.Output.{Output}
 use Rattle.rtc_peer_transport.specs.declared.output.Output.TheVariants as outputs
 
--- the number of the channel that an answer of a poll tells to be open, if any
+-- the number of the channel that a result of a poll reports as open, if any
 abbrev pub number_told : {E : Type 0} → Result (Output E) RtcError → Option ℕ
 number_told (Ok (outputs.Event (ChannelOpen id label))) = Some id
 number_told (Ok output) = None
@@ -18,8 +18,9 @@ abbrev pub AreUnconfirmed : ℕ → List Channel → Type 0
 AreUnconfirmed id [] = Unit {0}
 AreUnconfirmed id (channel ∷ rest) = (has_id id channel ≡ true → channel.confirmed ≡ false) × AreUnconfirmed id rest
 
--- The numbers of channels before and after a call that told this one. A number is given, and a row is new, where it is told, if at
--- all, and each number that is told was given. Rows whose numbers rise, each below those not given yet, stay so. No channel is confirmed.
+-- The numbers of channels before and after a call that reported this one. A number is given, and a row is new, if it is reported, if at
+-- all, and each number that is reported was given. Rows whose numbers rise, each below those not given yet, stay so. No channel is
+-- confirmed.
 pub record ChannelNumbers (told : Option ℕ) (held held' : Channels) : Type 0 where
   pub rises : held.given ≤ held'.given
   pub unless_told : told ≡ None → held'.given ≡ held.given

@@ -35,13 +35,13 @@ IsShortTransmit (event.Data stream binary bytes) = Unit {0}
 IsShortTransmit (event.BufferedAmountLow stream) = Unit {0}
 IsShortTransmit event.AssociationLost = Unit {0}
 
--- what is left of a list, where something is
+-- what is left of a list, if something is
 abbrev pub left_over : List (List ℕ) → Option (List (List ℕ))
 left_over [] = None
 left_over (packet ∷ packets) = Some (packet ∷ packets)
 
 module _ {I D S M E N : Type 0} where
-  -- A stream is open. It is given a channel where it has none, and that is told; where no number is left for one, nothing is.
+  -- A stream is open. It is given a channel if it has none, and that is reported; if channel numbers are exhausted, nothing is.
   unfoldable pub OpensChannelOver : (stream : ℕ) → (label : List ℕ) → Stage (PolledPeer I D S M N) E
   OpensChannelOver stream label p (Event (ChannelOpen id text)) q =
       (text ≡ label)
@@ -53,14 +53,14 @@ module _ {I D S M E N : Type 0} where
   OpensChannelOver stream label p (Error Alloc) q = q ≡ closed_peer p
   OpensChannelOver stream label p r q = ⊥
 
-  -- A stream is closed, and with it its channel: the row goes, and the stream is held while its reset is pending. A stream without
-  -- a channel is passed over.
+  -- A stream is closed, and with it its channel: the row is removed, and the stream is held while its reset is pending. A stream without a
+  -- channel is passed over.
   abbrev pub ClosesChannelOver : Option ℕ → (pending : Bool) → Stage (PolledPeer I D S M N) E
   ClosesChannelOver (Some id) pending p r q =
       (r ≡ Event (ChannelClose id)) × (q ≡ with_channels (removed_channel id pending p.core.channels) p)
   ClosesChannelOver None pending p r q = (r ≡ Again) × (q ≡ p)
 
-  -- a message came on a stream
+  -- a message was received on a stream
   abbrev pub HearsChannelOver : Option ℕ → (binary : Bool) → List ℕ → Stage (PolledPeer I D S M N) E
   HearsChannelOver (Some id) binary bytes p r q =
       (r ≡ Event (ChannelData (record { id = id; binary = binary; bytes = bytes }))) × (q ≡ p)
@@ -72,7 +72,7 @@ module _ {I D S M E N : Type 0} where
   FallsChannelOver None p r q = (r ≡ Again) × (q ≡ p)
 
 module _ {I D S M E X T W N : Type 0} (m : Meanings I D S M E X T W N) where
-  -- the association is lost: no stream is held any more, closing begins, unless it has, and this is told each time
+  -- the association is lost: no stream is held any more, closing begins, unless it has, and this is reported each time
   unfoldable pub LosesAssociation : Stage (PolledPeer I D S M N) E
   LosesAssociation p (Event ClosedEvent) q = ClosesPeer m (with_channels (holds_lost p.core.channels) p) (Ok tt) q
   LosesAssociation p (Error error) q = ClosesPeer m (with_channels (holds_lost p.core.channels) p) (Err error) q
@@ -90,7 +90,7 @@ module _ {I D S M E X T W N : Type 0} (m : Meanings I D S M E X T W N) where
   TakesStreamEvent (event.BufferedAmountLow stream) p r q = FallsChannelOver (channel_over stream p.core.channels) p r q
   TakesStreamEvent event.AssociationLost p r q = LosesAssociation p r q
 
-  -- what becomes of the answer of their poll; running out of memory closes the peer
+  -- what becomes of the result of their poll; running out of memory closes the peer
   abbrev pub TakesStreamAnswer : Result (Option SctpEvent) AllocError → Stage (PolledPeer I D S M N) E
   TakesStreamAnswer (Ok None) p r q = (r ≡ Nothing) × (q ≡ p)
   TakesStreamAnswer (Ok (Some told)) p r q = TakesStreamEvent told p r q
@@ -103,12 +103,12 @@ module _ {I D S M E X T W N : Type 0} (m : Meanings I D S M E X T W N) where
     pub by_poll : PollsStreams m.association p.core.sctp answer streams
     pub by_answer : TakesStreamAnswer answer (with_sctp streams p) r q
 
-  -- the streams are polled up to an event that is told, packets, or nothing
+  -- the streams are polled up to an event that is reported, packets, or nothing
   abbrev pub PollsStreamEvents : Stage (PolledPeer I D S M N) E
   PollsStreamEvents = RepeatsStage PollsStreamEvent
 
-  -- A packet is sent over the DTLS connection, and the walk starts over. It comes back where no application data can go yet. One
-  -- that the connection refuses by a fault is dropped, and the fault is answered unless the peer is closing.
+  -- A packet is sent over the DTLS connection, and the walk starts over. It is pushed back if no application data can be sent yet. One that
+  -- the connection refuses by a fault is dropped, and the fault is returned unless the peer is closing.
   unfoldable pub SendsPacket : List ℕ → (rest : List (List ℕ)) → Stage (PolledPeer I D S M N) E
   SendsPacket packet rest p Nothing q =
       (can_send m.dtls p.core.dtls ≡ false) × (q ≡ with_pushed (Some (packet ∷ rest)) p)
@@ -137,6 +137,6 @@ module _ {I D S M E X T W N : Type 0} (m : Meanings I D S M E X T W N) where
   abbrev pub SendsKeptPackets : Stage (PolledPeer I D S M N) E
   SendsKeptPackets p r q = SendsFirst p.core.sctp.pushed (with_pushed None p) r q
 
-  -- the streams: events up to one that is told, or packets for the other end
+  -- the streams: events up to one that is reported, or packets for the other end
   unfoldable pub TellsStreams : Stage (PolledPeer I D S M N) E
   TellsStreams = FollowedBy PollsStreamEvents SendsKeptPackets

@@ -1,4 +1,4 @@
--- What a poll answers: the first thing that the parts give, in one order, or the least deadline.
+-- What a poll returns: the first thing that the parts give, in one order, or the least deadline.
 use Rattle.std.specs.Prelude.{if◌then◌else◌, ◌≡◌, ◌-◌, ◌^◌, Bool, true, false, Result, Ok, Err}
 use Rattle.rtc_part_values.specs.declared.reason.Reason.{Reason}
 use Rattle.rtc_part_values.specs.declared.reason.Reason.TheVariants.{NotHappening}
@@ -22,7 +22,7 @@ use Rattle.rtc_peer_transport.specs.Statistics.{TellsStatistics}
 use Rattle.rtc_peer_polling.specs.StreamStages.{TellsStreams}
 use Rattle.rtc_peer_transport.specs.Stages.{Stage, FollowedBy, RepeatsStage}
 
--- the peer that answered a timeout for a reason
+-- the peer that returned a timeout for a reason
 abbrev pub with_reason : {I D S M N : Type 0} → Reason → PolledPeer I D S M N → PolledPeer I D S M N
 with_reason reason p = record p { transport = record p.transport { last_reason = reason } }
 
@@ -30,16 +30,16 @@ with_reason reason p = record p { transport = record p.transport { last_reason =
 abbrev pub Rests : {I D S M E N : Type 0} → PolledPeer I D S M N → Result (Output E) RtcError → PolledPeer I D S M N → Type 0
 Rests p answer q = (answer ≡ Ok (Timeout (2 ^ 64 - 1))) × (q ≡ with_reason NotHappening p)
 
--- a walk over the parts starts over where it ends with a moment of DTLS that has come
+-- a walk over the parts starts over if it ends with a moment of DTLS that is reached
 abbrev pub StartsOverWhenDue : {I D S M E N : Type 0} → Stage (PolledPeer I D S M N) E
 StartsOverWhenDue p r q = (r ≡ (if is_dtls_due p then Again else Nothing)) × (q ≡ p)
 
 module _ {I D S M E X T W N : Type 0} (m : Meanings I D S M E X T W N) where
-  -- the connection: events of ICE, a moment of DTLS that has come, outputs of DTLS, the end of the handshake
+  -- the connection: events of ICE, a moment of DTLS that is reached, outputs of DTLS, the end of the handshake
   unfoldable pub TellsConnection : Stage (PolledPeer I D S M N) E
   TellsConnection = FollowedBy (PollsIceEvents m) (FollowedBy (TimesDtls m) (FollowedBy (PollsDtlsOutputs m) TellsConnected))
 
-  -- what else is told: events of media, those first that cannot fail, and statistics
+  -- what else is reported: events of media, those first that cannot fail, and statistics
   unfoldable pub TellsArrivals : Stage (PolledPeer I D S M N) E
   TellsArrivals = FollowedBy (TellsMedia m) (FollowedBy (TellsFallibleMedia m) TellsStatistics)
 
@@ -56,11 +56,11 @@ module _ {I D S M E X T W N : Type 0} (m : Meanings I D S M E X T W N) where
   WaitsIf true p answer q = Rests (closed_peer p) answer q
   WaitsIf false p answer q = (answer ≡ Ok (Timeout (wake_moment m p))) × (q ≡ with_reason (least_deadline m p).1 p)
 
-  -- Where nothing was met, the least deadline is answered; a closing that is complete leaves the peer closed.
+  -- If nothing was met, the least deadline is returned; a closing that is complete leaves the peer closed.
   abbrev pub Waits : PolledPeer I D S M N → Result (Output E) RtcError → PolledPeer I D S M N → Type 0
   Waits p answer q = WaitsIf (is_closing_complete m p) p answer q
 
-  -- the answer to what was met
+  -- the result for what was met
   abbrev pub AnswersMet : Met E → PolledPeer I D S M N → Result (Output E) RtcError → PolledPeer I D S M N → Type 0
   AnswersMet Nothing p answer q = Waits p answer q
   AnswersMet Again p answer q = ⊥

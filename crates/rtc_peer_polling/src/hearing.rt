@@ -140,8 +140,8 @@ fn hear_kind<I: IceAgent, D: DtlsInstance, S: Association, M: MediaSession, N: I
     }
 }
 
-/// Takes a moment or a datagram. A moment before the greatest that was taken changes no time; a datagram goes to its
-/// part, and its moment is taken where the part does not fail. A closed peer ignores every input.
+/// Takes a moment or a datagram. A moment before the greatest that was taken changes no time. A datagram is given to
+/// its part, and its moment is taken if the part does not fail. A closed peer ignores every input.
 pub fn handle_input<I: IceAgent, D: DtlsInstance, S: Association, M: MediaSession, N: Ids>(
     peer: &mut PolledPeer<I, D, S, M, N>,
     input: &Input<'_>,

@@ -30,9 +30,9 @@ pub fn negotiation_is_kept<I: IceAgent, D: DtlsInstance, S: Association, M: Medi
         → ClosesPeer (meanings I.ice D.dtls S.association M.media N.ids) p answer q → KeepsNegotiation p q }
 {}
 
-/// Polls, inputs and closing leave all that negotiation reads of a peer but for the channels: beside what it keeps, the settings
-/// of the ICE agent, the DTLS role, the fingerprint of this side, the longest message that it takes, whether the association is
-/// started, and what is kept of starts by session descriptions.
+/// Polls, inputs and closing leave all that negotiation reads of a peer but for the channels: beside what it keeps, the
+/// settings of the ICE agent, the DTLS role, the fingerprint of this side, the longest message, whether the association
+/// is started, and SNAP.
 pub fn stance_is_kept<I: IceAgent, D: DtlsInstance, S: Association, M: MediaSession, N: Ids>()
     ensures polls { (p q : Polled I D S M N) (answer : _)
         → PollsPeer (meanings I.ice D.dtls S.association M.media N.ids) p answer q
@@ -80,7 +80,7 @@ pub fn want_of_memory_closes<
         → ClosesPeer (meanings I.ice D.dtls S.association M.media N.ids) p (Err Alloc) q → q.core.phase ≡ Closed }
 {}
 
-/// Channel numbers rise over polls, inputs and closing: a poll gives one at most, and tells it.
+/// Channel numbers rise over polls, inputs and closing: a poll gives one at most, and reports it.
 pub fn channels_are_numbered<
     I: IceAgent,
     D: DtlsInstance,

@@ -1,4 +1,4 @@
-//! Polls and inputs: what a peer takes from its parts, in one order, what it sends, and what it hands to them.
+//! Polls and inputs: what a peer takes from its parts, in one order, what it sends, and what it gives them.
 #![tactic(auto)]
 
 mod checking;

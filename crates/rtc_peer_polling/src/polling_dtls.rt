@@ -15,7 +15,7 @@ use rtc_peer_core::{Phase, RtcError};
 use rtc_peer_transport::{Event, Handshake, Met, PolledPeer, close_out_of_memory};
 use rtc_wire::Moment;
 
-/// Whether a moment that was asked for has come.
+/// Whether a moment that was asked for is reached.
 pub fn has_come(moment: Moment, greatest: Moment) -> bool
     ensures { result ≡ is_past moment greatest }
 {
@@ -40,7 +40,7 @@ fn silence(handshake: Handshake) -> Handshake
     }
 }
 
-/// Hands a moment that the DTLS part asked for, and that has come, to it.
+/// Gives the DTLS part a moment that it asked for, and that is reached.
 #[tactic(auto, using(crate::proofs::DtlsTurns::given_when_due), unfolding(crate::specs::DtlsStages::GivesDtlsTime))]
 pub fn time_dtls<I: IceAgent, D: DtlsInstance, S: Association, M: MediaSession, N: Ids>(
     peer: &mut PolledPeer<I, D, S, M, N>,

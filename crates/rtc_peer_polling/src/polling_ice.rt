@@ -9,7 +9,7 @@ use rtc_part_media::MediaSession;
 use rtc_part_values::Ids;
 use rtc_peer_transport::{Event, Met, PolledPeer, SendAddr};
 
-// An event is told or kept.
+// An event is reported or kept.
 fn take_ice_event<I: IceAgent, D: DtlsInstance, S: Association, M: MediaSession, N: Ids>(
     peer: &mut PolledPeer<I, D, S, M, N>,
     event: Option<IceEvent>,
@@ -41,7 +41,7 @@ fn take_ice_event<I: IceAgent, D: DtlsInstance, S: Association, M: MediaSession,
     }
 }
 
-/// Polls events of the agent up to one that is told.
+/// Polls events of the agent up to one that is reported.
 pub fn poll_ice_events<I: IceAgent, D: DtlsInstance, S: Association, M: MediaSession, N: Ids>(
     peer: &mut PolledPeer<I, D, S, M, N>,
 ) -> Met<M::E>

@@ -10,7 +10,7 @@ use rtc_part_values::Ids;
 use rtc_peer_core::RtcError;
 use rtc_peer_transport::{Event, Met, PolledPeer, close_out_of_memory};
 
-/// Tells the next event that cannot fail.
+/// Reports the next event that cannot fail.
 #[tactic(auto, unfolding(crate::specs::MediaStages::TellsMedia))]
 pub fn tell_media<I: IceAgent, D: DtlsInstance, S: Association, M: MediaSession, N: Ids>(
     peer: &mut PolledPeer<I, D, S, M, N>,
@@ -23,7 +23,7 @@ pub fn tell_media<I: IceAgent, D: DtlsInstance, S: Association, M: MediaSession,
     }
 }
 
-/// Tells the next event whose making may fail.
+/// Reports the next event whose making may fail.
 #[tactic(auto, unfolding(crate::specs::MediaStages::TellsFallibleMedia))]
 pub fn tell_fallible_media<I: IceAgent, D: DtlsInstance, S: Association, M: MediaSession, N: Ids>(
     peer: &mut PolledPeer<I, D, S, M, N>,

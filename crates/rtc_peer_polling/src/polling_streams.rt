@@ -87,7 +87,7 @@ fn take_stream_event<I: IceAgent, D: DtlsInstance, S: Association, M: MediaSessi
     }
 }
 
-/// Polls the streams up to an event that is told, or packets, which are kept to be sent.
+/// Polls the streams up to an event that is reported, or packets, which are kept to be sent.
 pub fn poll_stream_events<I: IceAgent, D: DtlsInstance, S: Association, M: MediaSession, N: Ids>(
     peer: &mut PolledPeer<I, D, S, M, N>,
 ) -> Met<M::E>

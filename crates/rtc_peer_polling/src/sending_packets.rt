@@ -13,7 +13,7 @@ use rtc_peer_transport::{Met, PolledPeer, close_out_of_memory, is_closing};
 use rtc_sctp::RtcSctp;
 use rtc_wire::{Bytes, Seq};
 
-// Packets behind the first come back, where there are any.
+// Packets behind the first are pushed back, if there are any.
 fn keep_rest<S: Association>(sctp: &mut RtcSctp<S>, mut packets: Vec<Bytes>)
     requires first { 0 < length packets.items }
     requires none { sctp.old.pushed ≡ None }

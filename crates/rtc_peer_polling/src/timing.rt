@@ -1,4 +1,4 @@
-//! Moments that the streams and the channels are handed.
+//! Moments that the streams and the channels are given.
 ghost use Rattle.rtc_peer_polling.specs.Inputs.{StreamsTimed, ChannelsTimed};
 
 use rtc_channels::ChannelHandler;
@@ -8,7 +8,7 @@ use rtc_sctp::RtcSctp;
 use rtc_wire::Moment;
 use std::alloc::AllocError;
 
-/// Hands a moment to the association and the streams over it. A poll visits every part, so that no mark of the wake is kept.
+/// Gives the association and the streams over it a moment. A poll visits every part, so that no mark of the wake is kept.
 pub(crate) fn time_sctp<S: Association>(
     sctp: &mut RtcSctp<S>,
     now: Moment,

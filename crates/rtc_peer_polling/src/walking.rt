@@ -28,7 +28,7 @@ fn empty_buffer() -> [u8; DATAGRAM_MAX_PACKET_SIZE]
     [0u8; DATAGRAM_MAX_PACKET_SIZE]
 }
 
-// A walk starts over where a moment that the DTLS part asked for has come.
+// A walk starts over if a moment that the DTLS part asked for is reached.
 fn again_when<E>(due: bool) -> Met<E>
     ensures { result ≡ (if due then Again else Nothing) }
 {
@@ -168,8 +168,8 @@ fn walk_parts<I: IceAgent, D: DtlsInstance, S: Association, M: MediaSession, N: 
     }
 }
 
-/// The first thing that the peer has to give: events and datagrams, or the moment at which a timeout is wanted as
-/// input. It is called until it answers a timeout, after each input and each other call.
+/// The next event or datagram, or, if there is none, the moment of a timeout. After every call on a peer, it is called
+/// until it returns a timeout.
 pub fn poll_output<I: IceAgent, D: DtlsInstance, S: Association, M: MediaSession, N: Ids>(
     peer: &mut PolledPeer<I, D, S, M, N>,
 ) -> Result<Output<M::E>, RtcError>

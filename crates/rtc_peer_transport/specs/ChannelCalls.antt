@@ -28,12 +28,11 @@ is_phase_open Closed = false
 abbrev pub stream_under : ℕ → Channels → Option ℕ
 stream_under id held = stream_of_channel id (map numbered_stream held.rows)
 
--- a stream, where it is open
+-- a stream, if it is open
 abbrev pub if_open : {S : Type 0} → SctpStreams S → ℕ → Option ℕ
 if_open p stream = if is_open_stream stream p then Some stream else None
 
--- the stream of a channel that is open: there is none where the peer is closing or closed, where no stream was given to the channel,
--- and where that is not open
+-- the stream of an open channel: there is none if the peer is closing or closed, if the channel has no stream, and if that is not open
 abbrev pub open_stream_under : {I D S M N : Type 0} → ℕ → PolledPeer I D S M N → Option ℕ
 open_stream_under id p =
     if is_phase_open p.core.phase then option_and_then (if_open p.core.sctp) (stream_under id p.core.channels) else None
@@ -79,12 +78,12 @@ module _ {I D S M E X T W N : Type 0} (m : Meanings I D S M E X T W N) where
       × (r ≡ write_taken answer)
       × (q ≡ with_sctp q.core.sctp p)
 
-  -- A message is written to the stream of a channel. It is not taken exactly where it is longer than what is available.
+  -- A message is written to the stream of a channel. It is not taken exactly if it is longer than what is available.
   abbrev pub WritesChannel : (stream : ℕ) → (binary : Bool) → List ℕ → PolledPeer I D S M N → Result Bool RtcError → PolledPeer I D S M N
       → Type 0
   WritesChannel stream binary bytes p r q = WritesIf (nat_lt (bytes_available p) (length bytes)) stream binary bytes p r q
 
-  -- A channel is closed: its stream is, if it has one. The channel keeps its row until a poll tells that it is closed.
+  -- A channel is closed: its stream is, if it has one. The channel keeps its row until a poll reports that it is closed.
   abbrev pub ClosesDataChannel : (id : ℕ) → PolledPeer I D S M N → Result (Unit {0}) AllocError → PolledPeer I D S M N → Type 0
   ClosesDataChannel id p r q =
       ClosesChannel m.association (stream_under id p.core.channels) p.core.sctp r q.core.sctp × (q ≡ with_sctp q.core.sctp p)

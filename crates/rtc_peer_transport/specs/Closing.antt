@@ -38,7 +38,7 @@ module _ {I D S M E X T W N : Type 0} (m : Meanings I D S M E X T W N) where
       m.media.rtp_shut p.core.media (Err alloc_error) q.core.media × (q ≡ closed_peer (with_media q.core.media p))
   ShutsMedia p (Err error) q = ⊥
 
-  -- the association is shut down (RFC 9260, section 9.2), where it is not yet
+  -- the association is shut down (RFC 9260, section 9.2), if it is not yet
   unfoldable pub ShutsStreams : Call (PolledPeer I D S M N)
   ShutsStreams p (Ok done) q = Shuts m.association p.core.sctp (Ok tt) q.core.sctp × (q ≡ with_sctp q.core.sctp p)
   ShutsStreams p (Err (Sctp cause)) q =

@@ -10,7 +10,7 @@ use Rattle.rtc_peer_transport.specs.declared.handshake.Handshake.TheVariants.{Pe
 use Rattle.rtc_peer_transport.specs.declared.transport.Transport.{Transport}
 use Rattle.rtc_peer_transport.specs.declared.polled_peer.PolledPeer.{PolledPeer}
 
--- no report yet, with an interval, where there is one
+-- no report yet, with an interval, if there is one
 abbrev pub first_stats : Option ℕ → Option Reporting
 first_stats None = None
 first_stats (Some interval) = Some (record { interval = interval; last = None; events = [] })
@@ -40,7 +40,7 @@ with_dtls dtls p = record p { core = record p.core { dtls = dtls } }
 abbrev pub with_media : {I D S M N : Type 0} → M → PolledPeer I D S M N → PolledPeer I D S M N
 with_media media p = record p { core = record p.core { media = media } }
 
--- the peer with other streams or channels, or with other packets that came back
+-- the peer with other streams or channels, or with other packets that were pushed back
 abbrev pub with_sctp : {I D S M N : Type 0} → SctpStreams S → PolledPeer I D S M N → PolledPeer I D S M N
 with_sctp sctp p = record p { core = record p.core { sctp = sctp } }
 

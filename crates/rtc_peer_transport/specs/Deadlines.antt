@@ -19,13 +19,13 @@ wanted_for reason None = None
 wanted_for reason (Some moment) = Some (moment, reason)
 
 module _ {I D S M E X T W N : Type 0} (m : Meanings I D S M E X T W N) where
-  -- the least deadline of DTLS, ICE and media. DTLS has one always: it asks for the moment of what is not to happen where it wants none
+  -- the least deadline of DTLS, ICE and media. DTLS has one always: if it wants none, it asks for the moment of what is not to happen
   abbrev pub transport_deadline : PolledPeer I D S M N → ℕ × Reason
   transport_deadline p =
       sooner (sooner (p.transport.dtls_wake, DTLS) (wanted_for Ice (m.ice.wake p.core.ice))) (m.media.wake p.core.media)
 
-  -- The least deadline, with its reason. Of equal ones that of DTLS comes first, then that of ICE, of media, of the association with
-  -- its streams, of the channels, and of the statistics.
+  -- The least deadline, with its reason. Of equal ones that of DTLS is first, then that of ICE, of media, of the association with its
+  -- streams, of the channels, and of the statistics.
   abbrev pub least_deadline : PolledPeer I D S M N → ℕ × Reason
   least_deadline p =
       sooner

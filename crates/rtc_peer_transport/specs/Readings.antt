@@ -1,4 +1,4 @@
--- What a peer tells of its connection.
+-- What a peer reports of its connection.
 use Rattle.std.specs.Prelude.{◌&&◌, ◌||◌, ◌==◌, Bool, true, false, Option, Some, None}
 use Rattle.std.specs.Str.{bytes_eq}
 use Rattle.rtc_wire.specs.declared.addr.Addr.{Addr}

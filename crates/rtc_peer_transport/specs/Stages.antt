@@ -8,16 +8,16 @@ use Rattle.rtc_peer_transport.specs.declared.met.Met.TheVariants.{Nothing, Again
 abbrev pub Stage : Type 0 → Type 0 → Type 1
 Stage P E = P → Met E → P → Type 0
 
--- a call that may fail: the peer before, the answer, the peer after
+-- a call that may fail: the peer before, the result, the peer after
 abbrev pub Call : Type 0 → Type 1
 Call P = P → Result (Unit {0}) RtcError → P → Type 0
 
--- the rest follows where the first call did not fail
+-- the rest follows if the first call did not fail
 pub data InTurn {P : Type 0} (first rest : Call P) (p : P) (r : Result (Unit {0}) RtcError) (q : P) : Type 0 where
   Failed : (error : RtcError) → r ≡ Err error → first p (Err error) q → InTurn first rest p r q
   Passed : (between : P) → first p (Ok tt) between → rest between r q → InTurn first rest p r q
 
--- the rest follows where the first stage met nothing
+-- the rest follows if the first stage met nothing
 pub data FollowedBy {P E : Type 0} (first rest : Stage P E) (p : P) (r : Met E) (q : P) : Type 0 where
   Stopped : r ≢ Nothing → first p r q → FollowedBy first rest p r q
   WentOn : (between : P) → first p Nothing between → rest between r q → FollowedBy first rest p r q

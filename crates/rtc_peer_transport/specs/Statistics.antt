@@ -22,12 +22,12 @@ use Rattle.rtc_peer_transport.specs.Stages.{Stage, Call}
 abbrev pub with_stats : {I D S M N : Type 0} → Reporting → PolledPeer I D S M N → PolledPeer I D S M N
 with_stats stats p = record p { transport = record p.transport { stats = Some stats } }
 
--- the moment of the next round, where statistics are reported and a moment is known
+-- the moment of the next round, if statistics are reported and a moment is known
 abbrev pub stats_wake : Option Reporting → Option ℕ
 stats_wake None = None
 stats_wake (Some stats) = next_round stats
 
--- a report as it is told
+-- a report as an event
 abbrev pub event_of_report : {E : Type 0} → StatsEvent → Event E
 event_of_report (reports.Peer stats) = PeerStats stats
 event_of_report (reports.MediaIngress stats) = MediaIngressStats stats
@@ -47,7 +47,7 @@ unfoldable pub TellsStatistics : {I D S M E N : Type 0} → Stage (PolledPeer I 
 TellsStatistics p r q = TellsReportOf p.transport.stats p r q
 
 module _ {M E X T W : Type 0} (m : MediaMeaning M E X T W) where
-  -- a round of reports, to which the media part adds what it has; where memory lacks for that or for the reports, these stay as they were
+  -- a round of reports, to which the media part adds what it has; if memory runs out for that or for the reports, these are unchanged
   abbrev pub ReportsRound : ℕ → StatsSnapshot → Reporting → M → Result (Unit {0}) AllocError → Reporting → M → Type 0
   ReportsRound now gathered stats a (Ok done) stats' b =
       (visited : StatsSnapshot) × m.stats_visited a now gathered (Ok tt) visited b × (stats' ≡ reported stats visited)
@@ -57,7 +57,7 @@ module _ {M E X T W : Type 0} (m : MediaMeaning M E X T W) where
       × m.stats_visited a now gathered answer visited b
       × (stats' ≡ stats)
 
-  -- where no round is due, the first moment is learned
+  -- if no round is due, the first moment is learned
   abbrev pub ReportsIf : (due : Bool) → ℕ → StatsSnapshot → Reporting → M → Result (Unit {0}) AllocError → Reporting → M → Type 0
   ReportsIf false now gathered stats a r stats' b = (r ≡ Ok tt) × (stats' ≡ record stats { last = Some (since stats.last now) }) × (b ≡ a)
   ReportsIf true now gathered stats a r stats' b = ReportsRound now gathered stats a r stats' b
@@ -66,7 +66,7 @@ module _ {M E X T W : Type 0} (m : MediaMeaning M E X T W) where
   Reports now gathered stats a r stats' b = ReportsIf (is_round_due stats.interval stats.last now) now gathered stats a r stats' b
 
 module _ {I D S M E X T W N : Type 0} (m : Meanings I D S M E X T W N) where
-  -- the pair of addresses that ICE nominated, with what the agent tells of its checks
+  -- the pair of addresses that ICE nominated, with what the agent reports of its checks
   abbrev pub pair_stats : Option SendAddr → I → Option CandidatePairStats
   pair_stats None ice = None
   pair_stats (Some sends) ice = Some (record {
@@ -90,7 +90,7 @@ module _ {I D S M E X T W N : Type 0} (m : Meanings I D S M E X T W N) where
     pub pair : s.selected_candidate_pair ≡ pair_stats p.transport.send_addr p.core.ice
     pub timestamp : s.timestamp ≡ now
 
-  -- what becomes of the statistics of a peer and of its media part; want of memory closes the peer
+  -- what becomes of the statistics of a peer and of its media part; running out of memory closes the peer
   abbrev pub TimesReports : Option Reporting → ℕ → Call (PolledPeer I D S M N)
   TimesReports None now p r q = (r ≡ Ok tt) × (q ≡ p)
   TimesReports (Some stats) now p (Ok done) q =
@@ -107,6 +107,6 @@ module _ {I D S M E X T W N : Type 0} (m : Meanings I D S M E X T W N) where
       × (q ≡ closed_peer (with_stats stats' (with_media q.core.media p)))
   TimesReports (Some stats) now p (Err error) q = ⊥
 
-  -- a moment is handed to the statistics
+  -- the statistics are given a moment
   unfoldable pub TimesStatistics : ℕ → Call (PolledPeer I D S M N)
   TimesStatistics now p r q = TimesReports p.transport.stats now p r q

@@ -49,8 +49,7 @@ impl<I: IceAgent, D: DtlsInstance, S: Association, M: MediaSession, N: Ids> Poll
     M,
     N,
 > {
-    /// The stream of a channel that is open. There is none where the peer is closing or closed, where no stream was given to
-    /// the channel, and where that is not open.
+    /// The stream of an open channel. None if the peer is closing or closed, if the channel has no stream, and if that is not open.
     pub fn open_stream_of(&self, id: ChannelId) -> Option<u16>
         ensures { result ≡ open_stream_under id self.now }
     {
@@ -63,7 +62,7 @@ impl<I: IceAgent, D: DtlsInstance, S: Association, M: MediaSession, N: Ids> Poll
         }
     }
 
-    /// What a channel was opened with, where a stream that has it was given to it.
+    /// The config of a channel, if it was given a stream that has one.
     pub fn channel_config(&self, id: ChannelId) -> Option<&ChannelConfig>
         ensures { MatchOption result (config_under (stream_under id self.now.core.channels) self.now.core.sctp ≡ None)
             (λ config. config_under (stream_under id self.now.core.channels) self.now.core.sctp ≡ Some config.now) }
@@ -74,7 +73,7 @@ impl<I: IceAgent, D: DtlsInstance, S: Association, M: MediaSession, N: Ids> Poll
         }
     }
 
-    /// Writes a message to the stream of a channel. It is not taken where it is longer than what is available.
+    /// Writes a message to the stream of a channel. It is not taken if it is longer than what is available.
     pub fn write_channel(&mut self, stream: u16, binary: bool, buf: &[u8]) -> Result<bool, RtcError>
         ensures { WritesChannel (meanings I.ice D.dtls S.association M.media N.ids) stream binary buf.now self.old result self.new }
     {
@@ -84,7 +83,7 @@ impl<I: IceAgent, D: DtlsInstance, S: Association, M: MediaSession, N: Ids> Poll
         write_taken(self.core.sctp.write(stream, binary, buf))
     }
 
-    /// Asks to be told where what the channel of a stream has buffered falls to `n` bytes.
+    /// Asks for a `ChannelBufferedAmountLow` event once the channel of a stream has buffered `n` bytes or fewer.
     pub fn set_threshold(&mut self, stream: u16, n: usize)
         ensures { SetsChannelThreshold stream n self.old self.new }
     {
@@ -93,8 +92,8 @@ impl<I: IceAgent, D: DtlsInstance, S: Association, M: MediaSession, N: Ids> Poll
         }
     }
 
-    /// Closes a channel: its stream is reset, if it has one (RFC 8831, section 6.7). The channel keeps its row until a poll
-    /// tells that it is closed.
+    /// Closes a channel: its stream, if it has one, is reset (RFC 8831, section 6.7). The channel keeps its row until a
+    /// poll reports that it is closed.
     pub fn close_data_channel(&mut self, id: ChannelId) -> Result<(), AllocError>
         ensures { ClosesDataChannel (meanings I.ice D.dtls S.association M.media N.ids) id self.old result self.new }
     {

@@ -1,7 +1,7 @@
 //! Messages of data channels.
 use rtc_wire::{Bytes, ChannelId};
 
-/// A message that came on a data channel.
+/// A received message of a data channel.
 #[derive(Debug, PartialEq, Eq, Drop)]
 pub struct ChannelData {
     pub id: ChannelId,

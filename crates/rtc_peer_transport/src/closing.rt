@@ -25,7 +25,7 @@ pub fn is_closing(phase: Phase) -> bool
     }
 }
 
-/// Closes a peer that ran out of memory, and answers the error that tells of it.
+/// Closes a peer that ran out of memory, and returns that error.
 pub fn close_out_of_memory(phase: &mut Phase) -> RtcError
     ensures closed { phase.new ≡ Closed }
     ensures told { result ≡ Alloc }
@@ -75,8 +75,8 @@ impl<I: IceAgent, D: DtlsInstance, S: Association, M: MediaSession, N: Ids> Poll
         }
     }
 
-    /// Begins to close the peer, which polls then bring to its end: media says goodbye (RFC 3550, section 6.6), the association
-    /// is shut down (RFC 9260, section 9.2), and the DTLS connection is closed (RFC 5246, section 7.2.1). Nothing happens where
+    /// Begins to close the peer, and polls end it. Media says goodbye (RFC 3550, section 6.6), the association is shut
+    /// down (RFC 9260, section 9.2), and the DTLS connection is closed (RFC 5246, section 7.2.1). Nothing happens if
     /// this has begun. An error leaves the peer closed.
     pub fn close(&mut self) -> Result<(), RtcError>
         ensures { ClosesPeer (meanings I.ice D.dtls S.association M.media N.ids) self.old result self.new }

@@ -1,4 +1,4 @@
-//! What a poll tells.
+//! What a poll reports.
 ghost use Rattle.std.specs.Prelude.{◌≡◌};
 ghost use Rattle.std.specs.Option.{option_copied};
 ghost use Rattle.rtc_peer_transport.specs.RawPackets.{raw_packet_of};
@@ -11,7 +11,7 @@ use rtc_wire::{ChannelId, Text};
 /// Something that happened at a peer. `E` are the events of its media part.
 #[derive(Debug, PartialEq, Eq, Drop)]
 pub enum Event<E> {
-    /// The DTLS handshake is finished. It is told once.
+    /// The DTLS handshake is finished; reported once.
     Connected,
     IceConnectionStateChange(IceConnectionState),
     /// A channel is open, with its label.

@@ -1,10 +1,10 @@
 //! The DTLS handshake as callers know it.
 
-/// How far the DTLS handshake has come. It never goes back.
+/// The progress of the DTLS handshake. It never goes back.
 #[derive(Clone, Copy, Debug, PartialEq, Eq)]
 pub enum Handshake {
     Pending,
-    /// It is finished, and callers are to be told.
+    /// Finished; not yet reported.
     Finished,
     Told,
 }

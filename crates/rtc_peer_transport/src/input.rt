@@ -1,11 +1,11 @@
-//! What is handed to a peer.
+//! What is given to a peer.
 use rtc_wire::{Moment, Receive};
 
 /// What a peer takes from outside.
 #[derive(Clone, Copy, Debug, PartialEq, Eq)]
 pub enum Input<'a> {
-    /// A moment has come.
+    /// A moment.
     Timeout(Moment),
-    /// A datagram came at a moment.
+    /// A datagram received at a moment.
     Receive(Moment, Receive<'a>),
 }

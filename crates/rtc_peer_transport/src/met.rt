@@ -3,7 +3,7 @@ use crate::Event;
 use rtc_peer_core::RtcError;
 use rtc_wire::Transmit;
 
-/// What one stage of a poll met. It cannot be a timeout: that is answered where every stage met nothing.
+/// What one stage of a poll met; never a timeout, which a poll returns if every stage met nothing.
 #[derive(Drop)]
 pub enum Met<E> {
     Nothing,

@@ -1,11 +1,11 @@
-//! What a poll answers.
+//! What a poll returns.
 use crate::Event;
 use rtc_wire::{Moment, Transmit};
 
-/// What a poll answers: the first thing that the peer has to give.
+/// What a poll returns: the next event or datagram, or the moment of a timeout.
 #[derive(Debug, PartialEq, Eq, Drop)]
 pub enum Output<E> {
-    /// Nothing is left. The moment is when a timeout is wanted as input; `FAR_FUTURE` where none is.
+    /// Nothing is left until this moment, at which a timeout is wanted as input; `FAR_FUTURE` if none is.
     Timeout(Moment),
     /// A datagram to be sent.
     Transmit(Transmit),

@@ -47,7 +47,7 @@ fn leads_to(send_addr: &Option<SendAddr>, addr: &Addr) -> bool
 }
 
 impl<I, D, S, M, N> PolledPeer<I, D, S, M, N> {
-    /// The reason of the last timeout that a poll answered; `NotHappening` before the first.
+    /// The reason of the last timeout that a poll returned; `NotHappening` before the first.
     pub fn last_timeout_reason(&self) -> Reason
         ensures { result ≡ self.now.transport.last_reason }
     {
@@ -81,9 +81,9 @@ impl<I: IceAgent, D: DtlsInstance, S: Association, M: MediaSession, N: Ids> Poll
         }
     }
 
-    /// Whether an input is for this peer, where several share a socket: a timeout is, and so is a datagram from where
-    /// datagrams go. Of other messages of ICE the agent decides, and other datagrams have to come from a viable candidate
-    /// of the other side.
+    /// Whether an input is for this peer, if several share a socket. A timeout is, and so is a datagram from the
+    /// address that it sends to. The agent decides on other ICE messages. Other datagrams have to be from a viable
+    /// remote candidate.
     pub fn accepts(&self, input: &Input<'_>) -> bool
         ensures { result ≡ is_accepted (meanings I.ice D.dtls S.association M.media N.ids) self.now input.now }
     {

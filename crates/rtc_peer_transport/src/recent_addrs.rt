@@ -1,4 +1,4 @@
-//! Addresses from which checks came.
+//! Addresses from which checks were received.
 ghost use Rattle.std.specs.Prelude.{◌≡◌, [], IfOk, length, slice_get};
 ghost use Rattle.std.specs.Option.{option_copied};
 ghost use Rattle.rtc_peer_transport.specs.RecentAddrs.{with_recent};
@@ -11,7 +11,7 @@ use std::marker::Model;
 // How many addresses are kept.
 const KEPT: usize = 20;
 
-/// The last 20 addresses from which ICE checks came, the newest last.
+/// The last 20 addresses from which ICE checks were received, the newest last.
 #[derive(Drop)]
 pub struct RecentAddrs {
     addrs: HeapCircularBuffer<Addr>,
@@ -51,7 +51,7 @@ impl RecentAddrs {
         self.addrs.get(index)
     }
 
-    /// Keeps one more address, in place of the oldest where there are 20.
+    /// Keeps one more address, in place of the oldest if there are 20.
     pub fn push(&mut self, addr: Addr)
         ensures { self.new ≡ with_recent addr self.old }
     {

@@ -1,4 +1,4 @@
-//! Where datagrams go.
+//! The address that datagrams are sent to.
 use rtc_wire::{Addr, Protocol};
 
 /// The pair of addresses that ICE nominated (RFC 8445, section 8.1.1), by which DTLS and media datagrams go.

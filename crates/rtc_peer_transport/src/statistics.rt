@@ -1,4 +1,4 @@
-//! The statistics of a peer: their rounds, and what a poll tells of them.
+//! The statistics of a peer: their rounds, and what a poll reports of them.
 ghost use Rattle.std.specs.Prelude.{◌≡◌};
 ghost use Rattle.rtc_peer_core.specs.Meanings.{meanings};
 ghost use Rattle.rtc_peer_transport.specs.Statistics.{IsGathered, Reports, ReportsRound, TellsStatistics, TimesStatistics};
@@ -64,7 +64,7 @@ impl<I: IceAgent, D: DtlsInstance, S: Association, M: MediaSession, N: Ids> Poll
     M,
     N,
 > {
-    /// Tells the next report.
+    /// Reports the next report.
     #[tactic(auto, unfolding(crate::specs::Statistics::TellsStatistics))]
     pub fn tell_statistics(&mut self) -> Met<M::E>
         ensures { TellsStatistics self.old result self.new }
@@ -102,7 +102,7 @@ impl<I: IceAgent, D: DtlsInstance, S: Association, M: MediaSession, N: Ids> Poll
         }
     }
 
-    /// Hands a moment to the statistics: where a round is due, it is gathered and its reports are queued.
+    /// Gives the statistics a moment: if a round is due, it is gathered, and its reports are queued.
     #[tactic(auto, unfolding(crate::specs::Statistics::TimesStatistics))]
     pub fn time_statistics(&mut self, now: Moment) -> Result<(), RtcError>
         ensures { TimesStatistics (meanings I.ice D.dtls S.association M.media N.ids) now self.old result self.new }

@@ -10,7 +10,7 @@ use std::alloc::{AllocError, Global};
 
 /// What a peer keeps of its connection to the other side, beside its parts.
 pub struct Transport {
-    /// Where DTLS and media datagrams go, once ICE nominated a pair.
+    /// The address that DTLS and media datagrams are sent to, once ICE nominated a pair.
     pub send_addr: Option<SendAddr>,
     pub discovered: RecentAddrs,
     pub handshake: Handshake,
@@ -20,13 +20,13 @@ pub struct Transport {
     pub verifies: bool,
     /// Whether callers send and receive packets in place of samples, so that no writer is lent.
     pub rtp_mode: bool,
-    /// The reason of the last timeout that was answered.
+    /// The reason of the last timeout that was returned.
     pub last_reason: Reason,
-    /// The bytes of the DTLS, RTP and RTCP datagrams that came in, at most `u64::MAX`.
+    /// The bytes of the received DTLS, RTP and RTCP datagrams, at most `u64::MAX`.
     pub received: u64,
     /// The bytes of all datagrams that went out, at most `u64::MAX`.
     pub sent: u64,
-    /// The statistics, where an interval is set.
+    /// The statistics, if an interval is set.
     pub stats: Option<Stats>,
 }
 
@@ -58,7 +58,7 @@ fn first_stats(alloc: Global, interval: Option<Span>) -> Option<Stats>
 }
 
 impl Transport {
-    /// Nothing is known of the other side. Statistics are reported where an interval is given.
+    /// Nothing is known of the other side. Statistics are reported if an interval is given.
     pub fn new(
         alloc: Global,
         verifies: bool,

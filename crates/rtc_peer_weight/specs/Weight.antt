@@ -1,4 +1,4 @@
--- The weight of a peer: as many outputs as its polls can give at most, up to one that is a timeout, where nothing comes in between.
+-- The weight of a peer: as many outputs as its polls can return at most, up to a timeout, if there is no other call between.
 use Rattle.std.specs.Prelude.{ℕ, ◌+◌, ◌*◌, ◌-◌, ◌^◌, ◌≡◌, ◌≤◌, ◌<◌, ◌||◌, ◌⊎◌, if◌then◌else◌, Bool, true, false}
 use Rattle.std.specs.Prelude.{List, [], ◌∷◌, length, Option, Some, None, Ok}
 use Rattle.std.specs.List.{sum_by}
@@ -25,7 +25,7 @@ use Rattle.rtc_peer_transport.specs.declared.polled_peer.PolledPeer.{PolledPeer}
 use Rattle.rtc_peer_polling.specs.DtlsStages.{has_come}
 use Rattle.rtc_peer_polling.specs.Walk.{PollsPeer}
 
--- the credits of an entry by how far its stream has come: an open message has the label and the protocol (RFC 8832, section 5.1)
+-- the credits of an entry by the progress of its stream: an open message has the label and the protocol (RFC 8832, section 5.1)
 abbrev pub credits_in : StreamEntryState → Option ChannelConfig → ℕ
 credits_in AwaitOpen config = 20 + length (config_or_fresh config).label + length (config_or_fresh config).protocol
 credits_in AwaitConfig config = 7
@@ -46,13 +46,13 @@ alive_weight Alive = 128
 alive_weight Closing = 0
 alive_weight Closed = 0
 
--- that the handshake is finished is still to be told
+-- the end of the handshake is still to be reported
 abbrev pub handshake_weight : Handshake → ℕ
 handshake_weight Pending = 0
 handshake_weight Finished = 1
 handshake_weight Told = 0
 
--- how many packets of the association came back
+-- how many packets of the association were pushed back
 abbrev pub packets_pushed : Option (List (List ℕ)) → ℕ
 packets_pushed None = 0
 packets_pushed (Some packets) = length packets
@@ -82,7 +82,7 @@ abbrev pub IsTimely : Input → Type 0
 IsTimely (given.Timeout now) = IsMoment now
 IsTimely (given.Receive now datagram) = IsMoment now
 
--- the handshake is not finished, or that it is was told; a closed peer tells nothing any more
+-- the handshake is not finished, or its end was reported; a closed peer reports nothing any more
 abbrev pub IsHandshakeTold : {I D S M N : Type 0} → PolledPeer I D S M N → Type 0
 IsHandshakeTold p = (handshake_weight p.transport.handshake ≡ 0) ⊎ (p.core.phase ≡ Closed)
 
@@ -100,7 +100,7 @@ module _ {I D S M E X T W N : Type 0} (m : Meanings I D S M E X T W N) where
       + length p.core.dtls.packets
       + (if is_moment_due p then 64 else 0)
 
-  -- what the association holds, with the packets that came back and the credits of the entries
+  -- what the association holds, with the packets that were pushed back and the credits of the entries
   abbrev pub streams_weight : PolledPeer I D S M N → ℕ
   streams_weight p =
       4 * (m.association.units p.core.sctp.association + packets_pushed p.core.sctp.pushed)
@@ -117,8 +117,8 @@ module _ {I D S M E X T W N : Type 0} (m : Meanings I D S M E X T W N) where
       + alive_weight p.core.phase
       + 1
 
-  -- A finer measure, which each output lowers: an entry that is to be closed has one credit less, and that the handshake is finished
-  -- counts while it is still to be told.
+  -- A finer measure, which each output lowers: an entry that is to be closed has one credit less, and the end of the handshake counts while
+  -- it is still to be reported.
   abbrev pub load : PolledPeer I D S M N → ℕ
   load p =
       dtls_weight p
@@ -129,7 +129,7 @@ module _ {I D S M E X T W N : Type 0} (m : Meanings I D S M E X T W N) where
       + alive_weight p.core.phase
       + handshake_weight p.transport.handshake
 
-  -- no threshold stands at a stream and none is asked for, and the greatest moment that was taken is one
+  -- no stream has a threshold and none is asked for, and the greatest moment that was taken is one
   pub record HasNoThreshold (p : Peer I D S M N) : Type 0 where
     pub stands : m.association.has_threshold p.sctp.association ≡ false
     pub asked : thresholds_asked p.sctp.entries ≡ 0

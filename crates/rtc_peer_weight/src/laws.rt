@@ -24,9 +24,9 @@ use rtc_part_ice::IceAgent;
 use rtc_part_media::MediaSession;
 use rtc_part_values::Ids;
 
-/// Each datagram and each event that a poll answers lowers the load of a peer at which no threshold is set, and a timeout does not
-/// raise it. Behind a poll it is told that the handshake is finished, so fewer outputs than the weight come before a timeout or an
-/// error, where nothing comes in between.
+/// Each datagram and each event that a poll returns lowers the load of a peer at which no threshold is set, and a
+/// timeout does not raise it. After a poll the end of the handshake is reported. So fewer outputs than the weight are
+/// returned before a timeout or an error, if there is no other call between.
 pub fn outputs_lower_weight<I: IceAgent, D: DtlsInstance, S: Association, M: MediaSession, N: Ids>()
     ensures polls { (p q : Polled I D S M N) (output : _)
         → HasNoThreshold (meanings I.ice D.dtls S.association M.media N.ids) p.core
@@ -91,7 +91,7 @@ pub fn other_calls_set_no_threshold<
         → HasNoThreshold (meanings I.ice D.dtls S.association M.media N.ids) q }
 {}
 
-/// Other calls leave it told that the handshake is finished, if it was.
+/// After other calls the end of the handshake is still reported, if it was.
 pub fn other_calls_leave_handshakes_told<
     I: IceAgent,
     D: DtlsInstance,

@@ -1,4 +1,4 @@
-//! The weight of a peer: a bound of what its polls put out before one answers a timeout.
+//! The weight of a peer: a bound on what its polls return before a timeout.
 #![tactic(auto)]
 
 mod laws;
