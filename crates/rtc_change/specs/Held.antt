@@ -11,12 +11,12 @@ pub record Held : Type 0 where
   pub remote_creds : Option IceCreds
   -- whether a fingerprint of the other side is known
   pub has_fingerprint : Bool
-  -- whether the association is started, and the text of the other side's chunk where it was started by the chunks of both sides
+  -- whether the association is started, and the other side's SNAP INIT chunk as text, if it was started by both chunks
   -- (draft-hancke-tsvwg-snap)
   pub sctp_inited : Bool
   pub sctp_kept : Option (List ℕ)
 
--- what an answer comes with: the rows that its offer added, whether its offer restarted ICE, and whether it had an `a=sctp-init`
+-- what an answer is judged with: the rows that its offer added, whether its offer restarted ICE, and whether it had an `a=sctp-init`
 pub record Asked : Type 0 where
   pub added : List LineRow
   pub restarts : Bool

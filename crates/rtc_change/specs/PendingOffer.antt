@@ -1,4 +1,4 @@
--- What the side that made an offer keeps until its answer comes, or until it rolls the offer back (RFC 8829, section 5.7).
+-- What an offerer keeps until it accepts the answer, or rolls the offer back (RFC 8829, section 5.7).
 use Rattle.std.specs.Prelude.{ℕ, ◌+◌, List, [], ◌∷◌, Bool, true, false, not, Option, Some, None, filter, is_some}
 use Rattle.std.specs.List.{list_any}
 use Rattle.rtc_wire_text.specs.Fields.{first}
@@ -89,7 +89,7 @@ is_add_app (AddChannel id config) = false
 is_add_app (Direction mid dir) = false
 is_add_app (IceRestart creds keeps) = false
 
--- whether changes add the line of the data channels
+-- whether changes add the m-line of data channels
 abbrev pub contains_add_app : List Change → Bool
 contains_add_app changes = list_any is_add_app changes
 

@@ -22,7 +22,7 @@ use Rattle.rtc_peer_rows.specs.Verdict.{first_of, first_refusal}
 use Rattle.rtc_change.specs.TableAfter.{table_after, new_places, removed_mids}
 use Rattle.rtc_change.specs.WrongLines.{wrong_lines}
 
--- what comes with no token is an offer
+-- a description without a token is an offer
 abbrev pub is_offer : Option Asked → Bool
 is_offer None = true
 is_offer (Some asked) = false
@@ -61,7 +61,7 @@ is_restart (Some known) (Some got) = not (same_creds known got)
 is_restart (Some known) None = false
 is_restart None got = false
 
--- an offer may restart ICE, an answer where its offer did
+-- an offer may restart ICE, an answer if its offer did
 abbrev pub may_restart : Option Asked → Bool
 may_restart None = true
 may_restart (Some asked) = asked.restarts
@@ -73,13 +73,13 @@ unasked_restart may (Some known) (Some got) =
 unasked_restart may (Some known) None = None
 unasked_restart may None got = None
 
--- a certificate can be checked only where a fingerprint was told (RFC 8122, section 5)
+-- a certificate can be checked only if a fingerprint was announced (RFC 8122, section 5)
 abbrev pub no_fingerprint : Bool → Option Fingerprint → Option Refusal
 no_fingerprint false None = Some (RemoteSdp NoFingerprint)
 no_fingerprint false (Some fingerprint) = None
 no_fingerprint true told = None
 
--- a chunk that is told once the association was started by those of both sides is the one that was kept (draft-hancke-tsvwg-snap)
+-- once the association was started by both SNAP INIT chunks, a description carries the chunk that was kept (draft-hancke-tsvwg-snap)
 abbrev pub changed_init : List ℕ → Option (List ℕ) → Option Refusal
 changed_init kept None = Some (RemoteSdp (SctpInitMissing kept))
 changed_init kept (Some got) = if bytes_eq kept got then None else Some (RemoteSdp (SctpInitChanged kept got))
@@ -89,7 +89,7 @@ init_refusal true (Some kept) told = changed_init kept told
 init_refusal true None told = None
 init_refusal false kept told = None
 
--- whether the chunk that is told may start the association: it is not started, and an answer's offer told one too
+-- whether the chunk of a description may start the association: it is not started, and an answer's offer carried one too
 abbrev pub may_take_init : Option Asked → Bool
 may_take_init None = true
 may_take_init (Some asked) = asked.says_init
@@ -97,7 +97,7 @@ may_take_init (Some asked) = asked.says_init
 abbrev pub takes_init : (inited may : Bool) → Option (List ℕ) → Bool
 takes_init inited may told = not inited && (may && is_some told)
 
--- the refusal of what a session description tells of its side: how it is reached and known
+-- the refusal of what a session description says of its side: how it is reached and known
 unfoldable pub side_verdict : Held → Bool → Sdp → Option Refusal
 side_verdict held may sdp =
     first_of (
@@ -129,7 +129,7 @@ verdict held asked sdp =
     ∷ []
     )
 
--- what an offer or an answer does where it is accepted
+-- what an offer or an answer does if it is accepted
 abbrev pub plan_of : Held → (offer may : Bool) → Sdp → Plan
 plan_of held offer may sdp = record {
   rows = table_after held.lines (parsed_lines sdp) offer;

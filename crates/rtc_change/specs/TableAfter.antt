@@ -58,7 +58,7 @@ was_remote offer None = offer
 was_remote offer (Some (Media p m k dir stopped remote_created)) = remote_created
 was_remote offer (Some (App p m)) = offer
 
--- an inactive row that this side created stays inactive where the other side would have it send
+-- an inactive row that this side created remains inactive if the other side would have it send
 abbrev pub stays_inactive : Direction → Option LineRow → Bool
 stays_inactive parsed None = false
 stays_inactive parsed (Some (Media p m k dir stopped remote_created)) =
@@ -68,7 +68,7 @@ stays_inactive parsed (Some (App p m)) = false
 abbrev pub is_stopped_by : ParsedLine → Option LineRow → Bool
 is_stopped_by parsed before = parsed.rejected || was_stopped before
 
--- the inverse of the direction of the line, but inactive where the row is stopped or stays inactive
+-- the inverse of the direction of the line, but inactive if the row is stopped or remains inactive
 abbrev pub dir_after : ParsedLine → Option LineRow → Direction
 dir_after parsed before = if is_stopped_by parsed before || stays_inactive parsed.dir before then Inactive else inverse_of parsed.dir
 
@@ -128,7 +128,7 @@ abbrev pub with_front : {A : Type 0} → Option A → List A → List A
 with_front None rest = rest
 with_front (Some first) rest = first ∷ rest
 
--- the mids of the rows whose place goes to another mid
+-- the mids of the rows whose place is given to another mid
 abbrev pub removed_mids : List LineRow → ℕ → List ParsedLine → List (List ℕ)
 removed_mids rows place [] = []
 removed_mids rows place (parsed ∷ rest) = with_front (removed_mid rows place parsed) (removed_mids rows (place + 1) rest)

@@ -17,7 +17,7 @@ use Rattle.std.specs.Option.{option_or}
 abbrev pub at_its_place : ℕ → ℕ → List ℕ → Option NewLine
 at_its_place offered place mid = if offered == place then None else Some (OtherPlace mid)
 
--- where the offer added a media row of the line's mid
+-- what is wrong with a line if the offer added a media row of its mid
 abbrev pub not_that_media : ℕ → MediaKind → ℕ → ParsedLine → Option NewLine
 not_that_media offered kind place parsed = by_kind parsed.kind
   where
@@ -27,7 +27,7 @@ not_that_media offered kind place parsed = by_kind parsed.kind
     by_kind Application = Some (NotMedia parsed.mid Application)
     by_kind Unknown = Some (NotMedia parsed.mid Unknown)
 
--- where the offer added a row of data channels of the line's mid
+-- what is wrong with a line if the offer added a row of data channels of its mid
 abbrev pub not_that_channel : ℕ → ℕ → ParsedLine → Option NewLine
 not_that_channel offered place parsed = by_kind parsed.kind
   where

@@ -11,7 +11,7 @@ pub struct AddMedia {
     pub msid: Msid,
     pub kind: MediaKind,
     pub dir: Direction,
-    /// Each source, with that of its retransmissions.
+    /// Each SSRC, with its RTX SSRC.
     pub ssrcs: Seq<(Ssrc, Option<Ssrc>)>,
     pub simulcast: Option<Simulcast>,
 }

@@ -12,11 +12,11 @@ use std::alloc::AllocError;
 #[derive(Debug, PartialEq, Eq, Drop)]
 pub enum Change {
     AddMedia(AddMedia),
-    /// The line of the data channels.
+    /// The m-line of data channels.
     AddApp(Mid),
     /// A data channel, by its number, with what it is to be opened with.
     AddChannel(ChannelId, ChannelConfig),
-    /// The line of a mid has this direction by now; inactive where it was stopped.
+    /// The line of a mid now has this direction; it is inactive if it was stopped.
     Direction(Mid, Direction),
     /// New local credentials of ICE, and whether the local candidates are kept (RFC 8839, section 4.4.1.1.1).
     IceRestart(IceCreds, bool),
@@ -90,7 +90,7 @@ impl Change {
         }
     }
 
-    /// Whether it adds the line of the data channels.
+    /// Whether it adds the m-line of data channels.
     pub fn is_add_app(&self) -> bool
         ensures { result ≡ IsAddApp self.now }
     {

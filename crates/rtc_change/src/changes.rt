@@ -94,7 +94,7 @@ impl Changes {
         is_added(self.0.as_slice(), mid)
     }
 
-    /// Whether one of them adds the line of the data channels.
+    /// Whether one of them adds the m-line of data channels.
     pub fn contains_add_app(&self) -> bool
         ensures { result ≡ ContainsAddApp self.now.0 }
     {
@@ -113,7 +113,7 @@ impl Changes {
         find_restart(self.0.as_slice())
     }
 
-    // Where the list takes its memory from.
+    // The allocator of the list.
     fn allocator(&self) -> Global {
         let nothing = self.0.empty_text().into_string();
         *nothing.allocator()

@@ -1,4 +1,4 @@
-//! Why what a session description tells of its side is refused.
+//! Why what a session description says of its side is refused.
 ghost use Rattle.std.specs.Prelude.{◌≡◌, ◌&&◌, not, IfOk, Option, Some, None, option_map};
 ghost use Rattle.std.specs.Option.{option_copied};
 ghost use Rattle.rtc_sdp_values.specs.Sdp.{creds_of, sdp_fingerprint};
@@ -67,7 +67,7 @@ fn find_missing_fingerprint(view: &View<'_>, sdp: &Sdp) -> Option<Refusal>
     }
 }
 
-/// Why what a session description tells of its side is refused: how the side is reached, and how it is known.
+/// Why what a session description says of its side is refused: how the side is reached, and how it is known.
 #[tactic(auto, unfolding(crate::specs::Plans::side_verdict))]
 pub fn judge_side(view: &View<'_>, may: bool, sdp: &Sdp) -> Result<Option<Refusal>, AllocError>
     ensures { IfOk result (λ refusal. refusal ≡ side_verdict view.now may sdp.now) }
@@ -85,7 +85,7 @@ pub fn judge_side(view: &View<'_>, may: bool, sdp: &Sdp) -> Result<Option<Refusa
     Ok(release(unasked, find_missing_fingerprint(view, sdp)))
 }
 
-// Why a chunk is refused, where another one was kept.
+// Why a SNAP INIT chunk is refused if another one was kept.
 fn find_changed_init(
     alloc: Global,
     kept: &str,
@@ -105,7 +105,7 @@ fn find_changed_init(
     Ok(Some(Refusal::RemoteSdp(Why::SctpInitChanged { kept, got })))
 }
 
-/// Why the chunk that a session description tells is refused: the association was started with another one.
+/// Why the SNAP INIT chunk of a session description is refused: the association was started with another one.
 pub fn judge_init(
     alloc: Global,
     view: &View<'_>,

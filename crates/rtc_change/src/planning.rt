@@ -33,7 +33,7 @@ fn find_inconsistency(sdp: &Sdp) -> Option<Refusal>
     }
 }
 
-// Whether the chunk that a session description tells may start the association.
+// Whether the SNAP INIT chunk of a session description may start the association.
 fn takes_init(view: &View<'_>, may_take: bool, sdp: &Sdp) -> bool
     ensures { result ≡ TakesInit view.now.sctp_inited may_take (sdp_sctp_init sdp.now) }
 {
@@ -43,7 +43,7 @@ fn takes_init(view: &View<'_>, may_take: bool, sdp: &Sdp) -> bool
     sdp.sctp_init().is_some()
 }
 
-// Why the chunk that is told is refused, or the mids. What is not refused has distinct mids.
+// Why the SNAP INIT chunk is refused, or the mids. What is not refused has distinct mids.
 fn judge_session(alloc: Global, view: &View<'_>, sdp: &Sdp) -> Result<Option<Refusal>, AllocError>
     ensures cause { IfOk result (λ refusal. refusal ≡ first_of (init_refusal view.now.sctp_inited view.now.sctp_kept (sdp_sctp_init sdp.now)
         ∷ inconsistent sdp.now ∷ [])) }
@@ -56,7 +56,7 @@ fn judge_session(alloc: Global, view: &View<'_>, sdp: &Sdp) -> Result<Option<Ref
     Ok(release(init, find_inconsistency(sdp)))
 }
 
-// Why what is told besides the lines is refused. What is not refused has distinct mids.
+// Why what a session description carries besides the lines is refused. What is not refused has distinct mids.
 fn judge_head(
     alloc: Global,
     view: &View<'_>,
@@ -74,7 +74,7 @@ fn judge_head(
     release(side, judge_session(alloc, view, sdp))
 }
 
-// Why what an offer tells besides the lines is refused, or that it has none.
+// Why what an offer carries besides the lines is refused, or that it has none.
 #[tactic(auto, unfolding(crate::specs::Plans::head_verdict))]
 fn judge_offer_head(
     alloc: Global,

@@ -6,9 +6,9 @@ use rtc_sdp_values::{Direction, Mid};
 use rtc_wire::Seq;
 use std::marker::Model;
 
-/// What the side that made an offer keeps until it accepts the answer, or rolls the offer back.
+/// What an offerer keeps until it accepts the answer, or rolls the offer back.
 ///
-/// Either spends it, and it cannot be copied.
+/// Either consumes it, and it cannot be copied.
 #[derive(Debug)]
 pub struct SdpPendingOffer {
     change_id: u64,

@@ -186,7 +186,7 @@ fn removed_by(rows: &MidIndex<'_>, place: usize, parsed: &ParsedLine) -> Option<
     }
 }
 
-/// The mids of the rows whose place goes to another mid.
+/// The mids of the rows whose place is given to another mid.
 pub fn find_removed(
     alloc: Global,
     rows: &MidIndex<'_>,

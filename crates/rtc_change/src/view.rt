@@ -15,8 +15,7 @@ pub struct View<'a> {
     pub has_fingerprint: bool,
     /// Whether the association is started.
     pub sctp_inited: bool,
-    /// The text of the other side's chunk, where the association was started by the chunks of both sides
-    /// (draft-hancke-tsvwg-snap).
+    /// The other side's SNAP INIT chunk as text, if the association was started by both chunks (draft-hancke-tsvwg-snap).
     pub sctp_kept: Option<&'a str>,
 }
 

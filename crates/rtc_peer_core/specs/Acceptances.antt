@@ -1,4 +1,4 @@
--- How a peer accepts an offer or an answer: by the answer of the call, the peer before and the peer after.
+-- How a peer accepts an offer or an answer: by the result of the call, the peer before and the peer after.
 use Rattle.std.specs.Prelude.{◌≡◌, ◌≢◌, ℕ, true, false, [], Option, Some, None, Result, Ok, Err}
 use Rattle.std.specs.Option.{option_or}
 use Rattle.rtc_sdp_values.specs.Sdp.{sdp_fingerprint, sdp_setup}
@@ -90,12 +90,12 @@ refused_phase (RefusedSdp why) phase = phase_after why phase
 refused_phase (RefusedText error) phase = phase
 refused_phase NoMemory phase = phase
 
--- an offer has raised the counter, whatever comes of it
+-- an offer has raised the counter, whatever becomes of it
 abbrev pub counter_after : Option Asked → ℕ → ℕ
 counter_after None counter = raised counter
 counter_after (Some asked) counter = counter
 
--- the peer after a refusal: no offer of its own awaits an answer any more
+-- the peer after a refusal: no offer of its own is pending any more
 abbrev pub after_refusal : {I D S M N : Type 0} → Option Asked → Refusal → Peer I D S M N → Peer I D S M N
 after_refusal asked why p = record p {
   counter = counter_after asked p.counter;
@@ -131,7 +131,7 @@ module _ {I D S M E X T W N : Type 0} (m : Meanings I D S M E X T W N) where
       media = q.media;
     }
 
-  -- the DTLS part failed as it was started: rows, association and fingerprint stay, and the updates stay prepared
+  -- the DTLS part failed as it was started: rows, association and fingerprint are unchanged, and the updates are still prepared
   pub record OfferFaulted (p : Peer I D S M N) (offer : Sdp) (q : Peer I D S M N) : Type 0 where
     pub no_glare : meets_glare p.polite p.outstanding ≡ false
     pub passes : verdict (held_by (stance_of m p)) None offer ≡ None
@@ -147,7 +147,7 @@ module _ {I D S M E X T W N : Type 0} (m : Meanings I D S M E X T W N) where
       media = q.media;
     }
 
-  -- the association failed as it was started, behind the DTLS part: rows and fingerprint stay, and the updates stay prepared
+  -- the association failed as it was started, after the DTLS part: rows and fingerprint are unchanged, and the updates are still prepared
   pub record OfferUnstarted (p : Peer I D S M N) (offer : Sdp) (q : Peer I D S M N) : Type 0 where
     pub no_glare : meets_glare p.polite p.outstanding ≡ false
     pub passes : verdict (held_by (stance_of m p)) None offer ≡ None
@@ -166,7 +166,7 @@ module _ {I D S M E X T W N : Type 0} (m : Meanings I D S M E X T W N) where
       media = q.media;
     }
 
-  -- there was no memory: the acceptance stopped at the place that is stated, and rows, channels and fingerprint stay wherever that is
+  -- memory ran out: the acceptance stopped at the place that is stated, and rows, channels and fingerprint are unchanged wherever that is
   pub record OfferStopped (p : Peer I D S M N) (offer : Sdp) (q : Peer I D S M N) : Type 0 where
     pub no_glare : meets_glare p.polite p.outstanding ≡ false
     pub stops : StopsAccepting m (record p { counter = raised p.counter; outstanding = false }) None [] offer (followed_restart m p offer)
@@ -185,8 +185,7 @@ module _ {I D S M E X T W N : Type 0} (m : Meanings I D S M E X T W N) where
   abbrev pub RefusesOffer : Peer I D S M N → Sdp → Refusal → Peer I D S M N → Type 0
   RefusesOffer p offer why q = (meets_glare p.polite p.outstanding ≡ false) × Refuses p None offer why q
 
-  -- A peer accepts an offer, or refuses it. One that collides with an offer of its own is refused first of all, where the peer is impolite,
-  -- and changes nothing (RFC 3264, section 4).
+  -- A peer accepts an offer, or refuses it. On glare an impolite peer refuses it first of all, and changes nothing (RFC 3264, section 4).
   abbrev pub AcceptsOffer : Peer I D S M N → Sdp → Result Sdp RtcError → Peer I D S M N → Type 0
   AcceptsOffer p offer (Ok answer) q = OfferAccepted p offer answer q
   AcceptsOffer p offer (Err (RemoteSdp why)) q = RefusesOffer p offer (RefusedSdp why) q

@@ -45,7 +45,7 @@ module _ {N : Type 0} (draws : Draws N) where
   abbrev pub cert_drawn : PeerConfig → N → N
   cert_drawn config ids = after_cert config.dtls.cert (creds_drawn config ids)
 
--- a peer with no rows, no channels and no offer yet, and this role where two offers cross
+-- a peer with no rows, no channels and no offer yet, and this role on glare
 abbrev pub empty_peer : {I D S M N : Type 0} → Global → Formats → Option Bool → (session start : ℕ) → I → DtlsState D → SctpStreams S
     → M → N → Peer I D S M N
 empty_peer alloc formats polite session start ice dtls sctp media ids = record {

@@ -1,5 +1,5 @@
--- What each call of a peer that stages or applies changes does: one relation a call, of the peer before, the arguments, the answer
--- and the peer after.
+-- What each call of a peer that stages or applies changes does: one relation a call, of the peer before, the arguments, the result and the
+-- peer after.
 use Rattle.std.specs.Prelude.{
   ◌≡◌,
   ◌+◌,
@@ -92,7 +92,7 @@ abbrev pub noted_of : Option LineRow → List RowBefore → List RowBefore
 noted_of None undo = undo
 noted_of (Some row) undo = noted row undo
 
--- The row of a mid is changed at once; where it is changed, its new direction is staged, and the row noted as it was.
+-- The row of a mid is changed at once; if it is changed, its new direction is staged, and the row noted as it was.
 abbrev pub ChangesLine : {I D S M N : Type 0} → RowChange → Direction → Peer I D S M N → List ℕ → Result Bool AllocError
     → Peer I D S M N → Type 0
 ChangesLine change to p mid (Ok true) q =
@@ -122,7 +122,7 @@ fits_open config = not (is_overlong config.label || is_overlong config.protocol)
 abbrev pub fitting_channels : List Change → List (ℕ × ChannelConfig)
 fitting_channels changes = filter (λ channel. fits_open channel.1) (new_channels changes)
 
--- the peer once channels alone were applied: they are confirmed, and the counter is raised; nothing happens where nothing is staged
+-- the peer once channels alone were applied: they are confirmed, and the counter is raised; nothing happens if nothing is staged
 abbrev pub after_channels_alone : {I D S M N : Type 0} → List Change → Peer I D S M N → Peer I D S M N
 after_channels_alone [] p = p
 after_channels_alone (change ∷ changes) p = record p {
@@ -132,7 +132,7 @@ after_channels_alone (change ∷ changes) p = record p {
   channels = all_confirmed (fitting_channels (change ∷ changes)) p.channels;
 }
 
--- which side is controlling is settled while there is no DTLS role
+-- which side is controlling is determined while there is no DTLS role
 abbrev pub control_for : Option Bool → Bool → Option Bool
 control_for None on = Some on
 control_for (Some role) on = None
@@ -142,11 +142,11 @@ module _ {I D S M E X T W N : Type 0} (m : Meanings I D S M E X T W N) where
   abbrev pub LacksMemory : Peer I D S M N → Peer I D S M N → Type 0
   LacksMemory p q = Later m.ids p.ids q.ids × (q ≡ record p { ids = q.ids })
 
-  -- whether a stream of a peer has a source
+  -- whether a stream of a peer has an SSRC
   abbrev pub uses_source : Peer I D S M N → ℕ → Bool
   uses_source p n = has_source m.media p.media n
 
-  -- the draws of a staged line, in their order: its mid, the name of its stream, that of its track, its sources
+  -- the draws of a staged line, in their order: its mid, the name of its stream, that of its track, its SSRCs
   abbrev pub mid_drawn : N → N
   mid_drawn ids = m.ids.after ids
 
@@ -162,7 +162,7 @@ module _ {I D S M E X T W N : Type 0} (m : Meanings I D S M E X T W N) where
   abbrev pub track_name : Peer I D S M N → Wanted → List ℕ
   track_name p wanted = name_of m.ids (codes "t") (kept_name wanted.track) (stream_drawn p.ids wanted)
 
-  -- the line that is staged; the name of its source is that of its track
+  -- the line that is staged; the name of its SSRCs is that of its track
   abbrev pub staged_media : Peer I D S M N → Wanted → Media
   staged_media p wanted = record {
     mid = staged_mid p;
@@ -188,11 +188,11 @@ module _ {I D S M E X T W N : Type 0} (m : Meanings I D S M E X T W N) where
       × (is_held p.lines p.staged mid ≡ false)
   AddsMedia p wanted (Err error) q = LacksMemory p q
 
-  -- the line of the data channels that a channel is staged with, where one is needed
+  -- the m-line of data channels that a channel is staged with, if one is needed
   abbrev pub app_changes : Peer I D S M N → Bool → List Change
   app_changes p needed = lacking_app m.ids p.lines p.staged p.ids needed
 
-  -- A channel is staged, with the line of the data channels where one is needed.
+  -- A channel is staged, with the m-line of data channels if one is needed.
   abbrev pub AddsChannel : Peer I D S M N → ChannelConfig → Result ℕ RtcError → Peer I D S M N → Type 0
   AddsChannel p config (Ok id) q =
       (is_bad_channel p.channels config ≡ false)
@@ -221,11 +221,11 @@ module _ {I D S M E X T W N : Type 0} (m : Meanings I D S M E X T W N) where
       × (q ≡ record p { staged = with_restart creds keeps p.staged; ids = m.ids.after p.ids })
   StagesRestart p keeps (Err error) q = LacksMemory p q
 
-  -- the halves that are pending for a start by session descriptions, or else empty ones
+  -- the pending SNAP INIT chunks, or else empty ones
   abbrev pub halves_pending : Peer I D S M N → InitHalves
   halves_pending p = halves_or_none p.sctp.local_max p.sctp.snap.pending
 
-  -- the half of this side that an offer tells, where it is drawn for it
+  -- this side's chunk that an offer carries, if it is drawn for it
   abbrev pub half_drawn : Peer I D S M N → List ℕ
   half_drawn p = drawn_chunk m.ids (halves_pending p).limit p.ids
 
@@ -236,14 +236,14 @@ module _ {I D S M E X T W N : Type 0} (m : Meanings I D S M E X T W N) where
   abbrev pub ids_after_offer : Peer I D S M N → N
   ids_after_offer p = ids_after_told (tells_half (stance_of m p)) p
 
-  -- Memory ran out as an offer was made: numbers may have been drawn where it draws a half, and nothing else has changed.
+  -- Memory ran out as an offer was made: numbers may have been drawn if it draws a chunk, and nothing else has changed.
   abbrev pub LacksOffer : Bool → Peer I D S M N → Peer I D S M N → Type 0
   LacksOffer true p q = LacksMemory p q
   LacksOffer false p q = q ≡ p
 
-  -- What is staged is applied: it is offered, unless it is channels alone. The half of a start by session descriptions that the offer
-  -- tells is then pending (draft-hancke-tsvwg-snap). While there is no DTLS role, the side that offers is
-  -- controlling, unless it is lite (RFC 8445, section 6.1.1).
+  -- What is staged is applied: it is offered, unless it is channels alone. The SNAP INIT chunk that the offer carries is then pending
+  -- (draft-hancke-tsvwg-snap). While there is no DTLS role, the side that offers is controlling, unless it is lite (RFC 8445, section
+  -- 6.1.1).
   abbrev pub Applies : Peer I D S M N → Result (Option (Sdp × PendingOffer)) AllocError → Peer I D S M N → Type 0
   Applies p (Ok None) q = (do_offer p.staged ≡ false) × (q ≡ after_channels_alone p.staged p)
   Applies p (Ok (Some made)) q =

@@ -1,4 +1,4 @@
--- The rows that tell of the channels of a peer.
+-- The rows that report the channels of a peer.
 use Rattle.std.specs.Prelude.{ℕ, ◌&&◌, Bool, false, List, map, Option, Some, None}
 use Rattle.rtc_part_association.specs.AssociationMeaning.{AssociationMeaning}
 use Rattle.rtc_sctp.specs.Streams.{SctpStreams}
@@ -7,7 +7,7 @@ use Rattle.rtc_channels.specs.Channels.{Channel, Channels}
 use Rattle.rtc_channels.specs.declared.channel_row.ChannelRow.{ChannelRow}
 
 module _ {S : Type 0} (m : AssociationMeaning S) where
-  -- how often a stream was reset; 0 where there is none
+  -- how often a stream was reset; 0 if there is none
   abbrev pub generation_over : Option ℕ → SctpStreams S → ℕ
   generation_over None p = 0
   generation_over (Some stream) p = m.generation p.association stream

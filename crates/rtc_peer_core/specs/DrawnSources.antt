@@ -1,4 +1,4 @@
--- Which sources a call draws, and that each was unused when it was drawn.
+-- Which SSRCs a call draws, and that each was unused when it was drawn.
 use Rattle.std.specs.Prelude.{◌≡◌, ◌||◌, ℕ, Bool, true, false, List, [], ◌∷◌, ◌++◌, IfSome}
 use Rattle.std.specs.List.{AllByRecursion, flat_map}
 use Rattle.rtc_sdp_values.specs.LineRow.{row_mid}
@@ -26,7 +26,7 @@ AreDrawnUnused used earlier (n ∷ numbers) = ((used n || is_number n earlier) �
 abbrev pub drawn_numbers : List Pair → List ℕ
 drawn_numbers pairs = flat_map pair_numbers pairs
 
--- so was each source of the lines of media that changes add; a line is staged by a call of its own
+-- so was each SSRC of the media lines that changes add; a line is staged by a call of its own
 abbrev pub AreStagedUnused : (ℕ → Bool) → List Change → Type 0
 AreStagedUnused used changes =
     AllByRecursion (λ change. IfSome (media_of_change change) (λ media. AreDrawnUnused used [] (drawn_numbers media.ssrcs))) changes
@@ -43,12 +43,12 @@ module _ {N : Type 0} (draws : Draws N) (used : ℕ → Bool) (sends : List ℕ 
       (after_row draws used (layered line (sends (row_mid row))) row ids)
 
 module _ {I D S M E X T W N : Type 0} (m : Meanings I D S M E X T W N) where
-  -- the numbers that a peer draws as it accepts an offer or an answer, where they are drawn from these
+  -- the numbers that a peer draws as it accepts an offer or an answer, if they are drawn from these
   abbrev pub numbers_for : Peer I D S M N → Bool → List Change → Sdp → N → List ℕ
   numbers_for p offer changes sdp ids =
       row_draws m.ids (uses_source m p) (sends_on m p changes) (rows_of_sdp m p offer sdp) sdp.lines [] ids
 
-  -- each source that a peer draws as it accepts an offer is unused
+  -- each SSRC that a peer draws as it accepts an offer is unused
   abbrev pub OfferDrawsUnused : Peer I D S M N → Sdp → Type 0
   OfferDrawsUnused p offer = AreDrawnUnused (uses_source m p) [] (numbers_for p true [] offer (answer_ids m p offer))
 

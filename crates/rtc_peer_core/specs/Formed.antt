@@ -68,7 +68,7 @@ pub record IsHostCandidate (candidate : Candidate) : Type 0 where
   pub kind : candidate.kind ≡ Host
 
 -- ---- what lines carry
--- a name and a value of a layer that stand in its line (RFC 8851, section 10); payload types are none of them, since none are told
+-- a name and a value of a layer that are in its line (RFC 8851, section 10); payload types are none of them, since none are carried
 pub record IsFormedPair (pair : List ℕ × List ℕ) : Type 0 where
   pub kept : bytes_eq pair.0 (codes "pt") ≡ false
   pub key_line : Lacks 10 pair.0
@@ -78,7 +78,7 @@ pub record IsFormedPair (pair : List ℕ × List ℕ) : Type 0 where
   pub value_semicolon : Lacks 59 pair.1
   pub value_equals : Lacks 61 pair.1
 
--- a name that stands in a list of layers: a short token that no `~` begins (RFC 8853, section 5.1)
+-- a name that is in a list of layers: a short token that no `~` begins (RFC 8853, section 5.1)
 abbrev pub is_layer_name : List ℕ → Bool
 is_layer_name [] = false
 is_layer_name (byte ∷ bytes) = if byte == 126 then false else is_short_token (byte ∷ bytes)
@@ -107,12 +107,12 @@ pub record IsFormedMsid (msid : Msid) : Type 0 where
   pub stream : is_token msid.stream_id ≡ true
   pub track : is_token msid.track_id ≡ true
 
--- a source and that of its retransmissions, with numbers of 32 bits (RFC 3550, section 5.1)
+-- an SSRC and its RTX SSRC, with numbers of 32 bits (RFC 3550, section 5.1)
 pub record IsFormedSource (source : Ssrc × Option Ssrc) : Type 0 where
   pub own : source.0.0 < 2 ^ 32
   pub rtx : IfSome source.1 (λ ssrc. ssrc.0 < 2 ^ 32)
 
--- what a line carries whole; sources have a name and a stream, and may stand twice
+-- what a line carries whole; SSRCs have a name and a stream, and may be repeated
 pub record IsFormedMedia (media : LineMedia) : Type 0 where
   pub payloads : AreFormedRows media.payloads
   pub exts : AreFormedExtensions media.exts
@@ -122,7 +122,7 @@ pub record IsFormedMedia (media : LineMedia) : Type 0 where
   pub named : media.ssrcs ≡ [] ⊎ (IsSome media.msid × IsSome media.cname)
   pub ssrcs : AllByRecursion IsFormedSource media.ssrcs
 
--- what a media part is told of a line: it has a stream and a name for its sources
+-- what a media part is given of a line: it has a stream and a name for its SSRCs
 pub record IsFormedUpdate (update : MediaUpdate) : Type 0 where
   pub carried : IsFormedMedia (media_of_update update)
   pub has_msid : IsSome update.msid

@@ -1,4 +1,4 @@
--- What the media part is told of each media line that an offer or an answer names.
+-- What the media part is given of each media line that an offer or an answer names.
 use Rattle.std.specs.Prelude.{ℕ, ◌&&◌, not, Bool, true, false, List, [], ◌∷◌, ◌++◌, if◌then◌else◌, Option, Some, None, option_map}
 use Rattle.std.specs.List.{flat_map}
 use Rattle.std.specs.Option.{option_or}
@@ -43,7 +43,7 @@ change_of_mid mid change = elim (media_of_change change) [
 abbrev pub added_media : List Change → List ℕ → Option AddedMedia
 added_media changes mid = first (change_of_mid mid) changes
 
--- a line that came in an offer, or was declared, has its mid for all names, and no sources yet
+-- a line of a received offer, or a declared one, has its mid for all names, and no SSRCs yet
 abbrev pub bare_sending : List ℕ → Sending
 bare_sending mid = record {
   simulcast = None;
@@ -77,7 +77,7 @@ line_sending line changes mid = sending_of (line mid) (added_media changes mid) 
 abbrev pub inverted : Simulcast → Simulcast
 inverted simulcast = record { send = simulcast.recv; recv = simulcast.send }
 
--- a line that has no layers takes the first ones that the other side tells, and keeps them
+-- a line that has no layers takes the first ones that the other side names, and keeps them
 abbrev pub layered : MediaLine → Sending → Sending
 layered line sending = record sending { simulcast = option_or sending.simulcast (option_map inverted line.simulcast) }
 
@@ -89,7 +89,7 @@ abbrev pub row_kind : LineRow → MediaKind
 row_kind (Media place mid kind dir stopped remote_created) = kind
 row_kind (App place mid) = Audio
 
--- whether a row sends and has no source yet
+-- whether a row sends and has no SSRC yet
 abbrev pub wants_sources : LineRow → Sending → Bool
 wants_sources (Media place mid kind dir stopped remote_created) sending = does_send dir && has_none sending.ssrcs
 wants_sources (App place mid) sending = false
@@ -112,9 +112,9 @@ abbrev pub rows_behind : List LineRow → List LineRow
 rows_behind [] = []
 rows_behind (row ∷ rows) = rows
 
--- what the media part is told of a row: the row that stood at its place before, the m-line, what is sent on it and the sources
--- that are drawn for it. A new live row of an offer is announced. The line has the codecs and header extensions that both sides have, by
--- the numbers of the other side (RFC 3264, sections 5.1 and 6.1).
+-- what the media part is given of a row: the row that was at its place before, the m-line, what is sent on it and the SSRCs that are drawn
+-- for it. A new live row of an offer is announced. The line has the codecs and header extensions that both sides have, by the numbers of
+-- the other side (RFC 3264, sections 5.1 and 6.1).
 abbrev pub row_update : Formats → Bool → Option LineRow → LineRow → MediaLine → Sending → List Pair → MediaUpdate
 row_update formats offer before row line sending drawn = record {
   row = row;
@@ -129,13 +129,13 @@ row_update formats offer before row line sending drawn = record {
   ssrcs_rx = line.ssrcs;
 }
 
--- the line of the data channels is no line of media
+-- the m-line of data channels is no line of media
 abbrev pub if_media : LineRow → MediaUpdate → List MediaUpdate
 if_media (Media place mid kind dir stopped remote_created) update = update ∷ []
 if_media (App place mid) update = []
 
 module _ {N : Type 0} (draws : Draws N) (used : ℕ → Bool) where
-  -- the sources that are drawn for a row, one for each layer that is sent
+  -- the SSRCs that are drawn for a row, one for each layer that is sent
   abbrev pub row_pairs : Sending → List ℕ → LineRow → N → List Pair
   row_pairs sending earlier row ids = elim (wants_sources row sending) [
     | true ↦ next_pairs draws used (row_kind row) earlier (pair_count sending.simulcast) ids
@@ -148,7 +148,7 @@ module _ {N : Type 0} (draws : Draws N) (used : ℕ → Bool) where
     | false ↦ ids
   ]
 
--- the sources are drawn for the lines in their order
+-- the SSRCs are drawn for the lines in their order
 module _ {N : Type 0} (draws : Draws N) (used : ℕ → Bool) (sends : List ℕ → Sending) where
   -- the updates of rows, with the rows that stood at their places before and the m-lines that name them
   abbrev pub row_updates : Formats → Bool → List LineRow → List LineRow → List MediaLine → List ℕ → N → List MediaUpdate

@@ -47,7 +47,7 @@ line_kind Video = VideoLine
 abbrev pub no_media : LineMedia
 no_media = record { payloads = []; exts = []; simulcast = None; msid = None; cname = None; ssrcs = [] }
 
--- what a media part is told, or was told last, of a line
+-- what a media part is given, or was given last, of a line
 abbrev pub media_of_update : MediaUpdate → LineMedia
 media_of_update update = record {
   payloads = update.payloads;
@@ -82,12 +82,12 @@ media_of_declared formats false kind mid = record {
   ssrcs = [];
 }
 
--- what a line carries of which a media part has this, if anything, and which is as it was declared where it has nothing
+-- what a line carries if a media part has this of it; if it has nothing, the line is as it was declared
 abbrev pub media_held : LineMedia → Option MediaUpdate → LineMedia
 media_held declared None = declared
 media_held declared (Some update) = media_of_update update
 
--- a stopped line tells no stream and no source
+-- a stopped line carries no stream and no SSRC
 abbrev pub shown_msid : Bool → Option Msid → Option Msid
 shown_msid true msid = None
 shown_msid false msid = msid
@@ -96,13 +96,13 @@ abbrev pub shown_ssrcs : Bool → List (Ssrc × Option Ssrc) → List (Ssrc × O
 shown_ssrcs true ssrcs = []
 shown_ssrcs false ssrcs = ssrcs
 
--- the name of sources stands where sources do
+-- a description has a `cname` if it has SSRCs
 abbrev pub name_of_sources : List (Ssrc × Option Ssrc) → Option (List ℕ) → Option (List ℕ)
 name_of_sources [] cname = None
 name_of_sources (ssrc ∷ ssrcs) cname = cname
 
 -- ---- lines
--- the m-line of a row, without what it tells of its peer but how long messages of its data channels may be
+-- the m-line of a row, which carries of its peer only how long messages of its data channels may be
 abbrev pub bare_row_line : (most : ℕ) → LineMedia → LineRow → MediaLine
 bare_row_line most media (Media place mid kind dir stopped remote_created) = record (bare_line (line_kind kind) mid dir) {
   disabled = stopped;
@@ -115,7 +115,7 @@ bare_row_line most media (Media place mid kind dir stopped remote_created) = rec
 }
 bare_row_line most media (App place mid) = record (bare_line Application mid SendRecv) { max_message_size = Some most }
 
--- what the line of the data channels tells of the start of the association
+-- what the m-line of data channels carries of the start of the association
 abbrev pub init_of_row : Option (List ℕ) → LineRow → Option (List ℕ)
 init_of_row told (Media place mid kind dir stopped remote_created) = None
 init_of_row told (App place mid) = told
@@ -139,7 +139,7 @@ row_told told = told.row
 abbrev pub live_mids : List LineRow → List (List ℕ)
 live_mids rows = map row_mid (filter (λ row. not (is_stopped row)) rows)
 
--- candidates stand at the first line, since all lines share one transport (RFC 8843, section 10)
+-- candidates are on the first m-line, since all lines share one transport (RFC 8843, section 10)
 abbrev pub with_candidates : List Candidate → List MediaLine → List MediaLine
 with_candidates candidates [] = []
 with_candidates candidates (line ∷ lines) = record line { candidates = candidates } ∷ lines
@@ -156,14 +156,14 @@ sdp_of_rows head told = record {
   lines = with_candidates head.candidates (map (told_line head) told);
 }
 
--- ---- rows as they are told
--- what a media part is about to be told of lines comes before what it has of them
+-- ---- rows as descriptions carry them
+-- what a media part is about to be given of lines is before what it has of them
 abbrev pub newest : List MediaUpdate → Option MediaUpdate → Option MediaUpdate
 newest [] held = held
 newest (update ∷ updates) held = Some update
 
--- what is told of the line of a row: of media what the first of these updates says, or else what a media part has of its line. One of which
--- it has nothing was declared.
+-- what the line of a row carries: of media what the first of these updates says, or else what a media part has of its line; if it has
+-- nothing, the line is as it was declared
 abbrev pub media_told : Formats → (List ℕ → Option MediaUpdate) → List MediaUpdate → LineRow → LineMedia
 media_told formats line updates (Media place mid kind dir stopped remote_created) =
     media_held (media_of_declared formats stopped kind mid) (newest updates (line mid))
@@ -174,7 +174,7 @@ abbrev pub updates_behind : LineRow → List MediaUpdate → List MediaUpdate
 updates_behind (Media place mid kind dir stopped remote_created) updates = drop 1 updates
 updates_behind (App place mid) updates = updates
 
--- rows, with what a media part is about to be told of those in front, and what it has of the others
+-- rows, with what a media part is about to be given of those in front, and what it has of the others
 abbrev pub told_rows : Formats → (List ℕ → Option MediaUpdate) → List MediaUpdate → List LineRow → List ToldRow
 told_rows formats line updates [] = []
 told_rows formats line updates (row ∷ rows) =
@@ -202,20 +202,20 @@ abbrev pub creds_in_use : Option (IceCreds × Bool) → IceSettings → IceCreds
 creds_in_use None settings = settings.local
 creds_in_use (Some restart) settings = restart.0
 
--- the local candidates, but where a restart does not keep them
+-- the local candidates, unless a restart does not keep them
 abbrev pub candidates_in_use : Option (IceCreds × Bool) → IceSettings → List Candidate
 candidates_in_use None settings = settings.candidates
 candidates_in_use (Some restart) settings = if restart.1 then settings.candidates else []
 
--- the role of this side by the setup that the other side tells: where that leaves the choice, this side waits for the
--- handshake (RFC 8842, section 5.3)
+-- the role of this side by the setup of the other side: if that leaves the choice, this side waits for the handshake (RFC 8842, section
+-- 5.3)
 abbrev pub role_for : Option Setup → Bool
 role_for None = false
 role_for (Some ActPass) = false
 role_for (Some Active) = false
 role_for (Some Passive) = true
 
--- the first role stays
+-- the first role is kept
 abbrev pub role_after : Option Bool → Option Setup → Bool
 role_after None told = role_for told
 role_after (Some role) told = role
@@ -224,7 +224,7 @@ abbrev pub setup_of_role : Bool → Setup
 setup_of_role true = Active
 setup_of_role false = Passive
 
--- what an offer tells of its side: either side may take either DTLS role (RFC 8842, section 5.2)
+-- what an offer carries of its side: either side may take either DTLS role (RFC 8842, section 5.2)
 abbrev pub offer_head : Stance → Option (List ℕ) → SdpHead
 offer_head s init = record {
   session = s.session;
@@ -249,7 +249,7 @@ offered_told s = told_rows s.formats s.line [] s.lines ++ added_told s.formats (
 unfoldable pub offer_sdp : Stance → Option (List ℕ) → Sdp
 offer_sdp s init = sdp_of_rows (offer_head s init) (offered_told s)
 
--- what an answer tells of its side, where it follows a restart with these credentials or follows none
+-- what an answer carries of its side, if it follows a restart with these credentials or follows none
 abbrev pub answer_head : Stance → Option (IceCreds × Bool) → Option (List ℕ) → Sdp → SdpHead
 answer_head s restart init offer = record {
   session = s.session;
@@ -262,10 +262,10 @@ answer_head s restart init offer = record {
   sctp_init = init;
 }
 
--- the rows that an offer leaves, with what the lines carry once a media part was told these updates
+-- the rows that an offer leaves, with what the lines carry once a media part was given these updates
 abbrev pub answered_told : Stance → List MediaUpdate → Sdp → List ToldRow
 answered_told s updates offer = told_rows s.formats s.line updates (table_after s.lines (parsed_lines offer) true)
 
--- the answer to an offer of whose lines the media part is told this, with this text of a chunk for the start of the association
+-- the answer to an offer of whose lines the media part is given this, with this text of a SNAP INIT chunk
 unfoldable pub answer_sdp : Stance → Option (IceCreds × Bool) → List MediaUpdate → Option (List ℕ) → Sdp → Sdp
 answer_sdp s restart updates init offer = sdp_of_rows (answer_head s restart init offer) (answered_told s updates offer)

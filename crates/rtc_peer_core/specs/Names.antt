@@ -35,7 +35,7 @@ abbrev pub some_bytes : List ℕ → Option (List ℕ)
 some_bytes [] = None
 some_bytes (byte ∷ bytes) = Some (byte ∷ bytes)
 
--- a name that is given, where something is kept of it
+-- a given name, if something is kept of it
 abbrev pub kept_name : Option (List ℕ) → Option (List ℕ)
 kept_name None = None
 kept_name (Some name) = some_bytes (kept_bytes name)

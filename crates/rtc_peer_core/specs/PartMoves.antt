@@ -20,12 +20,12 @@ use Rattle.rtc_sctp_values.specs.declared.sctp_error.SctpError.{SctpError}
 use Rattle.rtc_sctp_values.specs.declared.sctp_error.SctpError.TheVariants.{Alloc as SctpAlloc}
 
 module _ {I : Type 0} (ice : IceMeaning I) where
-  -- the agent is restarted, where there are new credentials
+  -- the agent is restarted, if there are new credentials
   abbrev pub RestartsIce : I → Option (IceCreds × Bool) → Result (Unit {0}) AllocError → I → Type 0
   RestartsIce p None r q = (r ≡ Ok tt) × (q ≡ p)
   RestartsIce p (Some restart) r q = ice.restarted p restart.0 restart.1 r q
 
-  -- the credentials of the other side are those that it told
+  -- the credentials of the other side are those of its description
   abbrev pub TakesCreds : I → Option IceCreds → I → Type 0
   TakesCreds p None q = q ≡ p
   TakesCreds p (Some creds) q = ice.remote_set p creds q
@@ -40,7 +40,7 @@ module _ {I : Type 0} (ice : IceMeaning I) where
         | Err error ↦ (r ≡ Err error) × (q ≡ between)
       ]
 
-  -- which side is controlling is set where this is asked
+  -- which side is controlling is set if this is asked
   abbrev pub TakesControl : I → Option Bool → I → Type 0
   TakesControl p None q = q ≡ p
   TakesControl p (Some on) q = ice.controlling_set p on q
@@ -63,7 +63,7 @@ module _ {I : Type 0} (ice : IceMeaning I) where
     AtCandidate : (restarted told : I) (error : AllocError) → RestartsIce p restart (Ok tt) restarted → TakesCreds restarted creds told
         → TakesCandidates told candidates (Err error) q → StopsFollowing p restart creds candidates q
 
--- what a side that begins answers, by what the packet of no bytes was answered: its fault is ignored
+-- what a side that begins returns, by the result for the packet of no bytes: its fault is ignored
 abbrev pub begun_answer : Result (Unit {0}) DtlsError → Result (Unit {0}) DtlsError
 begun_answer (Ok done) = Ok tt
 begun_answer (Err Fault) = Ok tt
@@ -76,7 +76,7 @@ module _ {D : Type 0} (dtls : DtlsMeaning D) where
   BeginsHandshake false p r q = (r ≡ Ok tt) × (q ≡ p)
   BeginsHandshake true p r q = (answer : Result (Unit {0}) DtlsError) × dtls.given p [] answer q × (r ≡ begun_answer answer)
 
-  -- it begins only once the timer was told the moment
+  -- it begins only once the timer was given the moment
   abbrev pub BeginsTimed : Result (Unit {0}) DtlsError → Bool → D → Result (Unit {0}) DtlsError → D → Type 0
   BeginsTimed (Ok done) active p r q = BeginsHandshake active p r q
   BeginsTimed (Err error) active p r q = (r ≡ Err error) × (q ≡ p)
@@ -91,35 +91,34 @@ module _ {D : Type 0} (dtls : DtlsMeaning D) where
     pub by_packet : BeginsTimed answer active timed r q.instance
     pub rest : q ≡ record p { instance = q.instance; active = Some active }
 
-  -- A role is taken where there is none; the first one stays.
+  -- A role is taken if there is none; the first one is kept.
   abbrev pub StartsDtls : DtlsState D → Option Bool → Bool → ℕ → Result (Unit {0}) DtlsError → DtlsState D → Type 0
   StartsDtls p None active now r q = TakesRole p active now r q
   StartsDtls p (Some role) active now r q = (r ≡ Ok tt) × (q ≡ p)
 
--- the longest message that the other side takes, by what its line for the data channels tells: 0 stands for any length, 32 bits hold
--- no more, and where it tells none it is 65536 bytes (RFC 8841, section 6.1)
+-- the longest message that the other side takes, by its m-line of data channels: 0 means any length, 32 bits hold no more, and if it has
+-- none it is 65536 bytes (RFC 8841, section 6.1)
 abbrev pub remote_limit : Option ℕ → ℕ
 remote_limit None = 65536
 remote_limit (Some size) = if (size == 0) || nat_lt 4294967295 size then 4294967295 else size
 
--- the halves that are pending for a start by session descriptions may go
+-- the pending SNAP INIT chunks may be dropped
 abbrev pub dropped_halves : Bool → KeptHalves → KeptHalves
 dropped_halves true kept = without_pending kept
 dropped_halves false kept = kept
 
 module _ {S : Type 0} (association : AssociationMeaning S) where
-  -- whether these rows start the association: one is the line of the data channels, and nothing started it before
+  -- whether these rows start the association: one is the m-line of data channels, and nothing started it before
   abbrev pub needs_start : List LineRow → SctpStreams S → Bool
   needs_start rows p = is_some (app_of rows) && not (association.started p.association)
 
-  -- it is started as client or as server, by the chunks of both sides where they are there; what is pending for such a start may go
-  -- where it is not started
+  -- it is started as client or as server, by both SNAP INIT chunks if they are there; pending chunks may be dropped if it is not started
   abbrev pub StartsWhere : Bool → SctpStreams S → (client : Bool) → (now max : ℕ) → Option InitHalves → (drops : Bool)
       → Result (Unit {0}) SctpError → SctpStreams S → Type 0
   StartsWhere false p client now max halves drops r q = (r ≡ Ok tt) × (q ≡ record p { snap = dropped_halves drops p.snap })
   StartsWhere true p client now max halves drops r q = Inits association client now max halves p r q
 
-  -- The first rows with a line of the data channels start the association.
+  -- The first rows with an m-line of data channels start the association.
   abbrev pub StartsSctp : SctpStreams S → List LineRow → (client : Bool) → (now max : ℕ) → Option InitHalves → (drops : Bool)
       → Result (Unit {0}) SctpError → SctpStreams S → Type 0
   StartsSctp p rows client now max halves drops r q = StartsWhere (needs_start rows p) p client now max halves drops r q

@@ -1,4 +1,4 @@
--- How a peer rolls its own offer back (RFC 8829, section 5.7): by the answer of the call, the peer before and the peer after.
+-- How a peer rolls its own offer back (RFC 8829, section 5.7): by the result of the call, the peer before and the peer after.
 use Rattle.std.specs.Prelude.{◌≡◌, ◌≢◌, false, Result, Ok, Err}
 use Rattle.rtc_channels.specs.Holds.{all_cancelled}
 use Rattle.rtc_change.specs.PendingOffer.{PendingOffer, new_channels}
@@ -20,7 +20,7 @@ use Rattle.rtc_peer_core.specs.declared.rtc_error.RtcError.TheVariants.{
 use Rattle.rtc_peer_core.specs.Calls.{raised}
 
 -- The offer of a token is rolled back, if nothing was offered or accepted since: the rows that were set or stopped for it are as they were,
--- and the channels that were added with it go. The counter is raised, and the parts stay as they are.
+-- and the channels that were added with it are removed. The counter is raised, and the parts are unchanged.
 abbrev pub RollsBack : {I D S M N : Type 0} → Peer I D S M N → PendingOffer → Result (Unit {0}) RtcError → Peer I D S M N → Type 0
 RollsBack p token (Ok done) q =
     (p.counter ≡ raised token.id)

@@ -1,4 +1,4 @@
--- Errors of lower calls, as a peer tells them.
+-- Errors of lower calls, as a peer returns them.
 use Rattle.rtc_sdp_values.specs.declared.sdp_error.SdpError.{SdpError}
 use Rattle.rtc_sdp_values.specs.declared.sdp_error.SdpError.TheVariants.{Alloc as SdpAlloc, Parse, Inconsistent}
 use Rattle.rtc_change.specs.declared.refusal.Refusal.{Refusal}

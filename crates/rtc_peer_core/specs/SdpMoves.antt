@@ -1,4 +1,4 @@
--- What the parts of a peer are told of an offer or an answer, and how they follow it.
+-- What the parts of a peer are given of an offer or an answer, and how they follow it.
 use Rattle.std.specs.Prelude.{ℕ, Bool, true, not, List, [], length, take, Option, None, Result, Ok}
 use Rattle.rtc_sdp_values.specs.Sdp.{creds_of, candidates_of, sdp_setup, sdp_sctp_init, max_message_size_of}
 use Rattle.rtc_sdp_values.specs.declared.ice_creds.IceCreds.{IceCreds}
@@ -25,9 +25,8 @@ use Rattle.rtc_peer_core.specs.SdpHalves.{told_chunk, answer_init}
 use Rattle.rtc_peer_core.specs.PartMoves.{FollowsSdp, StartsSctp, remote_limit}
 
 module _ {I D S M E X T W N : Type 0} (m : Meanings I D S M E X T W N) where
-  -- The rows that an offer or an answer leaves start the association, where they are the first with a line of the data channels: as
-  -- client where this side has the active DTLS role, and by these halves where they are there. An answer that starts nothing lets
-  -- pending halves go.
+  -- The rows that an offer or an answer leaves start the association, if they are the first with an m-line of data channels: as client if
+  -- this side has the active DTLS role, and by these chunks if they are there. An answer that starts nothing drops pending chunks.
   abbrev pub StartsBySdp : Peer I D S M N → Bool → Sdp → Option InitHalves → Result (Unit {0}) SctpError → SctpStreams S → Type 0
   StartsBySdp p offer sdp halves r s =
       StartsSctp m.association p.sctp (table_after p.lines (parsed_lines sdp) offer) (role_after p.dtls.active (sdp_setup sdp)) p.greatest
@@ -41,7 +40,7 @@ module _ {I D S M E X T W N : Type 0} (m : Meanings I D S M E X T W N) where
   abbrev pub sends_on : Peer I D S M N → List Change → List ℕ → Sending
   sends_on p changes mid = line_sending (m.media.line p.media) changes mid
 
-  -- what the media part is told, where these numbers are drawn from
+  -- what the media part is given, with numbers drawn from these
   abbrev pub updates_for : Peer I D S M N → Bool → List Change → Sdp → N → List MediaUpdate
   updates_for p offer changes sdp ids =
       row_updates m.ids (uses_source m p) (sends_on p changes) p.formats offer p.lines (rows_of_sdp p offer sdp) sdp.lines [] ids
@@ -50,11 +49,11 @@ module _ {I D S M E X T W N : Type 0} (m : Meanings I D S M E X T W N) where
   ids_after_updates p offer changes sdp ids =
       after_updates m.ids (uses_source m p) (sends_on p changes) (rows_of_sdp p offer sdp) sdp.lines ids
 
-  -- the chunk of the other side that a session description tells for a start
+  -- the other side's SNAP INIT chunk of a session description
   abbrev pub chunk_told : Peer I D S M N → (may : Bool) → Sdp → Option (List ℕ)
   chunk_told p may sdp = told_chunk (m.association.started p.sctp.association) may (sdp_sctp_init sdp)
 
-  -- the halves of a start with it: this side's half is drawn behind the sources, where it is not there
+  -- both chunks of a start with it: this side's is drawn after the SSRCs, if it is missing
   abbrev pub halves_for : Peer I D S M N → (offer may : Bool) → List Change → Sdp → N → Option InitHalves
   halves_for p offer may changes sdp ids =
       halves_of m.ids p.sctp.local_max p.sctp.snap (chunk_told p may sdp) (ids_after_updates p offer changes sdp ids)
@@ -63,7 +62,7 @@ module _ {I D S M E X T W N : Type 0} (m : Meanings I D S M E X T W N) where
   ids_after_halves p offer may changes sdp ids =
       after_halves_of m.ids p.sctp.local_max p.sctp.snap (chunk_told p may sdp) (ids_after_updates p offer changes sdp ids)
 
-  -- the media part is told of the lines, and applies what it was told
+  -- the media part is given the lines, and applies what it was given
   pub record UpdatesMedia (p : M) (updates : List MediaUpdate) (q : M) : Type 0 where
     pub prepared : M
     pub by_prepare : m.media.prepared p updates (Ok tt) prepared
@@ -73,22 +72,22 @@ module _ {I D S M E X T W N : Type 0} (m : Meanings I D S M E X T W N) where
   abbrev pub followed_restart : Peer I D S M N → Sdp → Option (IceCreds × Bool)
   followed_restart p offer = new_creds m.ids p.ids (is_restart (m.ice.settings p.ice).remote (creds_of offer))
 
-  -- new credentials are drawn before sources
+  -- new credentials are drawn before SSRCs
   abbrev pub answer_ids : Peer I D S M N → Sdp → N
   answer_ids p offer = after_new_creds m.ids p.ids (is_restart (m.ice.settings p.ice).remote (creds_of offer))
 
-  -- the text of a chunk that an answer tells
+  -- the text of a chunk that an answer carries
   abbrev pub init_answered : Peer I D S M N → Sdp → Option (List ℕ)
   init_answered p offer =
       answer_init (m.association.started p.sctp.association) p.sctp.snap (halves_for p true true [] offer (answer_ids p offer))
 
-  -- the agent follows an offer; while there is no DTLS role, this side is controlling exactly where the other one is lite
+  -- the agent follows an offer; while there is no DTLS role, this side is controlling exactly if the other one is lite
   abbrev pub FollowsOffer : Peer I D S M N → Sdp → Peer I D S M N → Type 0
   FollowsOffer p offer q =
       FollowsSdp m.ice p.ice (followed_restart p offer) (creds_of offer) (candidates_of offer)
       (control_for p.dtls.active offer.ice_lite) q.ice
 
-  -- the agent follows an answer: where its offer restarted ICE, the credentials that were offered are taken
+  -- the agent follows an answer: if its offer restarted ICE, the credentials that were offered are taken
   abbrev pub FollowsAnswer : Peer I D S M N → PendingOffer → Sdp → Peer I D S M N → Type 0
   FollowsAnswer p token answer q =
       FollowsSdp m.ice p.ice (staged_restart token.changes) (creds_of answer) (candidates_of answer) None q.ice

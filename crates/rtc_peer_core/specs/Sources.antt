@@ -1,4 +1,4 @@
--- Synchronization sources that a peer draws.
+-- SSRCs that a peer draws.
 use Rattle.std.specs.Prelude.{
   ◌+◌,
   ◌%◌,
@@ -27,7 +27,7 @@ use Rattle.rtc_sdp_values.specs.declared.simulcast.Simulcast.{Simulcast}
 use Rattle.rtc_part_media.specs.MediaMeaning.{MediaMeaning}
 use Rattle.rtc_part_values.specs.Draws.{Draws}
 
--- a source, with that of its retransmissions
+-- an SSRC, with its RTX SSRC
 abbrev pub Pair : Type 0
 Pair = Ssrc × Option Ssrc
 
@@ -42,12 +42,12 @@ pair_numbers pair = rtx_numbers pair.1 ++ pair.0.0 ∷ []
 abbrev pub is_number : ℕ → List ℕ → Bool
 is_number n numbers = list_any (λ m. m == n) numbers
 
--- the first number counted on that is not used, trying so many; where all are used, the first of them
+-- the first number counted on that is not used, trying so many; if all are used, the first of them
 unfoldable pub unused : (ℕ → Bool) → ℕ → ℕ → ℕ → ℕ
 unused used first zero n = first
 unused used first (suc tries) n = if used n then unused used first tries ((n + 1) % 2 ^ 32) else n
 
--- the source of a draw, given those drawn earlier in the call
+-- the SSRC of a draw, given those drawn earlier in the call
 abbrev pub drawn_source : (ℕ → Bool) → List ℕ → ℕ → ℕ
 drawn_source used earlier n = unused (λ m. used m || is_number m earlier) n (2 ^ 32) n
 
@@ -55,7 +55,7 @@ module _ {N : Type 0} (draws : Draws N) (used : ℕ → Bool) where
   abbrev pub next_source : List ℕ → N → ℕ
   next_source earlier ids = drawn_source used earlier (draws.drawn ids % 2 ^ 32)
 
-  -- for video the source of the retransmissions is drawn first
+  -- for video the RTX SSRC is drawn first
   abbrev pub next_pair : MediaKind → List ℕ → N → Pair
   next_pair Audio earlier ids = (record { 0 = next_source earlier ids }, None)
   next_pair Video earlier ids = (
@@ -77,11 +77,11 @@ module _ {N : Type 0} (draws : Draws N) (used : ℕ → Bool) where
   after_pairs kind zero ids = ids
   after_pairs kind (suc count) ids = after_pairs kind count (after_pair kind ids)
 
--- a pair for each layer that is sent, and one where there are no layers
+-- a pair for each layer that is sent, and one if there are no layers
 abbrev pub pair_count : Option Simulcast → ℕ
 pair_count None = 1
 pair_count (Some simulcast) = length simulcast.send
 
--- whether a stream of a media part has a source
+-- whether a stream of a media part has an SSRC
 abbrev pub has_source : {M E X T W : Type 0} → MediaMeaning M E X T W → M → ℕ → Bool
 has_source m p n = m.used p (record { 0 = n })

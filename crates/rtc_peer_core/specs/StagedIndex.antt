@@ -12,7 +12,7 @@ abbrev pub is_mid : Option (List ℕ) → List ℕ → Bool
 is_mid None mid = false
 is_mid (Some own) mid = bytes_eq own mid
 
--- whether a mid is that of the line of the data channels, or one of a set
+-- whether a mid is that of the m-line of data channels, or one of a set
 abbrev pub is_indexed_mid : BTreeSet (List ℕ) → Option (List ℕ) → List ℕ → Bool
 is_indexed_mid mids app mid = is_mid app mid || set.contains (slice_cmp nat_cmp) mids mid
 

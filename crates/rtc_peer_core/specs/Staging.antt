@@ -1,4 +1,4 @@
--- How channels and restarts are staged: a channel with the line of the data channels, where there is none yet (RFC 8831, section 6.4).
+-- How channels and restarts are staged: a channel with the m-line of data channels, if there is none yet (RFC 8831, section 6.4).
 use Rattle.std.specs.Prelude.{◌≡◌, ℕ, Bool, true, false, List, [], ◌∷◌, ◌++◌, ◌||◌, not, filter, is_some, Result, Ok, Err}
 use Rattle.rtc_wire.specs.declared.channel_config.ChannelConfig.{ChannelConfig}
 use Rattle.rtc_sdp_values.specs.declared.ice_creds.IceCreds.{IceCreds}
@@ -18,7 +18,7 @@ abbrev pub lacks_app : List LineRow → List Change → Bool
 lacks_app rows staged = not (is_some (app_of rows) || contains_add_app staged)
 
 module _ {N : Type 0} (draws : Draws N) where
-  -- the line of the data channels, where it is lacking
+  -- the m-line of data channels, if it is missing
   abbrev pub lacking_app : List LineRow → List Change → N → Bool → List Change
   lacking_app rows staged ids true = AddApp (next_mid draws rows staged ids) ∷ []
   lacking_app rows staged ids false = []
@@ -28,7 +28,7 @@ module _ {N : Type 0} (draws : Draws N) where
   after_app ids true = draws.after ids
   after_app ids false = ids
 
-  -- A channel is made and staged, or refused; where memory runs out, nothing has changed.
+  -- A channel is made and staged, or refused; if memory runs out, nothing has changed.
   abbrev pub StagesChannel : List LineRow → N → List Change → Channels → ChannelConfig → Result ℕ ChannelError → N → List Change
       → Channels → Type 0
   StagesChannel rows ids staged held config (Ok id) ids' staged' held' =

@@ -25,16 +25,16 @@ pub record Stance : Type 0 where
   -- the rows that these changes set or stopped, as they were before
   pub undo : List RowBefore
   pub channels : Channels
-  -- the rows that tell of them
+  -- the rows that report them
   pub rows : List ChannelRow
   pub counter : ℕ
-  -- whether the counter was last raised by an offer of this side whose token was not handed in yet
+  -- whether the counter was last raised by an offer of this side whose token was not given yet
   pub outstanding : Bool
-  -- the role where two offers cross, if one is set: whether it is the polite one
+  -- the role on glare, if one is set: whether it is the polite one
   pub polite : Option Bool
   -- whether the ICE agent is lite, the credentials of both sides, and the local candidates
   pub ice : IceSettings
-  -- the fingerprint of this side's certificate, and that which the other side told first
+  -- the fingerprint of this side's certificate, and the one that the other side announced first
   pub own_fingerprint : Fingerprint
   pub fingerprint : Option Fingerprint
   -- the DTLS role, once it is taken: whether this side begins the handshake
@@ -69,7 +69,7 @@ stance_of m p = record {
   line = m.media.line p.media;
 }
 
--- the text of the other side's chunk, where the association was started by the chunks of both sides
+-- the other side's SNAP INIT chunk as text, if the association was started by both chunks
 abbrev pub kept_init : KeptHalves → Option (List ℕ)
 kept_init kept = text_in remote_text kept.started
 

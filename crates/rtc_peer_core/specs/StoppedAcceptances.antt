@@ -1,4 +1,4 @@
--- Where the acceptance of an offer or an answer stops that runs out of memory.
+-- The place at which the acceptance of an offer or an answer stops that runs out of memory.
 use Rattle.std.specs.Prelude.{◌≡◌, Bool, not, List, Option, None, Ok, Err}
 use Rattle.std.specs.declared.alloc.AllocError.{AllocError}
 use Rattle.rtc_sdp_values.specs.Sdp.{creds_of, candidates_of, sdp_setup, max_message_size_of}
@@ -18,9 +18,8 @@ use Rattle.rtc_peer_core.specs.SdpMoves.{updates_for, halves_for, ids_after_halv
 use Rattle.rtc_peer_core.specs.Stance.{stance_of, held_by}
 
 module _ {I D S M E X T W N : Type 0} (m : Meanings I D S M E X T W N) where
-  -- Memory runs out before the agent, the DTLS part and the association are touched: before sources are drawn, among the draws of these
-  -- and of this side's half of a start by session descriptions, or as the media part prepares its updates. What is drawn before sources
-  -- is given.
+  -- Memory runs out before the agent, the DTLS part and the association are touched: before SSRCs are drawn, among the draws of these and
+  -- of this side's SNAP INIT chunk, or as the media part prepares its updates. What is drawn before SSRCs is given.
   pub data StopsPreparing (p : Peer I D S M N) (offer may : Bool) (changes : List Change) (sdp : Sdp) (drawn : N) (q : Peer I D S M N)
       : Type 0 where
     BeforeSources : q ≡ record p { ids = drawn } → StopsPreparing p offer may changes sdp drawn q

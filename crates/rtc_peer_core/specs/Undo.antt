@@ -21,7 +21,7 @@ abbrev pub has_undo_of : Option LineRow → List RowBefore → Bool
 has_undo_of None undo = true
 has_undo_of (Some row) undo = has_undo row undo
 
--- the rows that are noted once this one is set or stopped: the first note of a row stays
+-- the rows that are noted once this one is set or stopped: the first note of a row is kept
 abbrev pub noted : LineRow → List RowBefore → List RowBefore
 noted (Media place mid kind dir stopped remote_created) undo =
     if is_among (undo_mids undo) mid then undo else undo ++ (mid, dir, stopped) ∷ []

@@ -29,7 +29,7 @@ fn is_held_mid(lines: &Lines, mids: &BTreeSet<Mid>, app: &Option<Mid>, mid: Mid)
     lines.has_mid(mid) || *app == Some(mid) || mids.contains(&mid)
 }
 
-/// How many lines there are with those that are staged; `AllocError` where they are 2^32 - 1 or more.
+/// How many lines there are with the staged ones; `AllocError` if they are 2^32 - 1 or more.
 pub fn count_lines(lines: &Lines, added: usize) -> Result<u32, AllocError>
     ensures count { IfOk result (λ count. count ≡ length lines.now + added) }
     ensures few { IfOk result (λ count. count < 2 ^ 32 - 1) }

@@ -1,8 +1,8 @@
-//! What m-lines tell of their media.
+//! What m-lines carry of their media.
 use rtc_sdp_values::{Extension, Msid, PayloadRow, Simulcast, Ssrc};
 use rtc_wire::{Seq, Text};
 
-/// What the m-line of a media line tells of its media.
+/// What the m-line of a media line carries of its media.
 #[derive(Debug, PartialEq, Eq, Drop)]
 pub struct LineMedia {
     pub payloads: Seq<PayloadRow>,
@@ -11,6 +11,6 @@ pub struct LineMedia {
     pub simulcast: Option<Simulcast>,
     pub msid: Option<Msid>,
     pub cname: Option<Text>,
-    /// Each source, with that of its retransmissions.
+    /// Each SSRC, with its RTX SSRC.
     pub ssrcs: Seq<(Ssrc, Option<Ssrc>)>,
 }

@@ -21,14 +21,14 @@ pub struct Peer<I, D, S, M, N> {
     pub channels: ChannelHandler,
     /// How many offers were made or given, also those refused; it wraps.
     pub counter: u64,
-    /// Whether the counter was last raised by an offer of this side whose token was not handed in yet.
+    /// Whether the counter was last raised by an offer of this side whose token was not given yet.
     pub outstanding: bool,
-    /// The role where two offers cross, if one is set: whether it is the polite one.
+    /// The role on glare, if one is set: whether it is the polite one.
     pub polite: Option<bool>,
     /// The number of the session, of the `o=` line.
     pub session_id: u64,
     pub phase: Phase,
-    /// The fingerprint that the other side told first.
+    /// The fingerprint that the other side announced first.
     pub fingerprint: Option<Fingerprint>,
     /// The greatest moment that was given.
     pub greatest: Moment,

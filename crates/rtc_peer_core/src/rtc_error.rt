@@ -38,7 +38,7 @@ pub enum RtcError {
     BadChannel,
     /// There was too little memory, or a table would have 2^32 - 1 lines or more.
     Alloc,
-    /// The peer is impolite, and its own offer still awaits its answer (RFC 3264, section 4).
+    /// Glare: the peer is impolite, and its own offer is pending (RFC 3264, section 4).
     Glare,
 }
 

@@ -1,8 +1,8 @@
-//! What a peer tells of itself.
+//! What a description carries of its side.
 use rtc_sdp_values::{Candidate, Fingerprint, IceCreds, Setup};
 use rtc_wire::{Seq, Text};
 
-/// What an offer or an answer tells of its side, besides the lines.
+/// What an offer or an answer carries of its side, beside the m-lines.
 #[derive(Debug, PartialEq, Eq, Drop)]
 pub struct SdpHead {
     /// The number of the session, of the `o=` line.
@@ -15,10 +15,10 @@ pub struct SdpHead {
     pub fingerprint: Fingerprint,
     /// The role in the DTLS handshake (RFC 8842, section 5).
     pub setup: Setup,
-    /// The candidates, which stand at the first m-line.
+    /// The candidates, which are on the first m-line.
     pub candidates: Seq<Candidate>,
-    /// The longest message that this side takes, in bytes, which the line of the data channels tells (RFC 8841, section 6.1).
+    /// The longest message that this side takes, in bytes, which the m-line of data channels carries (RFC 8841, section 6.1).
     pub max_message_size: u32,
-    /// The text of the chunk that starts the association, which the line of the data channels tells (draft-hancke-tsvwg-snap).
+    /// The text of this side's SNAP INIT chunk, which the m-line of data channels carries (draft-hancke-tsvwg-snap).
     pub sctp_init: Option<Text>,
 }

@@ -8,6 +8,6 @@ pub struct Sending {
     pub simulcast: Option<Simulcast>,
     pub msid: Option<Msid>,
     pub cname: Option<Text>,
-    /// Each source, with that of its retransmissions.
+    /// Each SSRC, with its RTX SSRC.
     pub ssrcs: Seq<(Ssrc, Option<Ssrc>)>,
 }

@@ -25,7 +25,7 @@ pub struct Staged {
     changes: Vec<Change>,
     // The mids of the media lines that they add.
     mids: BTreeSet<Mid>,
-    // The mid of the line of the data channels that they add.
+    // The mid of the m-line of data channels that they add.
     app: Option<Mid>,
     // How many lines they add.
     count: usize,
@@ -103,7 +103,7 @@ impl Staged {
         self.count
     }
 
-    /// Whether they add the line of the data channels.
+    /// Whether they add the m-line of data channels.
     pub fn contains_add_app(&self) -> bool
         ensures { result ≡ contains_add_app self.now }
     {
@@ -120,7 +120,7 @@ impl Staged {
         self.count = 0;
     }
 
-    /// The changes, of which none stays staged.
+    /// The changes; none is staged afterwards.
     pub fn take(&mut self, alloc: Global) -> Changes
         ensures changes { result.0 ≡ self.old }
         ensures none { self.new ≡ [] }
@@ -190,7 +190,7 @@ impl Staged {
         Ok(())
     }
 
-    /// Makes a channel and stages it, with the line of the data channels where neither a row nor a staged line is one.
+    /// Makes a channel and stages it, with the m-line of data channels if neither a row nor a staged line is one.
     pub fn push_channel<N: Ids>(
         &mut self,
         ids: &mut N,

@@ -1,8 +1,8 @@
-//! Rows that are told.
+//! Rows that a description carries.
 use crate::LineMedia;
 use rtc_sdp_values::LineRow;
 
-/// A row that an offer or an answer tells, with what it tells of its media.
+/// A row that an offer or an answer carries, with its media.
 #[derive(Debug, PartialEq, Eq, Drop)]
 pub struct ToldRow {
     pub row: LineRow,

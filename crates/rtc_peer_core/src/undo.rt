@@ -73,7 +73,7 @@ impl Undo {
         self.mids.clear();
     }
 
-    /// The rows, of which none stays.
+    /// The rows; none is kept.
     pub fn take(&mut self, alloc: Global) -> Seq<(Mid, Direction, bool)>
         ensures rows { result ≡ self.old }
         ensures none { self.new ≡ [] }
@@ -96,7 +96,7 @@ impl Undo {
         Ok(true)
     }
 
-    /// Notes a media row as it is, and answers whether it was not noted before: what was noted first stays.
+    /// Notes a media row as it is, and returns whether it was not noted before: what was noted first is kept.
     pub fn note(&mut self, row: &LineRow) -> Result<bool, AllocError>
         ensures rows { OnOk result (self.new ≡ noted row.now self.old) }
         ensures added { IfOk result (λ added. added ≡ not (has_undo row.now self.old)) }

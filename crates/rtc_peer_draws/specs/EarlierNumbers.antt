@@ -1,4 +1,4 @@
--- Numbers of sources that were drawn earlier in a call.
+-- Numbers of SSRCs that were drawn earlier in a call.
 use Rattle.std.specs.Prelude.{◌≡◌, ℕ, List}
 use Rattle.std.specs.BTreeSet as set
 use Rattle.std.specs.BTreeSet.{BTreeSet}

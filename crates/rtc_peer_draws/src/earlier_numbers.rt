@@ -1,4 +1,4 @@
-//! Numbers of sources that were drawn earlier in a call.
+//! Numbers of SSRCs that were drawn earlier in a call.
 ghost use Rattle.std.specs.Prelude.{◌≡◌, ◌++◌, ◌∷◌, [], OnOk};
 ghost use Rattle.rtc_peer_core.specs.Sources.{is_number};
 

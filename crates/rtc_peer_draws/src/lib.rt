@@ -1,4 +1,4 @@
-//! What a peer draws from its source of numbers: names, credentials, synchronization sources.
+//! What a peer draws from its source of numbers: names, credentials, SSRCs.
 #![tactic(auto)]
 
 mod credentials;

@@ -29,7 +29,7 @@ fn keep_bytes(alloc: Global, name: &str) -> Result<Text, AllocError>
     }
 }
 
-/// A name that is given, where something is kept of it.
+/// A given name, if something is kept of it.
 pub fn keep_name(alloc: Global, name: Option<String>) -> Result<Option<Text>, AllocError>
     ensures { IfOk result (λ kept. kept ≡ kept_name (option_map (λ given. string_bytes given) name)) }
 {

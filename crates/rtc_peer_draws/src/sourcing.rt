@@ -1,4 +1,4 @@
-//! Draws of synchronization sources.
+//! Draws of SSRCs.
 ghost use Rattle.std.specs.Prelude.{◌≡◌, ◌||◌, ◌++◌, [], IfOk, OnOk};
 ghost use Rattle.std.specs.List.{flat_map};
 ghost use Rattle.rtc_part_values.specs.Draws.{Later};
@@ -30,7 +30,7 @@ fn is_taken<M: MediaSession>(media: &M, earlier: &EarlierNumbers, n: u32) -> boo
     media.ssrc_used(Ssrc(n)) || earlier.has(n)
 }
 
-// The first number counted on that is not taken; where all are, the first.
+// The first number counted on that is not taken; if all are, the first.
 fn find_source<M: MediaSession>(media: &M, earlier: &EarlierNumbers, first: u32) -> u32
     ensures { result ≡ drawn_source (has_source M.media media.now) earlier.now first }
 {
@@ -44,7 +44,7 @@ fn find_source<M: MediaSession>(media: &M, earlier: &EarlierNumbers, first: u32)
     first
 }
 
-/// A source that no stream has, and that was not drawn earlier in the call; where there is none, that of the number drawn.
+/// An SSRC that no stream has, and that was not drawn earlier in the call; if there is none, the number drawn.
 pub fn draw_source<M: MediaSession, N: Ids>(
     ids: &mut N,
     media: &M,
@@ -57,7 +57,7 @@ pub fn draw_source<M: MediaSession, N: Ids>(
     Ssrc(find_source(media, earlier, first))
 }
 
-// A source for a line of a kind, with that of its retransmissions; its numbers are passed over from then on.
+// An SSRC for a line of a kind, with its RTX SSRC; their numbers are passed over from then on.
 #[tactic(auto, using(crate::proofs::Pairs::few_draws))]
 fn draw_pair<M: MediaSession, N: Ids>(
     ids: &mut N,
@@ -111,7 +111,7 @@ pub fn draw_pairs<M: MediaSession, N: Ids>(
     Ok(Seq::new(pairs))
 }
 
-/// So many pairs for a line of a kind, where nothing was drawn before.
+/// So many pairs for a line of a kind, if nothing was drawn before.
 pub fn draw_first_pairs<M: MediaSession, N: Ids>(
     alloc: Global,
     ids: &mut N,

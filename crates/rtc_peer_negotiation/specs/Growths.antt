@@ -38,7 +38,7 @@ begun_growth restart control starting = record {
 }
 
 module _ {I D S M E X T W N : Type 0} (m : Meanings I D S M E X T W N) where
-  -- numbers are drawn for the sources of lines, and then for this side's half of a start by session descriptions; nothing else changes
+  -- numbers are drawn for the SSRCs of lines, and then for this side's SNAP INIT chunk; nothing else changes
   pub record DrawsAlong (p : Peer I D S M N) (offer may : Bool) (changes : List Change) (sdp : Sdp) (q : Peer I D S M N) : Type 0 where
     pub some : Later m.ids p.ids q.ids
     pub most : Later m.ids q.ids (ids_after_halves m p offer may changes sdp p.ids)

@@ -1,4 +1,4 @@
--- The half of a start by session descriptions that an offer tells (draft-hancke-tsvwg-snap).
+-- The SNAP INIT chunk that an offer carries (draft-hancke-tsvwg-snap).
 use Rattle.std.specs.Prelude.{ℕ, Bool, true, false, List, Option, Some, None}
 use Rattle.rtc_sctp_values.specs.InitHalves.{InitHalves, local_text, with_local}
 use Rattle.rtc_sctp_values.specs.SnapHalves.{KeptHalves, text_in}
@@ -9,7 +9,7 @@ use Rattle.rtc_peer_core.specs.SdpHalves.{tells_half}
 use Rattle.rtc_peer_core.specs.Stance.{stance_of}
 
 module _ {I D S M E X T W N : Type 0} (m : Meanings I D S M E X T W N) where
-  -- the halves of which it tells this side's, which is drawn where it is not there
+  -- the chunks of which it carries this side's, which is drawn if it is missing
   abbrev pub halves_where : Bool → Peer I D S M N → Option InitHalves
   halves_where true p = Some (with_local m.ids (halves_pending m p) p.ids)
   halves_where false p = None
@@ -17,12 +17,12 @@ module _ {I D S M E X T W N : Type 0} (m : Meanings I D S M E X T W N) where
   abbrev pub halves_told : Peer I D S M N → Option InitHalves
   halves_told p = halves_where (tells_half (stance_of m p)) p
 
--- the text that is told: that of these halves, or else that of the start
+-- the text that is carried: that of these chunks, or else that of the start
 abbrev pub init_of_told : KeptHalves → Option InitHalves → Option (List ℕ)
 init_of_told kept None = text_in local_text kept.started
 init_of_told kept (Some halves) = local_text halves
 
--- what is kept once it was told
+-- what is kept once it was carried
 abbrev pub snap_of_told : KeptHalves → Option InitHalves → KeptHalves
 snap_of_told kept None = kept
 snap_of_told kept (Some halves) = record kept { pending = Some halves }

@@ -40,7 +40,7 @@ fn known_creds<I: IceAgent>(ice: &I) -> Option<&IceCreds>
     }
 }
 
-// The text of the other side's chunk, where the association was started by the chunks of both sides.
+// The other side's SNAP INIT chunk as text, if the association was started by both chunks.
 fn kept_init<S: Association>(sctp: &RtcSctp<S>) -> Result<Option<String>, AllocError>
     ensures { IfOk result (λ kept. option_map (λ text. string_bytes text) kept ≡ KeptInit sctp.now.snap) }
 {
@@ -129,7 +129,7 @@ fn close_unknown(phase: Phase, why: &Why) -> Phase
     }
 }
 
-// Why an offer or an answer is refused, as a peer tells it.
+// Why an offer or an answer is refused, as a peer reports it.
 fn refusal_error(phase: &mut Phase, refusal: Refusal) -> RtcError
     ensures error { result ≡ error_of_refusal refusal }
     ensures phase { phase.new ≡ refused_phase refusal phase.old }
@@ -144,7 +144,7 @@ fn refusal_error(phase: &mut Phase, refusal: Refusal) -> RtcError
     }
 }
 
-// Refuses an offer or an answer, which leaves all of the peer but its phase.
+// Refuses an offer or an answer; all of the peer but its phase is unchanged.
 fn refuse<I: IceAgent, D: DtlsInstance, S: Association, M: MediaSession, N: Ids>(
     peer: &mut Peer<I, D, S, M, N>,
     refusal: Refusal,
@@ -155,7 +155,7 @@ fn refuse<I: IceAgent, D: DtlsInstance, S: Association, M: MediaSession, N: Ids>
     refusal_error(&mut peer.phase, refusal)
 }
 
-// Whether a peer of this role refuses any offer, given whether an offer of its own still awaits its answer.
+// Whether a peer of this role refuses any offer, given whether an own offer is pending.
 fn is_in_glare(polite: Option<bool>, outstanding: bool) -> bool
     ensures { result ≡ meets_glare polite outstanding }
 {
@@ -213,7 +213,7 @@ pub fn is_latest(counter: u64, token: &SdpPendingOffer) -> bool
     counter == token.change_id().wrapping_add(1)
 }
 
-// Accepts an answer to the offer of a token, which the caller spends: the channels that it adds are still to be confirmed.
+// Accepts an answer to the offer of a token, which the caller consumes: the channels that it adds are still to be confirmed.
 fn follow_answer<I: IceAgent, D: DtlsInstance, S: Association, M: MediaSession, N: Ids>(
     peer: &mut Peer<I, D, S, M, N>,
     token: &SdpPendingOffer,
@@ -255,7 +255,7 @@ fn follow_answer<I: IceAgent, D: DtlsInstance, S: Association, M: MediaSession, 
     Ok(())
 }
 
-/// Accepts an offer, and answers it; the token of an own offer is superseded, also where the offer is refused, but for glare.
+/// Accepts an offer, and returns the answer. The token of an own offer is invalidated, also if the other offer is refused, but on glare.
 pub fn accept_offer<I: IceAgent, D: DtlsInstance, S: Association, M: MediaSession, N: Ids>(
     peer: &mut Peer<I, D, S, M, N>,
     offer: Sdp,
@@ -271,7 +271,7 @@ pub fn accept_offer<I: IceAgent, D: DtlsInstance, S: Association, M: MediaSessio
     answer
 }
 
-/// Accepts the answer to the offer of a token, which is spent. The channels that it adds are confirmed.
+/// Accepts the answer to the offer of a token, which is consumed. The channels that it adds are confirmed.
 pub fn accept_answer<I: IceAgent, D: DtlsInstance, S: Association, M: MediaSession, N: Ids>(
     peer: &mut Peer<I, D, S, M, N>,
     token: SdpPendingOffer,

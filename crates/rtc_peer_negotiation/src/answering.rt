@@ -18,7 +18,7 @@ use rtc_sdp_values::{IceCreds, LineRow, Sdp};
 use rtc_wire::Text;
 use std::alloc::AllocError;
 
-// What the answer of a peer tells of it.
+// What the answer of a peer carries of it.
 fn make_answer_head<I: IceAgent, D: DtlsInstance, S: Association, M: MediaSession, N: Ids>(
     peer: &Peer<I, D, S, M, N>,
     restart: &Option<(IceCreds, bool)>,
@@ -41,7 +41,7 @@ fn make_answer_head<I: IceAgent, D: DtlsInstance, S: Association, M: MediaSessio
     )
 }
 
-/// The answer to an offer that leaves these rows, and of whose lines the media part is told this.
+/// The answer to an offer that leaves these rows. The media part is given this of its lines.
 #[tactic(auto, unfolding(rtc_peer_core::specs::MadeSdp::answer_sdp))]
 pub fn make_answer<I: IceAgent, D: DtlsInstance, S: Association, M: MediaSession, N: Ids>(
     peer: &Peer<I, D, S, M, N>,

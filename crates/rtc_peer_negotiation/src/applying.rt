@@ -45,7 +45,7 @@ fn stages_offer(staged: &Staged) -> bool
     makes_offer(staged.as_slice())
 }
 
-// Applies channels alone, which no offer tells of. Nothing happens where nothing is staged.
+// Applies channels alone, which no offer carries. Nothing happens if nothing is staged.
 fn apply_channels<I, D, S, M, N>(peer: &mut Peer<I, D, S, M, N>)
     ensures { peer.new ≡ after_channels_alone peer.old.staged peer.old }
 {
@@ -58,7 +58,7 @@ fn apply_channels<I, D, S, M, N>(peer: &mut Peer<I, D, S, M, N>)
     peer.outstanding = false;
 }
 
-// What the offer of a peer tells of it.
+// What the offer of a peer carries of it.
 fn make_offer_head<I: IceAgent, D: DtlsInstance, S: Association, M: MediaSession, N: Ids>(
     peer: &Peer<I, D, S, M, N>,
     init: Option<Text>,
@@ -96,7 +96,7 @@ fn make_offer<I: IceAgent, D: DtlsInstance, S: Association, M: MediaSession, N: 
     make_sdp(peer.alloc, head, told)
 }
 
-// Whether this side is controlling, where that is still to be settled.
+// Whether this side is controlling, if that is still open.
 fn control_of_offer<I: IceAgent, D: DtlsInstance>(ice: &I, dtls: &Dtls<D>) -> Option<bool>
     ensures { result ≡ control_for dtls.now.active (not (I.ice.settings ice.now).lite) }
 {
@@ -106,7 +106,7 @@ fn control_of_offer<I: IceAgent, D: DtlsInstance>(ice: &I, dtls: &Dtls<D>) -> Op
     }
 }
 
-// Whether the offer of what is staged tells this side's half of a start by session descriptions.
+// Whether the offer of what is staged carries this side's SNAP INIT chunk.
 fn tells_half<I: IceAgent, D: DtlsInstance, S: Association, M: MediaSession, N: Ids>(
     peer: &Peer<I, D, S, M, N>,
 ) -> bool
@@ -118,7 +118,7 @@ fn tells_half<I: IceAgent, D: DtlsInstance, S: Association, M: MediaSession, N: 
     has_app(peer.lines.rows()) || peer.staged.contains_add_app()
 }
 
-// The halves that the offer of what is staged tells this side's half of, where it tells one. The half is drawn where it is not there.
+// The chunks with which the offer of what is staged carries this side's, which is drawn if it is missing; None if it carries none.
 fn draw_half<I: IceAgent, D: DtlsInstance, S: Association, M: MediaSession, N: Ids>(
     peer: &mut Peer<I, D, S, M, N>,
 ) -> Result<Option<SctpInitData>, AllocError>
@@ -137,8 +137,8 @@ fn draw_half<I: IceAgent, D: DtlsInstance, S: Association, M: MediaSession, N: I
     }
 }
 
-// The text that the offer tells: that of this side's half, or once the association was started by the chunks of both sides, that of its
-// own.
+// The text that the offer carries: this side's SNAP INIT chunk, or, once the association was started by both chunks,
+// the one that it was started with.
 fn tell_offered_init<S: Association>(
     sctp: &RtcSctp<S>,
     told: &Option<SctpInitData>,
@@ -151,7 +151,7 @@ fn tell_offered_init<S: Association>(
     }
 }
 
-// Keeps the half that was told.
+// Keeps the chunk that was carried.
 fn keep_told<S: Association>(sctp: &mut RtcSctp<S>, told: Option<SctpInitData>)
     ensures { sctp.new ≡ record sctp.old { snap = snap_of_told sctp.old.snap told } }
 {
@@ -162,7 +162,7 @@ fn keep_told<S: Association>(sctp: &mut RtcSctp<S>, told: Option<SctpInitData>)
 
 /// Makes the offer of what is staged, with its token.
 ///
-/// None where nothing but channels is staged: these are confirmed. None, and nothing happens, where nothing is staged.
+/// None if nothing but channels is staged: these are confirmed. None, and nothing happens, if nothing is staged.
 pub fn apply_staged<I: IceAgent, D: DtlsInstance, S: Association, M: MediaSession, N: Ids>(
     peer: &mut Peer<I, D, S, M, N>,
 ) -> Result<Option<(Sdp, SdpPendingOffer)>, AllocError>

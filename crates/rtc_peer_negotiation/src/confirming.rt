@@ -41,7 +41,7 @@ fn confirm_change(channels: &mut ChannelHandler, change: Change)
     }
 }
 
-/// Confirms the channels that changes add, where they are still there. Nothing is allocated.
+/// Confirms the channels that changes add, if they are still there. Nothing is allocated.
 pub fn confirm_channels(channels: &mut ChannelHandler, changes: Changes)
     ensures { channels.new ≡ all_confirmed (fitting_channels changes.0) channels.old }
 {

@@ -24,7 +24,7 @@ pub fn lend_restart(restart: &Option<(IceCreds, bool)>) -> Option<(&IceCreds, bo
     }
 }
 
-// Puts the fingerprint that is known, or else that which is told.
+// Puts the known fingerprint, or else the announced one.
 fn put_fingerprint(
     known: &Option<Fingerprint>,
     sdp: &Sdp,
@@ -74,7 +74,7 @@ pub fn begin_growth(
     }
 }
 
-/// Puts what an offer or an answer tells of its side.
+/// Puts what an offer or an answer carries of its side.
 pub fn put_told(
     known: &Option<Fingerprint>,
     sdp: &Sdp,

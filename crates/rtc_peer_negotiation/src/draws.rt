@@ -26,9 +26,9 @@ use std::alloc::AllocError;
 /// What numbers were drawn for.
 #[derive(Drop)]
 pub struct Drawn {
-    /// What the media part is told of the lines.
+    /// What the media part is given of the lines.
     pub updates: Vec<MediaUpdate>,
-    /// The halves of a start by session descriptions.
+    /// Both SNAP INIT chunks.
     pub halves: Option<SctpInitData>,
 }
 
@@ -40,7 +40,7 @@ fn named_rows<'a>(rows: &'a [LineRow], sdp: &Sdp) -> &'a [LineRow]
     &rows[..sdp.lines.len()]
 }
 
-// What the media part is told, by the rows that the lines leave. Numbers are drawn for sources.
+// What the media part is given, by the rows that the lines leave. SSRCs are drawn.
 fn list_line_updates<I: IceAgent, D: DtlsInstance, S: Association, M: MediaSession, N: Ids>(
     peer: &mut Peer<I, D, S, M, N>,
     offer: bool,
@@ -74,7 +74,7 @@ fn list_line_updates<I: IceAgent, D: DtlsInstance, S: Association, M: MediaSessi
     Ok(updates)
 }
 
-// The halves of a start by session descriptions, where one tells a chunk for it. This side's half is drawn where it is not there.
+// Both SNAP INIT chunks, if the description carries one. This side's is drawn if it is missing.
 fn join_halves<I: IceAgent, D: DtlsInstance, S: Association, M: MediaSession, N: Ids>(
     peer: &mut Peer<I, D, S, M, N>,
     may: bool,
@@ -96,7 +96,7 @@ fn join_halves<I: IceAgent, D: DtlsInstance, S: Association, M: MediaSession, N:
     }
 }
 
-/// What the media part is told, and the halves of a start by session descriptions. Numbers are drawn for both.
+/// What the media part is given, and both SNAP INIT chunks. Numbers are drawn for both.
 pub fn draw_along<I: IceAgent, D: DtlsInstance, S: Association, M: MediaSession, N: Ids>(
     peer: &mut Peer<I, D, S, M, N>,
     offer: bool,

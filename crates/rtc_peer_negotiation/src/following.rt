@@ -51,7 +51,7 @@ fn take_candidates<I: IceAgent>(ice: &mut I, candidates: Vec<Candidate>) -> Resu
     Ok(())
 }
 
-/// Sets which side is controlling, where this is asked.
+/// Sets which side is controlling, if this is asked.
 pub fn take_control<I: IceAgent>(ice: &mut I, control: Option<bool>)
     ensures { TakesControl I.ice ice.old control ice.new }
 {
@@ -119,7 +119,7 @@ fn take_role<D: DtlsInstance>(
     }
 }
 
-/// The DTLS part takes a role where it has none.
+/// The DTLS part takes a role if it has none.
 pub fn start_dtls<D: DtlsInstance>(
     dtls: &mut Dtls<D>,
     active: bool,

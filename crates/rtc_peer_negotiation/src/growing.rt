@@ -58,7 +58,7 @@ fn draw_restart<N: Ids>(
     Ok(Some(keep_candidates(creds)))
 }
 
-// Which side is controlling, where that is still to be settled.
+// Which side is controlling, if that is still open.
 fn control_for<D: DtlsInstance>(dtls: &Dtls<D>, on: bool) -> Option<bool>
     ensures { result ≡ ControlFor dtls.now.active on }
 {
@@ -81,7 +81,7 @@ fn prepare_media<M: MediaSession>(
     }
 }
 
-// Puts the answer to an offer, and what the offer tells of its side.
+// Puts the answer to an offer, and what the offer carries of its side.
 fn put_followed<I: IceAgent, D: DtlsInstance, S: Association, M: MediaSession, N: Ids>(
     peer: &Peer<I, D, S, M, N>,
     offer: &Sdp,
@@ -134,8 +134,7 @@ fn grow_followed<I: IceAgent, D: DtlsInstance, S: Association, M: MediaSession, 
     whole(growth, put)
 }
 
-/// Makes ready what the acceptance of an offer needs: credentials are drawn before sources and these before this side's half of a start
-/// by session descriptions, and the answer tells of all.
+/// Prepares what the acceptance of an offer needs: credentials, then SSRCs, then this side's SNAP INIT chunk; the answer carries all.
 pub fn grow_offer<I: IceAgent, D: DtlsInstance, S: Association, M: MediaSession, N: Ids>(
     peer: &mut Peer<I, D, S, M, N>,
     offer: &Sdp,
@@ -176,7 +175,7 @@ pub fn grow_offer<I: IceAgent, D: DtlsInstance, S: Association, M: MediaSession,
     }
 }
 
-// Puts the restart that an answer is followed by, and what the answer tells of its side.
+// Puts the restart that follows an answer, and what the answer carries of its side.
 fn put_answered(
     changes: &Changes,
     answer: &Sdp,
@@ -219,7 +218,7 @@ fn grow_answered(
     whole(growth, put)
 }
 
-/// Makes ready what the acceptance of an answer needs.
+/// Prepares what the acceptance of an answer needs.
 pub fn grow_answer<I: IceAgent, D: DtlsInstance, S: Association, M: MediaSession, N: Ids>(
     peer: &mut Peer<I, D, S, M, N>,
     may: bool,

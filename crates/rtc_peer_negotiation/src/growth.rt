@@ -10,6 +10,6 @@ pub struct Growth {
     pub answer: Option<Sdp>,
     pub following: Following,
     pub starting: Starting,
-    /// The fingerprint that was told first.
+    /// The fingerprint that was announced first.
     pub fingerprint: Option<Fingerprint>,
 }

@@ -17,8 +17,8 @@ use rtc_sctp::RtcSctp;
 use rtc_sdp_values::{LineRow, Sdp};
 use rtc_wire::Moment;
 
-// The agent follows, the DTLS part takes its role, and the association is started as client where that role is the
-// active one. The first that fails ends it.
+// The agent follows, the DTLS part takes its role, and the association is started as client if that role is the active
+// one. The first that fails ends it.
 fn move_parts<I: IceAgent, D: DtlsInstance, S: Association>(
     ice: &mut I,
     dtls: &mut Dtls<D>,

@@ -38,7 +38,7 @@ fn cancel_channel(channels: &mut ChannelHandler, id: ChannelId)
     }
 }
 
-// Removes the channels that changes add, where they are still there and were never confirmed.
+// Removes the channels that changes add, if they are still there and were never confirmed.
 fn cancel_channels(channels: &mut ChannelHandler, changes: &[Change])
     ensures { channels.new ≡ all_cancelled (new_channels changes.now) channels.old }
 {

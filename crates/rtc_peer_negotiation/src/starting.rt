@@ -1,11 +1,11 @@
 //! How the association is started.
 use rtc_sctp_values::SctpInitData;
 
-/// How the association is started by an offer or an answer, where it is.
+/// How the association is started by an offer or an answer, if it is.
 #[derive(Drop)]
 pub struct Starting {
-    /// The halves of a start by session descriptions.
+    /// Both SNAP INIT chunks.
     pub halves: Option<SctpInitData>,
-    /// Whether pending halves go where it is not started.
+    /// Whether the pending chunks are dropped if it is not started.
     pub drops: bool,
 }

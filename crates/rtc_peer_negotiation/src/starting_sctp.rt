@@ -12,7 +12,7 @@ use rtc_sctp::{RtcSctp, SctpError};
 use rtc_sdp_values::{LineRow, Sdp};
 use rtc_wire::Moment;
 
-// The longest message that the other side takes, in bytes, where it tells one.
+// The longest message that the other side takes, in bytes, if it announces one.
 fn told_limit(size: Option<u64>) -> Option<u32>
     ensures { limit_or_default result ≡ remote_limit size }
 {
@@ -44,7 +44,7 @@ fn needs_start<S: Association>(sctp: &RtcSctp<S>, rows: &[LineRow]) -> bool
     has_app(rows) && !sctp.is_inited()
 }
 
-// Lets go what is pending for a start by session descriptions, or keeps it.
+// Drops the pending SNAP INIT chunks, or keeps them.
 fn drop_pending<S: Association>(sctp: &mut RtcSctp<S>, drops: bool)
     ensures { sctp.new ≡ record sctp.old { snap = dropped_halves drops sctp.old.snap } }
 {
@@ -53,7 +53,7 @@ fn drop_pending<S: Association>(sctp: &mut RtcSctp<S>, drops: bool)
     }
 }
 
-/// Starts the association, where these rows are the first with a line for data channels.
+/// Starts the association, if these rows are the first with an m-line of data channels.
 pub fn start_sctp<S: Association>(
     sctp: &mut RtcSctp<S>,
     rows: &[LineRow],

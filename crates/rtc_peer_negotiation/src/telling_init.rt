@@ -11,7 +11,7 @@ use rtc_sctp_values::SctpInitData;
 use rtc_wire::Text;
 use std::alloc::AllocError;
 
-// A text of a string, where there is one.
+// A text of a string, if there is one.
 fn text_of(text: Option<String>) -> Option<Text>
     ensures { result ≡ option_map (λ owned. string_bytes owned) text }
 {
@@ -21,7 +21,7 @@ fn text_of(text: Option<String>) -> Option<Text>
     }
 }
 
-/// The text of this side's half.
+/// The text of this side's chunk.
 pub fn local_init(halves: Option<&SctpInitData>) -> Result<Option<Text>, AllocError>
     ensures { IfOk result (λ init. init ≡ text_in local_text (option_copied halves.entry)) }
 {
@@ -32,7 +32,7 @@ pub fn local_init(halves: Option<&SctpInitData>) -> Result<Option<Text>, AllocEr
     Ok(text_of(text))
 }
 
-/// The text that an answer tells, where the association is started with these halves or with none.
+/// The chunk that an answer carries, if the association is started with these chunks or with none.
 pub fn tell_init<S: Association>(
     sctp: &RtcSctp<S>,
     halves: &Option<SctpInitData>,

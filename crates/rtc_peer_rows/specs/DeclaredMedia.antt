@@ -33,7 +33,7 @@ use Rattle.rtc_peer_rows.specs.Table.{has_mid, row_of}
 abbrev pub declared_row : ℕ → List ℕ → MediaKind → LineRow
 declared_row place mid kind = Media place mid kind SendRecv false false
 
--- A media line is declared behind the others, where no row has its mid.
+-- A media line is declared behind the others, if no row has its mid.
 abbrev pub Declares : List LineRow → List ℕ → MediaKind → Result Bool AllocError → List LineRow → Type 0
 Declares rows mid kind (Ok true) rows' = (has_mid mid rows ≡ false) × (rows' ≡ rows ++ declared_row (length rows) mid kind ∷ [])
 Declares rows mid kind (Ok false) rows' = (has_mid mid rows ≡ true) × (rows' ≡ rows)
@@ -45,7 +45,7 @@ media_place None = None
 media_place (Some (Media place mid kind dir stopped remote_created)) = Some place
 media_place (Some (App place mid)) = None
 
--- the rows after the media row of a mid is removed: the last one goes, and another is stopped
+-- the rows after the media row of a mid is removed: the last one is dropped, another one is stopped
 abbrev pub rows_without : List ℕ → List LineRow → List LineRow
 rows_without mid rows = by (media_place (row_of rows mid))
   where

@@ -16,12 +16,12 @@ position_of at (row ∷ rows) mid = if is_of mid row then Some at else position_
 abbrev pub HasPositions : BTreeMap (List ℕ) ℕ → ℕ → List LineRow → Type 0
 HasPositions positions at rows = (mid : List ℕ) → map.get (slice_cmp nat_cmp) positions mid ≡ position_of at rows mid
 
--- where there is a map, it has the position of the first row of each mid
+-- if there is a map, it has the position of the first row of each mid
 abbrev pub Serves : Option (BTreeMap (List ℕ) ℕ) → List LineRow → Type 0
 Serves None rows = Unit {0}
 Serves (Some positions) rows = HasPositions positions 0 rows
 
--- a table, and a map that serves it where there is one
+-- a table, and a map that serves it if there is one
 pub record IsServedTable (positions : Option (BTreeMap (List ℕ) ℕ)) (rows : List LineRow) : Type 0 where
   pub table : IsTable rows
   pub served : Serves positions rows

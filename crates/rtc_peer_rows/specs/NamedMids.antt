@@ -8,7 +8,7 @@ abbrev pub named_mids : List (List (List ℕ)) → List (List ℕ)
 named_mids [] = []
 named_mids (group ∷ groups) = group ++ named_mids groups
 
--- where there is a set, it has the mids that groups name
+-- if there is a set, it has the mids that groups name
 abbrev pub HasNamed : Option (BTreeSet (List ℕ)) → List (List (List ℕ)) → Type 0
 HasNamed None groups = Unit {0}
 HasNamed (Some found) groups = HasMids found (named_mids groups)

@@ -5,7 +5,7 @@ use Rattle.rtc_sdp_values.specs.declared.media_line.MediaLine.{MediaLine}
 use Rattle.rtc_sdp_values.specs.declared.sdp.Sdp.{Sdp}
 use Rattle.rtc_peer_rows.specs.declared.parsed_line.ParsedLine.{ParsedLine}
 
--- a line whose port is 0 is rejected where no group names it; else it is live (RFC 8843, section 7)
+-- a line whose port is 0 is rejected if no group names it; else it is live (RFC 8843, section 7)
 abbrev pub parsed_line : List (List (List ℕ)) → MediaLine → ParsedLine
 parsed_line groups line = record {
   kind = line.kind;

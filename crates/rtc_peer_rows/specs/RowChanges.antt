@@ -7,11 +7,11 @@ use Rattle.rtc_sdp_values.specs.declared.line_row.LineRow.{LineRow}
 use Rattle.rtc_sdp_values.specs.declared.line_row.LineRow.TheVariants.{Media, App}
 use Rattle.rtc_peer_rows.specs.Table.{is_of}
 
--- a change of a row: the row that it leaves, or None where it leaves the row as it is
+-- a change of a row: the row that it leaves, or None if it leaves the row as it is
 abbrev pub RowChange : Type 0
 RowChange = LineRow → Option LineRow
 
--- a live media row with the direction that is set, where it has another
+-- a live media row with the direction that is set, if it has another
 abbrev pub directed_row : Direction → RowChange
 directed_row to (Media place mid kind dir false remote_created) =
     if same_direction dir to then None else Some (Media place mid kind to false remote_created)
@@ -63,7 +63,7 @@ abbrev pub dir_restored : Direction → (stopped : Bool) → Direction
 dir_restored dir true = Inactive
 dir_restored dir false = dir
 
--- the rows where each of these that is still there has again the direction and the mark that it had (RFC 8829, section 5.7)
+-- the rows after each of these that is still there has again the direction and the mark that it had (RFC 8829, section 5.7)
 abbrev pub all_restored : List (List ℕ × Direction × Bool) → List LineRow → List LineRow
 all_restored [] rows = rows
 all_restored (was ∷ more) rows = all_restored more (changed_of (restored_row (dir_restored was.1 was.2) was.2) was.0 rows)

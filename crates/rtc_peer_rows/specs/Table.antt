@@ -30,7 +30,7 @@ abbrev pub Rising : ℕ → List LineRow → Type 0
 Rising place [] = Unit {0}
 Rising place (row ∷ rows) = (row_place row ≡ place) × Rising (place + 1) rows
 
--- no mid comes again
+-- no mid is repeated
 abbrev pub Distinct : List LineRow → Type 0
 Distinct [] = Unit {0}
 Distinct (row ∷ rows) = (has_mid (row_mid row) rows ≡ false) × Distinct rows
@@ -39,7 +39,7 @@ abbrev pub NoMore : Bool → List LineRow → Type 0
 NoMore true rows = list_any is_app rows ≡ false
 NoMore false rows = Unit {0}
 
--- no row of data channels comes again
+-- no row of data channels is repeated
 abbrev pub OneApp : List LineRow → Type 0
 OneApp [] = Unit {0}
 OneApp (row ∷ rows) = NoMore (is_app row) rows × OneApp rows

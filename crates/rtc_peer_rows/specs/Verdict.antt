@@ -49,7 +49,7 @@ media_refusal rows offer place kind mid = by_row (row_of rows mid)
     by_row None = place_refusal offer mid (slice_get rows place)
     by_row (Some row) = known_refusal place kind mid row
 
--- why a line at a place is refused, given whether an application line came before it
+-- why a line at a place is refused, given whether an application line was before it
 abbrev pub line_refusal : List LineRow → Bool → Bool → ℕ → ParsedLine → Option Why
 line_refusal rows offer came place parsed = by_kind parsed.kind
   where

@@ -43,7 +43,7 @@ new_line_text (NotOffered mid) = codes "Mid in answer is not in offer: " ++ mid
 new_line_text (OtherKind mid) = codes "Answer m-line for mid (" ++ (mid ++ codes ") is of another kind")
 new_line_text (OtherPlace mid) = moved_text mid
 
--- why an offer, an answer or a certificate is refused; 0xC2 0xA7 is the sign for a section, U+00A7
+-- why an offer, an answer or a certificate is refused; 0xC2 0xA7 is the section sign, U+00A7
 unfoldable pub why_text : Why → List ℕ
 why_text NoLines = codes "No m-lines in offer"
 why_text BothLite = codes "Both peers being ICE-Lite not supported"

@@ -13,7 +13,7 @@ use std::marker::Model;
 #[derive(Drop)]
 pub struct Bundled<'a> {
     groups: &'a [Seq<Mid>],
-    // The mids that they name; None where no line is disabled, so that none is looked for.
+    // The mids that they name; None if no line is disabled, so that none is looked up.
     mids: Option<BTreeSet<Mid>>,
 }
 

@@ -55,7 +55,7 @@ pub fn has_row(rows: &[LineRow], mid: Mid) -> bool
     false
 }
 
-// Whether a new line of this mid cannot stand at a place that no row has.
+// Whether a new line of this mid cannot have a place that no row has.
 fn is_taken(rows: &[LineRow], place: u32, mid: Mid) -> bool
     ensures { result ≡ (nat_lt place (length rows.now) || has_mid mid rows.now) }
 {

@@ -57,7 +57,7 @@ impl Lines {
         }
     }
 
-    /// Prepares for a look-up by mid: rows that are searched often get an index, where there is memory for it.
+    /// Prepares for look-ups by mid: rows that are searched often get an index, if there is memory for it.
     pub fn expect_look_up(&mut self)
         ensures { self.new ≡ self.old }
     {
@@ -109,7 +109,7 @@ impl Lines {
 
     /// Sets the direction of the live media row of a mid.
     ///
-    /// Answers false, and changes nothing, where there is no such row or it already has that direction.
+    /// Returns false, and changes nothing, if there is no such row or it already has that direction.
     pub fn set_direction(&mut self, mid: Mid, dir: Direction) -> bool
         ensures changed { result ≡ is_changed (directed_row dir) (row_of self.old mid) }
         ensures rows { self.new ≡ changed_of (directed_row dir) mid self.old }
@@ -134,7 +134,7 @@ impl Lines {
 
     /// Stops the live media row of a mid for good.
     ///
-    /// Answers false, and changes nothing, where there is no such row.
+    /// Returns false, and changes nothing, if there is no such row.
     pub fn stop(&mut self, mid: Mid) -> bool
         ensures changed { result ≡ is_changed stopped_row (row_of self.old mid) }
         ensures rows { self.new ≡ changed_of stopped_row mid self.old }
@@ -157,8 +157,8 @@ impl Lines {
         true
     }
 
-    /// Gives the media row of a mid a direction and a mark of being stopped, as it had them before an offer that is rolled back
-    /// (RFC 8829, section 5.7). Nothing is allocated, and nothing happens where there is no such row.
+    /// Gives the media row of a mid a direction and a mark of being stopped, as it had them before an offer that is
+    /// rolled back (RFC 8829, section 5.7). Nothing is allocated, and nothing happens if there is no such row.
     pub fn restore(&mut self, mid: Mid, dir: Direction, stopped: bool)
         requires { IsTrue stopped → dir ≡ Inactive }
         ensures rows { self.new ≡ changed_of (restored_row dir stopped) mid self.old }
@@ -181,9 +181,9 @@ impl Lines {
         self.rows[restored_row.place() as usize] = restored_row;
     }
 
-    /// Declares a media line behind the others: it sends and receives, and was created here.
+    /// Declares a media line behind the others, sendrecv and created here.
     ///
-    /// Answers false, and changes nothing, where a row has the mid.
+    /// Returns false, and changes nothing, if a row has the mid.
     pub fn declare(&mut self, mid: Mid, kind: MediaKind) -> Result<bool, AllocError>
         requires { length self.old < 2 ^ 32 - 1 }
         ensures { Declares self.old mid kind result self.new }
@@ -205,9 +205,9 @@ impl Lines {
         Ok(true)
     }
 
-    /// Removes the media row of a mid where it is the last, and else stops it for good. Nothing is allocated.
+    /// Removes the media row of a mid if it is the last, and else stops it for good. Nothing is allocated.
     ///
-    /// Answers false, and changes nothing, where there is no such row.
+    /// Returns false, and changes nothing, if there is no such row.
     pub fn remove(&mut self, mid: Mid) -> bool
         ensures removed { result ≡ is_some (media_place (row_of self.old mid)) }
         ensures rows { self.new ≡ rows_without mid self.old }

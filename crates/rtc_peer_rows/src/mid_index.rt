@@ -15,7 +15,7 @@ use std::marker::Model;
 #[derive(Drop)]
 pub struct MidIndex<'a> {
     rows: &'a [LineRow],
-    // The position of the first row of each mid; None where lines are expected to stand at their places.
+    // The position of the first row of each mid; None if lines are expected at their places.
     positions: Option<BTreeMap<Mid, usize>>,
 }
 
@@ -64,7 +64,7 @@ fn look_up<'a>(
     row_at(rows, *at)
 }
 
-/// The row of a mid, by a map where there is one.
+/// The row of a mid, by a map if there is one.
 pub fn find_served<'a>(
     positions: &Option<BTreeMap<Mid, usize>>,
     rows: &'a [LineRow],
@@ -135,7 +135,7 @@ impl<'a> MidIndex<'a> {
         find_served(&self.positions, self.rows, mid)
     }
 
-    /// The row of the mid of a line at a place, where it is looked for first.
+    /// The row of the mid of a line; its place is looked at first.
     pub fn find_at(&self, place: usize, mid: Mid) -> Option<&LineRow>
         requires { Distinct self.now }
         ensures { option_copied result ≡ row_of self.now mid }

@@ -7,7 +7,7 @@ use rtc_wire::Seq;
 pub struct Plan {
     /// The whole table afterwards.
     pub rows: Seq<LineRow>,
-    /// The mids of the rows whose place goes to a new mid.
+    /// The mids of the rows whose place is given to a new mid.
     pub removed: Seq<Mid>,
     /// The places of the lines that add a row.
     pub added: Seq<u32>,

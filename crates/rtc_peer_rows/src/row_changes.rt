@@ -4,7 +4,7 @@ ghost use Rattle.rtc_peer_rows.specs.RowChanges.{directed_row, stopped_row, rest
 
 use rtc_sdp_values::{Direction, LineRow};
 
-/// The row with the direction `to`; None where it is stopped, already has it, or carries no media.
+/// The row with direction `to`; None if it is stopped, already has it, or carries no media.
 pub fn direct_row(row: &LineRow, to: Direction) -> Option<LineRow>
     ensures { result ≡ directed_row to row.now }
 {
@@ -34,7 +34,7 @@ pub fn direct_row(row: &LineRow, to: Direction) -> Option<LineRow>
     }
 }
 
-/// The row stopped for good; None where it is stopped already, or carries no media.
+/// The row stopped for good; None if it is stopped already, or carries no media.
 pub fn stop_row(row: &LineRow) -> Option<LineRow>
     ensures { result ≡ stopped_row row.now }
 {
@@ -64,7 +64,7 @@ pub fn stop_row(row: &LineRow) -> Option<LineRow>
     }
 }
 
-/// The media row with a direction and a mark of being stopped; None where it carries no media.
+/// The media row with a direction and a mark of being stopped; None if it carries no media.
 pub fn restore_row(row: &LineRow, to: Direction, mark: bool) -> Option<LineRow>
     ensures { result ≡ restored_row to mark row.now }
 {

@@ -8,7 +8,7 @@ use rtc_wire::Text;
 use std::error::Error;
 use std::fmt;
 
-/// Why what the other side described or showed is refused: an offer, an answer or a certificate.
+/// Why an offer, an answer or a certificate of the other side is refused.
 #[derive(Debug, PartialEq, Eq)]
 pub enum Why {
     /// An offer without m-lines.
@@ -47,7 +47,7 @@ pub enum Why {
     },
     /// The announced hash function of this name is neither `sha-256` nor `sha-1`. The peer is then closed.
     UnknownHash(Text),
-    /// A certificate came, and no fingerprint was announced. The peer is then closed.
+    /// A certificate was received, and no fingerprint was announced. The peer is then closed.
     NoneAnnounced,
 }
 

@@ -44,14 +44,14 @@ pub fn is_stopped_row(row: &LineRow) -> bool
     }
 }
 
-// A stopped line tells no stream.
+// A stopped line carries no stream.
 fn shown_msid(stopped: bool, msid: Option<Msid>) -> Option<Msid>
     ensures { result ≡ ShownMsid stopped msid }
 {
     if stopped { None } else { msid }
 }
 
-// A stopped line tells no source.
+// A stopped line carries no SSRC.
 fn shown_ssrcs(
     alloc: Global,
     stopped: bool,
@@ -62,7 +62,7 @@ fn shown_ssrcs(
     if stopped { Seq::empty(alloc) } else { ssrcs }
 }
 
-// The name of sources stands where sources do.
+// A description has a `cname` if it has SSRCs.
 fn name_of_sources(ssrcs: &Seq<(Ssrc, Option<Ssrc>)>, cname: Option<Text>) -> Option<Text>
     ensures { result ≡ NameOfSources ssrcs.now cname }
 {
@@ -72,7 +72,7 @@ fn name_of_sources(ssrcs: &Seq<(Ssrc, Option<Ssrc>)>, cname: Option<Text>) -> Op
     }
 }
 
-// The m-line of a media row, with what it tells of its media.
+// The m-line of a media row, with what it carries of its media.
 fn media_line(
     alloc: Global,
     kind: MediaKind,
@@ -112,7 +112,7 @@ fn media_line(
     }
 }
 
-// The m-line of a row, without what it tells of its peer but how long messages of its data channels may be.
+// The m-line of a row. Of its peer it carries only how long messages of its data channels may be.
 fn bare_row_line(alloc: Global, most: u32, media: LineMedia, row: &LineRow) -> MediaLine
     ensures { result ≡ BareRowLine most media row.now }
 {
@@ -133,7 +133,7 @@ fn bare_row_line(alloc: Global, most: u32, media: LineMedia, row: &LineRow) -> M
     }
 }
 
-// Puts what the line of a row tells of the start of the association: only that of the data channels tells it.
+// Puts the SNAP INIT chunk on the line of a row: only that of the data channels carries it.
 fn put_init(told: &Option<Text>, row: &LineRow, init: &mut Option<Text>) -> Result<(), AllocError>
     ensures { OnOk result (init.new ≡ InitOfRow told.now row.now) }
 {

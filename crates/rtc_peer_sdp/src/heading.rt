@@ -1,4 +1,4 @@
-//! What a peer tells of itself in offers and answers.
+//! What offers and answers carry of their peer.
 ghost use Rattle.std.specs.Prelude.{◌≡◌, [], IfOk, OnOk, MatchOption, Some, None, option_map};
 ghost use Rattle.rtc_part_ice.specs.IceMeaning.{IceSettings};
 ghost use Rattle.rtc_peer_core.specs.MadeSdp.{
@@ -32,7 +32,7 @@ fn put_creds<I: IceAgent>(
     }
 }
 
-// The local candidates, but where a restart does not keep them.
+// The local candidates, unless a restart does not keep them.
 fn candidates_in_use<I: IceAgent>(
     alloc: Global,
     ice: &I,
@@ -48,7 +48,7 @@ fn candidates_in_use<I: IceAgent>(
     Ok(Seq::new(copied))
 }
 
-/// The role of this side by the setup that the other side tells.
+/// The role of this side by the setup of the other side.
 pub fn role_for(told: Option<Setup>) -> bool
     ensures { result ≡ RoleFor told }
 {
@@ -58,7 +58,7 @@ pub fn role_for(told: Option<Setup>) -> bool
     }
 }
 
-/// The first role, or else that by the setup that the other side tells.
+/// The first role, or else that by the setup of the other side.
 pub fn role_after(role: Option<bool>, told: Option<Setup>) -> bool
     ensures { result ≡ RoleAfter role told }
 {
@@ -68,7 +68,7 @@ pub fn role_after(role: Option<bool>, told: Option<Setup>) -> bool
     }
 }
 
-/// The setup that tells a role.
+/// The setup that announces a role.
 pub fn setup_of_role(active: bool) -> Setup
     ensures { result ≡ SetupOfRole active }
 {
@@ -105,7 +105,7 @@ fn empty_text(alloc: Global) -> Text
     Text::new(String::new(alloc))
 }
 
-/// What a peer tells of itself, where it restarts ICE or does not.
+/// What a description carries of its peer, whether it restarts ICE or not.
 pub fn make_head<I: IceAgent, D: DtlsInstance>(
     alloc: Global,
     session: u64,

@@ -1,4 +1,4 @@
-//! What a peer's session descriptions tell of it, and what its media part is told of those of the other side.
+//! What a peer's session descriptions carry, and what its media part is given of those of the other side.
 #![tactic(auto)]
 
 mod describing;

@@ -1,4 +1,4 @@
-//! What the lines of a peer tell of their media.
+//! What the lines of a peer carry of their media.
 ghost use Rattle.std.specs.Prelude.{◌≡◌, IfOk, OnOk, Option, Some, None, false};
 ghost use Rattle.std.specs.Option.{option_copied};
 ghost use Rattle.rtc_peer_core.specs.MadeSdp.{
@@ -140,7 +140,7 @@ fn newest<'a>(updates: &'a [MediaUpdate], held: Option<&'a MediaUpdate>) -> Opti
     }
 }
 
-// What a line carries of which the media part has this, and which is as it was declared where it has nothing.
+// What a line carries of its media, if the media part has this of it; if it has nothing, the line is as it was declared.
 fn media_held(
     alloc: Global,
     formats: &Formats,
@@ -157,8 +157,8 @@ fn media_held(
     }
 }
 
-/// What is told of the line of a row: of media what the first of these updates says, or else what the media part has of its line. One of
-/// which it has nothing was declared.
+/// What the line of a row carries: of media what the first of these updates says, or else what the media part has of
+/// its line. If it has nothing, the line is as it was declared.
 pub fn media_told<M: MediaSession>(
     alloc: Global,
     formats: &Formats,

@@ -47,7 +47,7 @@ fn put_update(update: &MediaUpdate, sending: &mut Sending) -> Result<(), AllocEr
     fill(&mut sending.ssrcs, &update.ssrcs_tx)
 }
 
-// Layers that were staged are offered, and stand for nothing until the other side names the line.
+// Layers that were staged are offered, and have no effect until the other side names the line.
 fn put_media(media: &AddMedia, sending: &mut Sending) -> Result<(), AllocError>
     ensures { OnOk result (sending.new ≡ sending_of None (Some media.now) []) }
 {
@@ -57,7 +57,7 @@ fn put_media(media: &AddMedia, sending: &mut Sending) -> Result<(), AllocError>
     fill(&mut sending.ssrcs, &media.ssrcs)
 }
 
-/// A line that came in an offer or was declared has its mid for all names, and no sources yet.
+/// A line of a received offer, or a declared one, has its mid for all names, and no SSRCs yet.
 pub fn bare_sending(alloc: Global, mid: Mid) -> Result<Sending, AllocError>
     ensures { IfOk result (λ sending. sending ≡ BareSending mid) }
 {
@@ -109,7 +109,7 @@ fn invert_layers(told: &Option<Simulcast>) -> Result<Option<Simulcast>, AllocErr
     }
 }
 
-// A line that has no layers takes those that the other side tells.
+// A line that has no layers takes those that the other side names.
 fn put_layers(line: &MediaLine, layers: &mut Option<Simulcast>) -> Result<(), AllocError>
     ensures { OnOk result (layers.new ≡ option_or layers.old (option_map inverted line.now.simulcast)) }
 {

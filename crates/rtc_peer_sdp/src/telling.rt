@@ -1,4 +1,4 @@
-//! The rows that the offers and answers of a peer tell.
+//! The rows that the offers and answers of a peer carry.
 ghost use Rattle.std.specs.Prelude.{◌≡◌, ◌+◌, ◌++◌, ◌<◌, ◌^◌, [], IfOk, OnOk, length};
 ghost use Rattle.rtc_change.specs.PendingOffer.{added_mids};
 ghost use Rattle.rtc_peer_core.specs.MadeSdp.{updates_behind as UpdatesBehind, told_rows, new_told, added_told};
@@ -10,7 +10,7 @@ use rtc_peer_core::{Formats, ToldRow};
 use rtc_sdp_values::LineRow;
 use std::alloc::{AllocError, Global};
 
-// The updates behind that of a row, where it has one.
+// The updates behind that of a row, if it has one.
 fn updates_behind<'a>(row: &LineRow, updates: &'a [MediaUpdate]) -> &'a [MediaUpdate]
     ensures { result.now ≡ UpdatesBehind row.now updates.now }
 {
@@ -23,7 +23,7 @@ fn updates_behind<'a>(row: &LineRow, updates: &'a [MediaUpdate]) -> &'a [MediaUp
     }
 }
 
-/// Rows, with what the media part is about to be told of those in front, and what it has of the others.
+/// Rows, with what the media part is about to be given of those in front, and what it has of the others.
 pub fn tell_rows<M: MediaSession>(
     alloc: Global,
     formats: &Formats,

@@ -1,4 +1,4 @@
-//! What the media part is told of a row.
+//! What the media part is given of a row.
 ghost use Rattle.std.specs.Prelude.{◌≡◌, ◌++◌, ◌&&◌, not, [], IfOk, OnOk};
 ghost use Rattle.std.specs.Option.{option_copied};
 ghost use Rattle.rtc_sdp_codecs.specs.LineFormats.{matched_rows, shared_extensions};
@@ -65,7 +65,7 @@ fn is_announced(offer: bool, before: Option<&LineRow>, row: &LineRow) -> bool
     is_added(before, row) && !is_stopped_row(row)
 }
 
-// Puts the sources that were drawn behind the others.
+// Puts the drawn SSRCs behind the others.
 fn push_drawn(
     alloc: Global,
     drawn: Seq<(Ssrc, Option<Ssrc>)>,
@@ -113,7 +113,7 @@ fn put_shared(
     fill(&mut update.ssrcs_rx, &line.ssrcs)
 }
 
-/// What the media part is told of a row.
+/// What the media part is given of a row.
 pub fn make_update(
     alloc: Global,
     formats: &Formats,

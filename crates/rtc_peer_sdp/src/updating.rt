@@ -1,4 +1,4 @@
-//! What the media part is told of the lines of an offer or an answer.
+//! What the media part is given of the lines of an offer or an answer.
 ghost use Rattle.std.specs.Prelude.{◌≡◌, ◌++◌, ◌&&◌, not, [], List, ℕ, IfOk, OnOk, option_map, Option, Some, None, length, slice_get};
 ghost use Rattle.std.specs.List.{flat_map};
 ghost use Rattle.std.specs.Option.{option_copied};
@@ -27,7 +27,7 @@ use rtc_sdp_values::{LineRow, MediaLine, Simulcast, Ssrc};
 use rtc_wire::Seq;
 use std::alloc::{AllocError, Global};
 
-/// How many sources a line is to have.
+/// How many SSRCs a line is to have.
 pub fn count_pairs(simulcast: &Option<Simulcast>) -> usize
     ensures { result ≡ PairCount simulcast.now }
 {
@@ -37,7 +37,7 @@ pub fn count_pairs(simulcast: &Option<Simulcast>) -> usize
     }
 }
 
-// Whether a row sends and has no source yet.
+// Whether a row sends and has no SSRC yet.
 fn wants_sources(row: &LineRow, sending: &Sending) -> bool
     ensures { result ≡ WantsSources row.now sending.now }
 {
@@ -47,7 +47,7 @@ fn wants_sources(row: &LineRow, sending: &Sending) -> bool
     }
 }
 
-// The sources that are drawn for a row.
+// The SSRCs that are drawn for a row.
 #[tactic(auto, using(rtc_part_values::proofs::LaterLemmas::later_none))]
 fn draw_row<M: MediaSession, N: Ids>(
     alloc: Global,
@@ -90,7 +90,7 @@ fn push_if_media(
     }
 }
 
-// A row of an offer or an answer, with the row that stood at its place before and the m-line that names it.
+// A row of an offer or an answer, with the row that was at its place before and the m-line that names it.
 #[derive(Drop)]
 struct NamedRow<'a> {
     formats: &'a Formats,
@@ -100,7 +100,7 @@ struct NamedRow<'a> {
     line: &'a MediaLine,
 }
 
-// Appends what the media part is told of a row.
+// Appends what the media part is given of a row.
 fn push_update<M: MediaSession, N: Ids>(
     alloc: Global,
     ids: &mut N,
@@ -153,7 +153,7 @@ fn line_at(lines: &[MediaLine], place: usize) -> Option<&MediaLine>
     lines.get(place)
 }
 
-/// What the media part is told of rows, with the rows that stood at their places before and the m-lines that name them.
+/// What the media part is given of rows, with the rows that were at their places before and the m-lines that name them.
 #[tactic(auto, using(rtc_part_values::proofs::LaterLemmas::later_none, rtc_part_values::proofs::LaterLemmas::later_join))]
 pub fn list_updates<M: MediaSession, N: Ids>(
     alloc: Global,

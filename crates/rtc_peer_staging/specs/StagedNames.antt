@@ -25,7 +25,7 @@ module _ {N : Type 0} (draws : Draws N) where
   abbrev pub drawn_msid : Option (List ℕ) → Option (List ℕ) → N → Msid
   drawn_msid stream track ids = record { stream_id = drawn_stream stream ids; track_id = drawn_track stream track ids }
 
-  -- the names of the stream and of the track, then the sources
+  -- the names of the stream and of the track, then the SSRCs
   abbrev pub drawn_media : (ℕ → Bool) → List ℕ → Wanted → N → Media
   drawn_media used mid wanted ids = record {
     mid = mid;

@@ -58,7 +58,7 @@ fn make_cert<N: Ids>(alloc: Global, ids: &mut N, given: Option<&[u8]>) -> Result
     }
 }
 
-// What a peer tells of itself, and the DTLS part that has its certificate.
+// What the descriptions of a peer carry of it, and the DTLS part that has its certificate.
 #[derive(Drop)]
 struct OwnSide<D> {
     creds: IceCreds,
@@ -186,8 +186,8 @@ fn empty_peer<I, D, S, M, N>(
     }
 }
 
-/// A peer with no rows over fresh parts, as its config says: the number of its session is drawn, and its credentials and its certificate
-/// where none are set.
+/// A peer with no rows over fresh parts, as its config says. Its session number is drawn, and credentials and
+/// certificate are if none are set.
 pub fn build_peer<
     I: IceAgent + Drop,
     D: DtlsInstance + Drop,

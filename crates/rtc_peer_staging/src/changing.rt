@@ -31,7 +31,7 @@ fn can_stop(lines: &Lines, mid: Mid) -> bool
     }
 }
 
-// Notes the row of a mid as it is, and answers whether it was not noted before.
+// Notes the row of a mid as it is, and returns whether it was not noted before.
 fn note_row(undo: &mut Undo, lines: &Lines, mid: Mid) -> Result<bool, AllocError>
     ensures ok { OnOk result (undo.new ≡ noted_of (row_of lines.now mid) undo.old) }
     ensures added { IfOk result (λ added. added ≡ not (has_undo_of (row_of lines.now mid) undo.old)) }
@@ -68,7 +68,7 @@ fn stage_direction(
     }
 }
 
-/// Sets the direction of the live media line of a mid, and stages it; answers whether the line changed.
+/// Sets the direction of the live media line of a mid, and stages it; returns whether the line changed.
 pub fn set_direction<I, D, S, M, N>(
     peer: &mut Peer<I, D, S, M, N>,
     mid: Mid,
@@ -85,7 +85,7 @@ pub fn set_direction<I, D, S, M, N>(
     Ok(true)
 }
 
-/// Stops the live media line of a mid for good, and stages it; answers whether the line changed.
+/// Stops the live media line of a mid for good, and stages it; returns whether the line changed.
 pub fn stop_media<I, D, S, M, N>(
     peer: &mut Peer<I, D, S, M, N>,
     mid: Mid,

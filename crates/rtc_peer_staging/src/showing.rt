@@ -14,7 +14,7 @@ use rtc_sctp::RtcSctp;
 use rtc_wire::{ChannelId, Seq};
 use std::alloc::{AllocError, Global};
 
-// How often a stream was reset; 0 where there is none.
+// How often a stream was reset; 0 if there is none.
 fn generation_over<S: Association>(sctp: &RtcSctp<S>, stream: Option<u16>) -> u64
     ensures { result ≡ GenerationOver S.association stream sctp.now }
 {

@@ -43,7 +43,7 @@ fn draw_msid<N: Ids>(
     })
 }
 
-// A media line of a mid: its names are drawn, and its sources.
+// A media line of a mid: its names and its SSRCs are drawn.
 #[tactic(auto, using(rtc_part_values::proofs::LaterLemmas::later_none, rtc_part_values::proofs::LaterLemmas::later_join))]
 fn make_media<M: MediaSession, N: Ids>(
     alloc: Global,
@@ -82,7 +82,7 @@ fn make_media<M: MediaSession, N: Ids>(
     })
 }
 
-/// Stages a media line, and answers its mid.
+/// Stages a media line, and returns its mid.
 #[tactic(auto, using(rtc_part_values::proofs::LaterLemmas::later_none, rtc_part_values::proofs::LaterLemmas::later_join))]
 pub fn stage_media<I: IceAgent, D: DtlsInstance, S: Association, M: MediaSession, N: Ids>(
     peer: &mut Peer<I, D, S, M, N>,
@@ -117,7 +117,7 @@ pub fn stage_media<I: IceAgent, D: DtlsInstance, S: Association, M: MediaSession
     Ok(mid)
 }
 
-/// Stages a channel, with the line of the data channels where there is none yet, and answers its number.
+/// Stages a channel, with the m-line of data channels if there is none, and returns its number.
 #[tactic(auto, using(rtc_part_values::proofs::LaterLemmas::later_none))]
 pub fn stage_channel<I: IceAgent, D: DtlsInstance, S: Association, M: MediaSession, N: Ids>(
     peer: &mut Peer<I, D, S, M, N>,
@@ -149,7 +149,7 @@ fn stage_creds(
     staged.push_restart(alloc, copied, keeps)
 }
 
-/// Stages a restart of ICE with credentials that are drawn, in place of one that was staged, and answers them.
+/// Stages an ICE restart with drawn credentials, in place of a staged one, and returns them.
 #[tactic(auto, using(rtc_part_values::proofs::LaterLemmas::later_none, rtc_part_values::proofs::LaterLemmas::later_once))]
 pub fn stage_restart<I: IceAgent, D: DtlsInstance, S: Association, M: MediaSession, N: Ids>(
     peer: &mut Peer<I, D, S, M, N>,
