@@ -23,12 +23,12 @@ use Rattle.rtc_peer_laws.specs.ChannelStreams.{AreNumberedChannels, StreamsWent}
 use Rattle.rtc_peer_laws.specs.PeerActs.{PeerActs, PeerMoved, Came, nothing_came, came_by, moment_given, contents_taken, media_given}
 use Rattle.rtc_peer_laws.specs.PeerActs.{ice_moments, dtls_moments, media_moments, dtls_roles, roles_after}
 
--- Acts in order took the parts of one peer to those of another. What they were given is among what came, and the moments that they were
--- handed are among these. The first role that the DTLS part was given is that of the peer. What was shown as contents of datagrams, and
--- the packets that stand to be shown behind it, are among what was taken from the parts in these acts and what stood before. What the
--- association was given came over the DTLS connection, and all of that was given to it, in order, once it was started. What was sent over
--- the connection, or stands to be sent behind it, was taken from the association or stood to be sent before. These messages were written
--- and read, and the identifiers that were read have their names where the association's readings do.
+-- Acts in order took the parts of one peer to those of another. What they were given is among what was received, and the moments that they
+-- were given are among these. The first role that the DTLS part was given is that of the peer. The contents of datagrams that were sent,
+-- and the packets that still wait to be, are among what was taken from the parts in these acts and what waited before. What the association
+-- was given was received over the DTLS connection, and all of that was given to it, in order, once it was started. What was sent over the
+-- connection, or waits to be sent after it, was taken from the association or waited before. These messages were written and read, and the
+-- identifiers that were read have their names if the association's readings have.
 pub record PeerDid {I D S M E X T W N : Type 0} (m : Meanings I D S M E X T W N) (came : Came) (moments : List ℕ)
     (shown : List (List ℕ)) (wrote heard : List StreamMessage) (p q : PolledPeer I D S M N) : Type 0 where
   pub acts : PeerActs
@@ -49,7 +49,7 @@ pub record PeerDid {I D S M E X T W N : Type 0} (m : Meanings I D S M E X T W N)
   pub heard_is : reads_of acts.association ≡ map read_act heard
   pub named : NamesReadings m.association → HaveNamedPpis heard
 
--- the contents of the datagram that an answer shows
+-- the contents of the datagram that a result shows
 abbrev pub contents_shown : {E : Type 0} → Result (Output E) RtcError → List (List ℕ)
 contents_shown (Ok (outputs.Transmit transmit)) = transmit.contents ∷ []
 contents_shown (Ok (outputs.Event event)) = []
@@ -62,16 +62,16 @@ ArePassed held [] = Unit {0}
 ArePassed held (event.Data stream binary bytes ∷ events) = (channel_over stream held ≡ None) × ArePassed held events
 ArePassed held (e ∷ events) = ⊥
 
--- the data that an answer shows: that of the stream which its channel has
+-- the data that a result shows: that of the stream which its channel has
 abbrev pub ShowsData : {E : Type 0} → Result (Output E) RtcError → Channels → List SctpEvent → Type 0
 ShowsData (Ok (outputs.Event (ChannelData message))) held told =
     (stream : ℕ) × ((told ≡ event.Data stream message.binary message.bytes ∷ []) × (channel_over stream held ≡ Some message.id))
 ShowsData (Ok output) held told = told ≡ []
 ShowsData (Err error) held told = told ≡ []
 
--- What a poll did. Nothing came. It wrote messages that open channels alone. Of the data that it read, in order, all is of streams without
--- a channel, but for what it shows last, if it shows any. Streams and live channels went on by what it wrote and read, and channels keep
--- their order.
+-- What a poll did. Nothing was received. It wrote only messages that open channels. Of the data that it read, in order, all is of streams
+-- without a channel, but for what it shows last, if it shows any. Streams and live channels continued by what it wrote and read, and
+-- channels keep their order.
 pub record PollActs {I D S M E X T W N : Type 0} (m : Meanings I D S M E X T W N) (p : PolledPeer I D S M N)
     (answer : Result (Output E) RtcError) (q : PolledPeer I D S M N) : Type 0 where
   pub wrote : List StreamMessage
@@ -92,18 +92,18 @@ message_of_write stream generation binary bytes (Ok true) = stream_message strea
 message_of_write stream generation binary bytes (Ok false) = []
 message_of_write stream generation binary bytes (Err error) = []
 
--- a call to which nothing came, and that showed and read nothing
+-- a call that received nothing, and that showed and read nothing
 abbrev pub CallActs : {I D S M E X T W N : Type 0} → Meanings I D S M E X T W N → (wrote : List StreamMessage) → PolledPeer I D S M N
     → PolledPeer I D S M N → Type 0
 CallActs m wrote p q = PeerDid m nothing_came [] [] wrote [] p q
 
--- an input: what came, and its moment
+-- an input: what was received, and its moment
 abbrev pub InputActs : {I D S M E X T W N : Type 0} → Meanings I D S M E X T W N → Input → PolledPeer I D S M N
     → PolledPeer I D S M N → Type 0
 InputActs m input p q = PeerDid m (came_by input) (moment_given input ∷ []) [] [] [] p q
 
--- A description that is accepted, or refused: no packet comes from outside, but a side that begins the handshake gives its DTLS part one
--- of no bytes.
+-- A description that is accepted, or refused: no packet is received, but a side that begins the handshake gives its DTLS part one of no
+-- bytes.
 abbrev pub begun_here : Came
 begun_here = record nothing_came { dtls = [] ∷ [] }
 

@@ -38,7 +38,7 @@ IsGone c held = (c < held.given) × HasNoRow c held.rows
 abbrev pub IsLiveChannel : {I D S M N : Type 0} → (channel stream generation : ℕ) → PolledPeer I D S M N → Type 0
 IsLiveChannel c s g p = (channel_over s p.core.channels ≡ Some c) × IsLive s g p.core.sctp.entries
 
--- an event leaves it live, unless it tells that the channel is closed: then this has no row, and the stream no entry but a closed one
+-- an event leaves it live, unless it reports that the channel is closed: then this has no row, and the stream no entry but a closed one
 abbrev pub LeavesLiveBy : {I D S M E N : Type 0} → Event E → (channel stream generation : ℕ) → PolledPeer I D S M N → Type 0
 LeavesLiveBy (ChannelClose id) c s g q =
     IsLiveChannel c s g q ⊎ ((id ≡ c) × IsShutDown s q.core.sctp.entries × HasNoRow c q.core.channels.rows)
@@ -58,7 +58,7 @@ UnlessLacking (Ok output) left = left
 UnlessLacking (Err Alloc) left = Unit {0}
 UnlessLacking (Err error) left = left
 
--- an answer announces the channel over a stream
+-- a result announces the channel over a stream
 abbrev pub AnnouncesOver : {I D S M E N : Type 0} → Result (Output E) RtcError → (stream : ℕ) → PolledPeer I D S M N → Type 0
 AnnouncesOver (Ok (outputs.Event (ChannelOpen id label))) s q = channel_over s q.core.channels ≡ Some id
 AnnouncesOver answer s q = ⊥
@@ -79,7 +79,7 @@ module _ {I D S M E X T W N : Type 0} (m : Meanings I D S M E X T W N) where
   abbrev pub IsUsedStream : (stream : ℕ) → (written heard : List StreamMessage) → PolledPeer I D S M N → Type 0
   IsUsedStream s written heard p = IsUsedOver m.association s written heard p.core.sctp
 
-  -- the stream of a channel that is told to be open was not live before, and was opened, by all that was written and read of it; the
+  -- the stream of a channel that is reported as open was not live before, and was opened, by all that was written and read of it; the
   -- association runs
   pub record OpensStreamOf (id : ℕ) (p : PolledPeer I D S M N) (wrote heard : List StreamMessage) (q : PolledPeer I D S M N) : Type 0 where
     pub stream : ℕ
@@ -103,7 +103,8 @@ module _ {I D S M E X T W N : Type 0} (m : Meanings I D S M E X T W N) where
   OpensByAnswer (Ok (outputs.Timeout moment)) p wrote heard q = Unit {0}
   OpensByAnswer (Err error) p wrote heard q = Unit {0}
 
-  -- The message that is told of a channel is the last that was read of the stream of the channel, in the generation that the stream has.
+  -- The message that is reported of a channel is the last that was read of the stream of the channel, in the generation that the stream
+  -- has.
   pub record TellsMessage (message : ChannelMessage) (heard : List StreamMessage) (q : PolledPeer I D S M N) : Type 0 where
     pub stream : ℕ
     pub over : channel_over stream q.core.channels ≡ Some message.id
@@ -121,9 +122,9 @@ module _ {I D S M E X T W N : Type 0} (m : Meanings I D S M E X T W N) where
   TellsByAnswer (Ok (outputs.Timeout moment)) heard q = Unit {0}
   TellsByAnswer (Err error) heard q = Unit {0}
 
-  -- What a poll leaves of streams and live channels by what it wrote and read, and of channels that have gone; which message it tells;
-  -- and that an association that runs does so still. What it left open in-band was open before, or is announced. The changes of channels
-  -- and of the entries of streams are told one by one, and none confirms or adds a channel.
+  -- What a poll leaves of streams and live channels by what it wrote and read, and of channels that are gone; which message it reports; and
+  -- that an association that runs does so still. What it left open in-band was open before, or is announced. The changes of channels and of
+  -- the entries of streams are listed one by one, and none confirms or adds a channel.
   pub record StreamsWent (p : PolledPeer I D S M N) (answer : Result (Output E) RtcError) (wrote heard : List StreamMessage)
       (q : PolledPeer I D S M N) : Type 0 where
     pub uses : AssociationLaws m.association → GenerationLaws m.association → (s : ℕ) (written read : List StreamMessage)

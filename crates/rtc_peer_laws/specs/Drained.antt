@@ -1,4 +1,4 @@
--- Polls of a peer that answered a timeout, without a call between.
+-- Polls of a peer that returned a timeout, without a call between.
 use Rattle.std.specs.Prelude.{◌≡◌, ◌⊎◌, ◌&&◌, ◌||◌, ℕ, Bool, true, false, List, [], ◌∷◌, Some, Result, Ok, Err}
 use Rattle.rtc_part_association.specs.AssociationMeaning.{AssociationMeaning}
 use Rattle.rtc_sctp_entries.specs.declared.stream_entry.StreamEntry.{StreamEntry}
@@ -12,7 +12,7 @@ use Rattle.rtc_peer_transport.specs.declared.output.Output.{Output}
 use Rattle.rtc_peer_transport.specs.declared.output.Output.TheVariants.{Timeout}
 use Rattle.rtc_peer_transport.specs.declared.polled_peer.PolledPeer.{PolledPeer}
 
--- the same timeout is answered, and nothing changes; or memory is wanting
+-- the same timeout is returned, and nothing changes; or memory runs out
 abbrev pub AnswersAgain : {I D S M E N : Type 0} → (moment : ℕ) → PolledPeer I D S M N → Result (Output E) RtcError
     → PolledPeer I D S M N → Type 0
 AnswersAgain moment p answer q = ((answer ≡ Ok (Timeout moment)) × (q ≡ p)) ⊎ (answer ≡ Err Alloc)
@@ -22,7 +22,7 @@ abbrev pub is_opening_refused : {S : Type 0} → AssociationMeaning S → S → 
 is_opening_refused m a stream = m.has_stream a stream || m.resetting a stream
 
 -- A stream in use waits to be opened, which is refused for now and tried again; or it was opened, is there, in the generation that its
--- entry keeps, if it keeps one, is not to be closed, and no whole message of its generation stands unread.
+-- entry keeps, if it keeps one, is not to be closed, and has no whole message of its generation unread.
 abbrev pub IsHeard : {S : Type 0} → AssociationMeaning S → S → StreamEntry → Type 0
 IsHeard m a entry =
     ((entry.state ≡ AwaitOpen) × (is_retrying entry ≡ true) × (is_opening_refused m a entry.id ≡ true))

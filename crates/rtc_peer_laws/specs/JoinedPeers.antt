@@ -15,7 +15,7 @@ use Rattle.rtc_sctp_laws.specs.StreamMessages.{pushed_packets}
 use Rattle.rtc_peer_transport.specs.declared.polled_peer.PolledPeer.{PolledPeer}
 use Rattle.rtc_peer_laws.specs.PeerActs.{PeerActs}
 
--- the parts of a peer that packets of its association go through: its DTLS part, its association, and the packets that stand to be sent
+-- the parts of a peer that packets of its association pass through: its DTLS part, its association, and the packets that wait to be sent
 pub record PacketParts : Type 0 where
   pub dtls : DtlsContents
   pub association : Contents
@@ -40,7 +40,7 @@ past_with past acts = record { dtls = past.dtls ++ acts.dtls; association = past
 pub record CarriesData (given_packets taken_packets : List (List ℕ)) : Type 0 where
   pub each : (bytes : List ℕ) → Member (data_packet bytes) given_packets → Member (data_packet bytes) taken_packets
 
--- parts to which no application data came yet, and from which none was sent
+-- parts that received no application data yet, and sent none
 pub record AreUnused (past : PartsPast) (parts : PacketParts) : Type 0 where
   pub dtls : DtlsMoved plain_dtls fresh_dtls past.dtls parts.dtls
   pub association : Moved plain_meaning fresh_contents past.association parts.association
@@ -58,8 +58,8 @@ ends_of a left b right = record {
 }
 
 -- The parts of two peers with their pasts. The associations are ends of a run: each was given packets that the other one had transmitted
--- before. Application data that came to each DTLS part came in a packet that the other one had given, whatever was lost, repeated or
--- reordered; other packets are any. What each sent over its DTLS part, or stands to be sent, was taken from its association.
+-- before. Application data that each DTLS part received was in a packet that the other one had given, whatever was lost, repeated or
+-- reordered; other packets are any. What each sent over its DTLS part, or has waiting to be sent, was taken from its association.
 pub record PeersJoined (a : PartsPast) (left : PacketParts) (b : PartsPast) (right : PacketParts) : Type 0 where
   pub left_dtls : DtlsMoved plain_dtls fresh_dtls a.dtls left.dtls
   pub right_dtls : DtlsMoved plain_dtls fresh_dtls b.dtls right.dtls

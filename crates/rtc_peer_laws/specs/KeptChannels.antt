@@ -12,14 +12,14 @@ use Rattle.rtc_peer_transport.specs.declared.polled_peer.PolledPeer.{PolledPeer}
 use Rattle.rtc_peer_laws.specs.RowsChanged.{RowsChanged}
 use Rattle.rtc_peer_laws.specs.ChannelStreams.{AreNumberedChannels, IsGone, IsLiveChannel, IsUsedStream}
 
--- the one entry that a stream has is of a channel that both ends settled by other means than messages
+-- the one entry that a stream has is of a channel that is negotiated out-of-band
 abbrev pub IsSettledStream : List StreamEntry → Type 0
 IsSettledStream [] = ⊥
 IsSettledStream (entry ∷ entries) = is_out_of_band entry ≡ true
 
--- A call that wrote these messages and read none: it keeps the use of each stream, each live channel, each that has gone, a closed peer,
--- and an association that runs. It opens no stream in-band, and takes back no number that a channel was given. Unless it closes the peer,
--- the changes of channels and of the entries of streams are told one by one.
+-- A call that wrote these messages and read none: it keeps the use of each stream, each live channel, each that is gone, a closed peer, and
+-- an association that runs. It opens no stream in-band, and takes back no number that a channel was given. Unless it closes the peer, the
+-- changes of channels and of the entries of streams are listed one by one.
 pub record CallKeepsStreams {I D S M E X T W N : Type 0} (m : Meanings I D S M E X T W N) (p : PolledPeer I D S M N)
     (wrote : List StreamMessage) (q : PolledPeer I D S M N) : Type 0 where
   pub uses : GenerationLaws m.association → (s : ℕ) (written read : List StreamMessage) → IsUsedStream m s written read p

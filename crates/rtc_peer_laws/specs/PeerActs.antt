@@ -1,4 +1,4 @@
--- Acts of the parts of a peer: what came to them, what was taken from them, and the moments that they were handed.
+-- Acts of the parts of a peer: what they received, what was taken from them, and the moments that they were given.
 use Rattle.std.specs.Prelude.{ℕ, ◌++◌, ◌∷◌, Bool, List, [], map, Option, Some, None}
 use Rattle.rtc_wire.specs.declared.transmit.Transmit.{Transmit}
 use Rattle.rtc_wire.specs.declared.datagram_recv.DatagramRecv.{DatagramRecv}
@@ -42,7 +42,7 @@ media_taken [] = []
 media_taken (MediaTaken datagram ∷ acts) = datagram ∷ media_taken acts
 media_taken (_ ∷ acts) = media_taken acts
 
--- the moments that each part was handed
+-- the moments that each part was given
 abbrev pub ice_moments : List IceAct → List ℕ
 ice_moments [] = []
 ice_moments (IceStirred (IceTimed now answer) ∷ acts) = now ∷ ice_moments acts
@@ -58,7 +58,7 @@ media_moments [] = []
 media_moments (MediaStirred (Timed now) ∷ acts) = now ∷ media_moments acts
 media_moments (_ ∷ acts) = media_moments acts
 
--- the roles that a DTLS part was given, in order, and what becomes of a role by them: the first stays
+-- the roles that a DTLS part was given, in order, and what becomes of a role by them: the first is kept
 abbrev pub role_of_act : DtlsAct → List Bool
 role_of_act (DtlsStirred (Activated active)) = active ∷ []
 role_of_act _ = []
@@ -75,7 +75,7 @@ abbrev pub roles_after : Option Bool → List Bool → Option Bool
 roles_after role [] = role
 roles_after role (active ∷ roles) = roles_after (first_role role active) roles
 
--- what stands to be sent of a DTLS connection, and its role
+-- what waits to be sent of a DTLS connection, and its role
 abbrev pub queue_and_role : {D : Type 0} → DtlsState D → List (List ℕ) × Option Bool
 queue_and_role d = (d.packets, d.active)
 
@@ -92,7 +92,7 @@ pub record PeerMoved {I D S M E X T W N : Type 0} (m : Meanings I D S M E X T W 
   pub association : Moved m.association p.core.sctp.association acts.association q.core.sctp.association
   pub media : MediaMoved m.media p.core.media acts.media q.core.media
 
--- what came to a peer, by the part that it is for
+-- what a peer received, by the part that it is for
 pub record Came : Type 0 where
   pub ice : List (List ℕ)
   pub dtls : List (List ℕ)

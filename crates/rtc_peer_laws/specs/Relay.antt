@@ -9,9 +9,9 @@ use Rattle.rtc_sctp_laws.specs.StreamMessages.{pushed_packets}
 use Rattle.rtc_peer_core.specs.Meanings.{Meanings}
 use Rattle.rtc_peer_transport.specs.declared.polled_peer.PolledPeer.{PolledPeer}
 
--- Acts in order took the DTLS instance and the association from those of one peer to those of another. Each packet that the association
--- was given came over the DTLS connection in these acts. Each packet that was sent over it in them, or stands to be sent behind them, was
--- taken from the association in them or stood to be sent before.
+-- Acts in order took the DTLS instance and the association from those of one peer to those of another. Each packet that the association was
+-- given was received over the DTLS connection in these acts. Each packet that was sent over it in them, or waits to be sent after them, was
+-- taken from the association in them or waited before.
 pub record Relays {I D S M E X T W N : Type 0} (m : Meanings I D S M E X T W N) (p q : PolledPeer I D S M N) : Type 0 where
   pub dtls_acts : List DtlsAct
   pub association_acts : List AssociationAct

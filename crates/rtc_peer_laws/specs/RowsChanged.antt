@@ -21,16 +21,16 @@ use Rattle.rtc_channels.specs.Holds.{removed_channel}
 use Rattle.rtc_channels.specs.Openings.{MeetsMoment}
 use Rattle.rtc_peer_polling.specs.StreamStages.{channel_over}
 
--- rows stay, and no number is given
+-- rows are unchanged, and no number is given
 abbrev pub SameRows : Channels → Channels → Type 0
 SameRows held held' = (held'.rows ≡ held.rows) × (held'.given ≡ held.given)
 
--- the row of a channel goes whose stream was closed; a stream without a channel is passed over
+-- the row of a channel is removed whose stream was closed; a stream without a channel is passed over
 abbrev pub ClosesRow : Option ℕ → (pending : Bool) → Channels → Channels → Type 0
 ClosesRow (Some id) pending held held' = held' ≡ removed_channel id pending held
 ClosesRow None pending held held' = SameRows held held'
 
--- what becomes of channels by an event of their streams, and by the answer of a poll that found memory
+-- what becomes of channels by an event of their streams, and by the result of a poll that had memory
 abbrev pub RowsTold : SctpEvent → Channels → Channels → Type 0
 RowsTold (event.Open stream label) held held' = held' ≡ channel_ensured stream held
 RowsTold (event.Close stream pending) held held' = ClosesRow (channel_over stream held) pending held held'
@@ -41,7 +41,7 @@ RowsAnswered (Ok (Some e)) held held' = RowsTold e held held'
 RowsAnswered (Ok None) held held' = SameRows held held'
 RowsAnswered (Err error) held held' = ⊥
 
--- how far the start of an association came, and whether this side is its client
+-- the progress of the start of an association, and whether this side is its client
 abbrev pub begun_as : {S : Type 0} → SctpStreams S → RtcSctpState × Bool
 begun_as p = (p.state, p.client)
 
@@ -58,7 +58,7 @@ module _ {S : Type 0} (m : AssociationMeaning S) where
   abbrev pub KeepsSide : SctpStreams S → SctpStreams S → Type 0
   KeepsSide a b = m.started a.association ≡ true → b.client ≡ a.client
 
-  -- acts were done to the association that open and read no stream, and by which no event was told; the entries stay
+  -- acts were done to the association that open and read no stream, and by which no event was reported; the entries are unchanged
   pub record OnlyActs (a b : SctpStreams S) : Type 0 where
     pub acts : List AssociationAct
     pub went : Moved m a.association acts b.association
@@ -70,7 +70,7 @@ module _ {S : Type 0} (m : AssociationMeaning S) where
     pub side : KeepsSide a b
 
   -- One change of channels and of the entries of their streams: none; a poll of the streams, with what becomes of their channels; a moment
-  -- that the streams take, and one that the channels take behind them; a threshold that is set; a stream that is closed from here; channels
+  -- that the streams take, and one that the channels take after them; a threshold that is set; a stream that is closed from here; channels
   -- that are confirmed, and one that is added.
   pub data RowsChange (held : Channels) (a : SctpStreams S) (held' : Channels) (b : SctpStreams S) : Type 0 where
     Stayed : SameRows held held' → OnlyActs a b → RowsChange held a held' b

@@ -10,7 +10,7 @@ use Rattle.rtc_plain_media.specs.PlainMediaMeaning.{plain_media_meaning}
 use Rattle.rtc_peer_transport.specs.declared.polled_peer.PolledPeer.{PolledPeer}
 use Rattle.rtc_peer_laws.specs.PeerActs.{PeerActs, contents_taken}
 
--- Since its parts were fresh a peer has shown these contents of datagrams: they, and the packets that stand to be shown, are among what was
+-- Since its parts were fresh a peer has shown these contents of datagrams: they, and the packets that wait to be shown, are among what was
 -- taken from its parts.
 pub record ShownSince (past : PeerActs) (shown : List (List ℕ)) (ice : IceContents) (media : MediaContents) (packets : List (List ℕ))
     : Type 0 where

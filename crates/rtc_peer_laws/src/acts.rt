@@ -21,10 +21,10 @@ use rtc_part_ice::IceAgent;
 use rtc_part_media::MediaSession;
 use rtc_part_values::Ids;
 
-/// Each call is a list of acts of each part. A poll gives the parts nothing that came from outside, shows only what they gave,
-/// and tells the last message that it read for a channel, if any: the last of the stream of this channel, in the generation that
-/// the stream has. An input gives its datagram to one part at most, and no moment but its own. A write that is taken is one
-/// message written. Where a data channel is closed, nothing comes, and no message is written or read.
+/// Each call is a list of acts of each part. A poll gives the parts nothing from outside, and returns only what they
+/// gave. It reports at most the last message that it read for a channel: the last of its stream, in the generation that
+/// the stream has. An input gives its datagram to one part at most, and no moment but its own. A write that is taken
+/// writes one message. If a data channel is closed, no packet is received, and no message is written or read.
 pub fn calls_act<I: IceAgent, D: DtlsInstance, S: Association, M: MediaSession, N: Ids>()
     ensures polls { (p q : Polled I D S M N) (answer : _)
         → PollsPeer (meanings I.ice D.dtls S.association M.media N.ids) p answer q
@@ -46,8 +46,9 @@ pub fn calls_act<I: IceAgent, D: DtlsInstance, S: Association, M: MediaSession, 
         → CallActs (meanings I.ice D.dtls S.association M.media N.ids) [] p q }
 {}
 
-/// So is each offer and each answer that is accepted, refused or stopped: no packet comes from outside and none goes, no message is
-/// written or read, and no moment is handed on but the greatest that was taken. So is an offer that is rolled back.
+/// So is each offer and each answer that is accepted, refused or stopped. No packet is received from outside or sent,
+/// no message is written or read, and no moment is passed on but the greatest that was taken. So is an offer that is
+/// rolled back.
 pub fn acceptances_act<I: IceAgent, D: DtlsInstance, S: Association, M: MediaSession, N: Ids>()
     ensures offers { (p : Polled I D S M N) (core : Peer I D S M N) (offer : Description) (answer : _)
         → AcceptsOffer (meanings I.ice D.dtls S.association M.media N.ids) p.core offer answer core

@@ -19,8 +19,8 @@ use rtc_part_ice::IceAgent;
 use rtc_part_media::MediaSession;
 use rtc_part_values::Ids;
 
-/// What is staged moves no part. What is applied is one act of the agent at most: this side takes control, or leaves it. Nothing comes from
-/// outside, and no moment is handed on.
+/// What is staged moves no part. What is applied is at most one act of the agent: this side takes control, or leaves
+/// it. Nothing is received from outside, and no moment is passed on.
 pub fn changes_act<I: IceAgent, D: DtlsInstance, S: Association, M: MediaSession, N: Ids>()
     ensures channels { (p : Polled I D S M N) (core : Peer I D S M N) (config : ChannelConfig) (answer : _)
         → AddsChannel (meanings I.ice D.dtls S.association M.media N.ids) p.core config answer core
@@ -41,8 +41,9 @@ pub fn changes_act<I: IceAgent, D: DtlsInstance, S: Association, M: MediaSession
         → CallActs (meanings I.ice D.dtls S.association M.media N.ids) [] p (with_core core p) }
 {}
 
-/// Negotiation passes on what a peer passes on in each other call: the association is given nothing that did not come over the DTLS
-/// connection, and nothing is sent over it that was not taken from the association (RFC 8261, section 5).
+/// Negotiation passes on what a peer passes on in each other call. The association is given nothing that was not
+/// received over the DTLS connection, and nothing is sent over it that was not taken from the association (RFC 8261,
+/// section 5).
 pub fn negotiation_relays<I: IceAgent, D: DtlsInstance, S: Association, M: MediaSession, N: Ids>()
     ensures offers { (p : Polled I D S M N) (core : Peer I D S M N) (offer : Description) (answer : _)
         → AcceptsOffer (meanings I.ice D.dtls S.association M.media N.ids) p.core offer answer core

@@ -50,7 +50,7 @@ pub fn closed_peers_stay_closed<
         → p.core.phase ≡ Closed → q.core.phase ≡ Closed }
 {}
 
-/// So it is behind each offer and each answer, behind what is staged and applied, and behind an offer that is rolled back.
+/// So it is after each offer and each answer, after what is staged and applied, and after an offer that is rolled back.
 pub fn negotiation_leaves_peers_closed<
     I: IceAgent,
     D: DtlsInstance,

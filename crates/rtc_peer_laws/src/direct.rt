@@ -24,8 +24,9 @@ use rtc_part_ice::IceAgent;
 use rtc_part_media::MediaSession;
 use rtc_part_values::Ids;
 
-/// A call on the agent is one act of it. A role is taken as by a session description: no packet comes from outside, and no moment is
-/// handed on but the greatest that was taken. An association that is started, and a channel that is made, give no packet.
+/// A call on the agent is one act of it. A role is taken as by a session description: no packet is received from
+/// outside, and no moment is passed on but the greatest that was taken. An association that is started, and a channel
+/// that is made, give no packet.
 pub fn direct_calls_act<I: IceAgent, D: DtlsInstance, S: Association, M: MediaSession, N: Ids>()
     ensures controlling { (p q : Polled I D S M N) (on : Bool) → SetsControlling I.ice on p q
         → CallActs (meanings I.ice D.dtls S.association M.media N.ids) [] p q }
@@ -49,7 +50,7 @@ pub fn direct_calls_act<I: IceAgent, D: DtlsInstance, S: Association, M: MediaSe
         → CallActs (meanings I.ice D.dtls S.association M.media N.ids) [] p q }
 {}
 
-/// Lines, SSRCs and feedback: nothing comes from outside, and the media part is told each call.
+/// Lines, SSRCs and feedback: nothing is received from outside, and the media part is given each call.
 pub fn direct_media_acts<I: IceAgent, D: DtlsInstance, S: Association, M: MediaSession, N: Ids>()
     ensures declares { (p q : Polled I D S M N) (mid : List ℕ) (kind : MediaKind) (answer : _) → DeclaresMedia mid kind p answer q
         → CallActs (meanings I.ice D.dtls S.association M.media N.ids) [] p q }

@@ -1,4 +1,4 @@
-//! What a peer answers that has nothing left to give.
+//! What a peer returns that has nothing left to give.
 ghost use Rattle.std.specs.Prelude.{◌≡◌, ◌≢◌, ◌≤◌, ◌-◌, ◌^◌, ℕ, None, Ok};
 ghost use Rattle.rtc_peer_core.specs.Meanings.{meanings};
 ghost use Rattle.rtc_peer_core.specs.declared.phase.Phase.TheVariants.{Closed};
@@ -13,8 +13,8 @@ use rtc_part_ice::IceAgent;
 use rtc_part_media::MediaSession;
 use rtc_part_values::Ids;
 
-/// A peer that answered a timeout, and is polled again without a call between, answers the same timeout for the same reason, and
-/// nothing changes; only want of memory may come in its place, and not once it is closed.
+/// A peer that returned a timeout, and is polled again without a call between, returns the same timeout for the same
+/// reason, and nothing changes. Only out of memory may replace it, and not once the peer is closed.
 pub fn drained_peers_rest<I: IceAgent, D: DtlsInstance, S: Association, M: MediaSession, N: Ids>()
     ensures again { (p q s : Polled I D S M N) (moment : ℕ) (answer : _)
         → PollsPeer (meanings I.ice D.dtls S.association M.media N.ids) p (Ok (Timeout moment)) q
@@ -34,9 +34,10 @@ pub fn wakes_are_not_past<I: IceAgent, D: DtlsInstance, S: Association, M: Media
         → moment ≡ 2 ^ 64 - 1 }
 {}
 
-/// Once a peer that is not closed answered a timeout, and no packet stands to be sent, its association gives nothing more, and each
-/// stream in use waits to be opened, which is refused for now and tried again, for less than ten seconds since the first refusal; or it
-/// was opened, has the generation that its entry keeps, is not to be closed, and every whole message of its generation was read.
+/// Once a peer that is not closed returned a timeout, and no packet waits to be sent, its association gives nothing
+/// more. Each stream in use then is in one of two states. It waits to be opened, which was refused and is tried again,
+/// for less than ten seconds since the first refusal. Or it was opened, has the generation that its entry keeps, is not
+/// to be closed, and every whole message of its generation was read.
 pub fn drained_peers_have_heard<
     I: IceAgent,
     D: DtlsInstance,

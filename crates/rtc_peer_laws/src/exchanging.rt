@@ -20,9 +20,9 @@ ghost use Rattle.rtc_peer_laws.specs.JoinedPeers.{CarriesData};
 
 use rtc_part_values::Ids;
 
-/// Two peers over plain parts that exchange datagrams stay so by every call of one of them to whose DTLS part application data comes
-/// only in datagrams that the other one has shown, whatever is lost, repeated or reordered. What one association reads of a
-/// generation of a stream is a prefix of what the other one wrote.
+/// Two peers over plain parts that exchange datagrams stay so by every call of one of them whose DTLS part receives
+/// application data only in datagrams that the other one sent. This holds whatever is lost, repeated or reordered. What
+/// one association reads of a generation of a stream is a prefix of what the other one wrote.
 pub fn exchanges_keep_peers_joined<N: Ids>()
     ensures left { (a b : PeerActs) (before after others : List (List ℕ))
         (p next q : Polled IceContents DtlsContents Contents MediaContents N) (came : Came) (moments : List ℕ)

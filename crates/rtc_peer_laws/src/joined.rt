@@ -21,9 +21,9 @@ use rtc_part_ice::IceAgent;
 use rtc_part_media::MediaSession;
 use rtc_part_values::Ids;
 
-/// Two peers whose parts were not used yet are joined, and stay so by every call of one of them to whose DTLS part application data
-/// comes only in packets that the DTLS part of the other one had given before, whatever is lost, repeated or reordered, and whatever
-/// other packets come.
+/// Two peers whose parts were not used yet are joined. They stay so by every call of one of them whose DTLS part
+/// receives application data only in packets that the other one's DTLS part gave before. This holds whatever is lost,
+/// repeated or reordered, and whatever other packets are received.
 pub fn calls_keep_peers_joined<I: IceAgent, M: MediaSession, N: Ids>()
     ensures unused { (a b : PartsPast) (left right : PacketParts) → AreUnused a left → AreUnused b right
         → PeersJoined a left b right }
@@ -39,9 +39,9 @@ pub fn calls_keep_peers_joined<I: IceAgent, M: MediaSession, N: Ids>()
         → PeersJoined a left (past_with b did.acts) (packet_parts q) }
 {}
 
-/// Of each generation of each stream, the association of one peer reads a prefix of the messages that the association of the other
-/// one wrote. Where neither closed the generation and the writer holds no unacknowledged item of the stream, the messages read and
-/// those still unread are together all that were written.
+/// Of each generation of each stream, the association of one peer reads a prefix of the messages that the association
+/// of the other one wrote. The messages read and those still unread are together all that were written, if neither
+/// closed the generation and the writer holds no unacknowledged item of the stream.
 pub fn joined_peers_read_what_was_written()
     ensures right { (a b : PartsPast) (left right : PacketParts) (s g : ℕ) → PeersJoined a left b right
         → IsPrefix (read s g b.association) (written s g a.association) }
@@ -75,7 +75,7 @@ pub fn messages_are_those_of_calls<
         → read s g (past_with past did.acts).association ≡ read s g past.association ++ read s g (map read_act heard) }
 {}
 
-/// Calls to which no datagram comes, and a side that begins the handshake, bring no application data.
+/// Calls that receive no datagram, and a side that begins the handshake, bring no application data.
 pub fn calls_without_datagrams_carry_no_data()
     ensures none { (others : List (List ℕ)) → CarriesData nothing_came.dtls others }
     ensures begun { (others : List (List ℕ)) → CarriesData begun_here.dtls others }

@@ -70,10 +70,11 @@ pub fn acceptances_keep_streams<
         → CallKeepsStreams (meanings I.ice D.dtls S.association M.media N.ids) p [] (with_core core p) }
 {}
 
-/// So does a channel that is added, with its row behind the others; what is staged and applied; and every call that leaves the streams
-/// and the channels, as one that stages a line, or gives the agent a candidate. One call goes on behind another.
+/// So does a channel that is added, with its row behind the others; what is staged and applied; and every call that
+/// leaves the streams and the channels, as one that stages a line, or gives the agent a candidate. One call follows
+/// another.
 ///
-/// An offer that is rolled back does so too, but that a channel which was live may go with its row.
+/// An offer that is rolled back does so too, except that a live channel may be removed with its row.
 pub fn stagings_keep_streams<
     I: IceAgent,
     D: DtlsInstance,

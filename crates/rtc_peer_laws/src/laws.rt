@@ -15,9 +15,9 @@ use rtc_part_ice::IceAgent;
 use rtc_part_media::MediaSession;
 use rtc_part_values::Ids;
 
-/// In each call, each packet that is given to the association came over the DTLS connection in that call, and each packet that
-/// is sent over it in the call, or stands to be sent behind it, was taken from the association in the call or stood to be sent
-/// before it (RFC 8261, section 5).
+/// In each call, each packet that is given to the association was received over the DTLS connection in that call. Each
+/// packet that is sent over it in the call, or waits to be sent after it, was taken from the association in the call or
+/// waited to be sent before it (RFC 8261, section 5).
 pub fn calls_relay<I: IceAgent, D: DtlsInstance, S: Association, M: MediaSession, N: Ids>()
     ensures polls { (p q : Polled I D S M N) (answer : _)
         → PollsPeer (meanings I.ice D.dtls S.association M.media N.ids) p answer q

@@ -1,5 +1,5 @@
-//! Laws of peers: what their calls do to their parts and leave of streams, what a drained peer answers, and what two joined peers read
-//! of each other.
+//! Laws of peers: what their calls do to their parts and leave of streams, what a drained peer returns, and what two
+//! joined peers read of each other.
 #![tactic(auto)]
 
 mod acts;

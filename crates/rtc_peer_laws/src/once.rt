@@ -18,11 +18,11 @@ use rtc_part_ice::IceAgent;
 use rtc_part_media::MediaSession;
 use rtc_part_values::Ids;
 
-/// Where a channel is told to be open, its stream was opened by other means than messages, or a message that opens a channel was read
-/// in its generation, and none before this poll; and then the channel is live behind the poll. A channel that is live is not told
-/// to be open again. A channel that has gone has no stream, and no stream has it.
+/// If a channel is reported as open, its stream was opened out-of-band, or a message that opens a channel was read in
+/// its generation, and none before this poll; the channel is live after the poll. A live channel is not reported as
+/// open again. A channel that is gone has no stream, and no stream has it.
 ///
-/// The use of a stream may be told by messages from now on alone, where it is live, or has no entry but a closed one.
+/// The use of a stream may be given by messages from now on alone, if it is live, or has no entry but a closed one.
 pub fn channels_open_once<I: IceAgent, D: DtlsInstance, S: Association, M: MediaSession, N: Ids>()
     ensures once { GenerationLaws S.association → (p q : Polled I D S M N) (id : ℕ) (wrote heard written read : List StreamMessage)
         (opens : OpensStreamOf (meanings I.ice D.dtls S.association M.media N.ids) id p wrote heard q)
