@@ -7,13 +7,13 @@ use Rattle.rtc_faulty.specs.declared.faulty.Faulty.{Faulty}
 use Rattle.rtc_faulty.specs.Numbering.{is_failing}
 use Rattle.rtc_faulty.specs.FaultyCalls.{IsFreshOver, Reaches, CanFail}
 
--- an answer to opening a stream uses a number, unless the stream is there or a reset of it is outstanding
+-- a result of opening a stream uses a number, unless the stream is there or a reset of it is outstanding
 abbrev pub opening_counts : {A : Type 0} → Result A AssocError → Bool
 opening_counts (Err StreamExists) = false
 opening_counts (Err ResetPending) = false
 opening_counts _ = true
 
--- an answer to reading uses a number, unless it gives no message
+-- a result of reading uses a number, unless it gives no message
 abbrev pub reading_counts : {A : Type 0} → Result (Option A) AssocError → Bool
 reading_counts (Ok None) = false
 reading_counts _ = true

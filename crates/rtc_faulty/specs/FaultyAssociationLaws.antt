@@ -63,7 +63,7 @@ use Rattle.rtc_faulty.specs.FaultyLemmas.{
 use Rattle.rtc_faulty.specs.FaultyAssociation.{faulty_association, opening_counts, reading_counts}
 use Rattle.rtc_faulty.specs.FaultyAssociationActs.{wrote_inside, read_inside, association_act_inside}
 
--- answers
+-- results
 answered_inside : {T : Type 0} (cause : Option AssocError) (i j f g : ℕ) (r : Result T AssocError) → g ≡ f → Answered cause i j r
     → Answered cause (i + f) (j + g) r
 answered_inside cause i j f g (Ok x) e h = (h.0, later_inside i j f g e h.1)
@@ -127,7 +127,7 @@ module _ {S : Type 0} (m : AssociationMeaning S) (w : AssociationLaws m) where
   buffers_inside : (p q : Faulty S) (id n : ℕ) → Buffers m p.inner id n q.inner → Buffers Whole p id n q
   buffers_inside p q id n b = record { rises = b.rises; bound = b.bound; others = b.others }
 
-  -- what is read as none, or refused without a number, changes nothing and is answered so again
+  -- what is read as none, or refused without a number, changes nothing and is returned so again
   reads_none : (b : Bool) (p q : Faulty S) (id : ℕ) → CanFail b Fault reading_counts (λ i a j. m.read i id a j) p (Ok None) q → q ≡ p
   reads_none true p q id h = absurd (never_fault None Fault h.0)
   reads_none false p q id h = reaches_same p q (w.read_none p.inner q.inner id h.0) h.1

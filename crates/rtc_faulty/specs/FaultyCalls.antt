@@ -13,8 +13,8 @@ pub record IsFreshOver {P : Type 0} (fresh : P → Type 0) (p : Faulty P) : Type
 abbrev pub Reaches : {P : Type 0} → (P → P → Type 0) → Faulty P → Faulty P → Type 0
 Reaches R p q = R p.inner q.inner × (q ≡ record p { inner = q.inner })
 
--- a call that can fail. If it does, it returns the fault; else it reaches the part inside, and uses a number unless
--- its answer is one that uses none
+-- a call that can fail. If it does, it returns the fault; else it reaches the part inside, and uses a number unless its result is one that
+-- uses none
 abbrev pub CanFail : {P A E : Type 0} → (fails : Bool) → E → (Result A E → Bool) → (P → Result A E → P → Type 0)
     → Faulty P → Result A E → Faulty P → Type 0
 CanFail true fault uses R p r q = (r ≡ Err fault) × (q ≡ record p { numbers = call_failed p.numbers })

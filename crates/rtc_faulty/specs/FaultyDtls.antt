@@ -7,7 +7,7 @@ use Rattle.rtc_faulty.specs.declared.faulty.Faulty.{Faulty}
 use Rattle.rtc_faulty.specs.Numbering.{is_failing}
 use Rattle.rtc_faulty.specs.FaultyCalls.{IsFreshOver, Reaches, CanFail}
 
--- an answer uses a number: each but that application data has to wait
+-- a result uses a number: each but that application data has to wait
 abbrev pub dtls_answer_counts : {A : Type 0} → Result A DtlsError → Bool
 dtls_answer_counts (Err WouldBlock) = false
 dtls_answer_counts _ = true

@@ -62,7 +62,7 @@ use Rattle.rtc_faulty.specs.FaultyLemmas.{
 }
 use Rattle.rtc_faulty.specs.FaultyDtls.{faulty_dtls, dtls_answer_counts}
 
--- answers
+-- results
 answered_inside : (i j f g : ℕ) (r : Result (Unit {0}) DtlsError) → g ≡ f → DtlsAnswered i j r → DtlsAnswered (i + f) (j + g) r
 answered_inside i j f g (Ok x) e h = later_inside i j f g e h
 answered_inside i j f g (Err WouldBlock) e h = absurd h

@@ -84,7 +84,7 @@ module _ {P A E : Type 0} (fault : E) (uses : Result A E → Bool) (R : P → Re
     | inr k ↦ step k.did
   ]
 
-  -- a call whose answer is not the fault reached the part inside
+  -- a call whose result is not the fault reached the part inside
   pub reached_unless_fault : (b : Bool) (p q : Faulty P) (r : Result A E) → (r ≡ Err fault → ⊥) → CanFail b fault uses R p r q
       → ReachedCall R p r q
   reached_unless_fault b p q r other h = elim (failed_or_reached b p q r h) [ inl f ↦ absurd (other f.answer) | inr k ↦ k ]

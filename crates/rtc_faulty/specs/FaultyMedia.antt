@@ -6,8 +6,8 @@ use Rattle.rtc_faulty.specs.declared.faulty.Faulty.{Faulty}
 use Rattle.rtc_faulty.specs.Numbering.{is_failing, faults_ahead}
 use Rattle.rtc_faulty.specs.FaultyCalls.{IsFreshOver, Reaches, CanFail}
 
--- a timeout has a number. A poll of the events whose making may fail has one only if it fails: so the faults that are
--- to come in a row are held, as events are
+-- a timeout has a number. A poll of the events whose making may fail has one only if it fails: so the later faults in a row are held, as
+-- events are
 abbrev pub faulty_media : {M E X T W : Type 0} → MediaMeaning M E X T W → MediaMeaning (Faulty M) E X T W
 faulty_media m = record {
   fresh = λ p. IsFreshOver m.fresh p;

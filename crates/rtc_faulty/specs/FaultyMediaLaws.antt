@@ -65,7 +65,7 @@ use Rattle.rtc_faulty.specs.RowLemmas.{ahead_fails, ahead_ends, fails_none}
 use Rattle.rtc_faulty.specs.FaultyMedia.{faulty_media}
 use Rattle.rtc_faulty.specs.FaultyMediaActs.{media_loan_inside, media_stir_inside, media_act_inside}
 
--- what is held: events e, datagrams d and faults to come f, before and after
+-- what is held: events e, datagrams d and later faults f, before and after
 fewer_held : (e d f e' d' f' : ℕ) → f' ≡ f → e' + d' < e + d → e' + f' + d' < e + f + d
 fewer_held e d f e' d' f' same less = omega arith
 
@@ -132,7 +132,7 @@ module _ {M E X T W : Type 0} (m : MediaMeaning M E X T W) (w : MediaLaws m) whe
     | inr k ↦ rose_inside (m.faults p.inner) (m.faults q.inner) p.numbers.faults q.numbers.faults k.faults (law k.did)
   ]
 
-  -- what is held: the row of faults stays where the numbers do
+  -- what is held: the row of faults is unchanged if the numbers are
   same_ahead : (p q : Faulty M) → q ≡ record p { inner = q.inner } → faults_ahead q.numbers ≡ faults_ahead p.numbers
   same_ahead p q e = ap faults_ahead (reaches-numbers p q e)
 
@@ -197,7 +197,7 @@ module _ {M E X T W : Type 0} (m : MediaMeaning M E X T W) (w : MediaLaws m) whe
   quiet_fails true p now e none = absurd (let x : true ≡ false = e in cc)
   quiet_fails false p now e none = (w.quiet_told_fallible p.inner now none, refl)
 
-  -- of what a part holds, nothing: no event inside, no fault to come
+  -- of what a part holds, nothing: no event inside, no later fault
   no_event : (p : Faulty M) → m.held_events p.inner + faults_ahead p.numbers ≡ 0 → m.held_events p.inner ≡ 0
   no_event p none = omega (arith, none)
 

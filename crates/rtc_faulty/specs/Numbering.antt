@@ -9,7 +9,7 @@ pub record Numbering : Type 0 where
   pub failing : List ℕ
   -- how many numbers were used, which is the next number as long as one is left
   pub used : ℕ
-  -- how many calls failed; it stands still at the last value of a u64
+  -- how many calls failed; it rises no further at the last value of a u64
   pub faults : ℕ
 
 -- how many numbers there are before a next one, or in all
@@ -29,7 +29,7 @@ is_failing n = nat_le n.used (2 ^ 64 - 1) && lists_number n.used n.failing
 abbrev pub number_used : Numbering → Numbering
 number_used n = record n { used = min (n.used + 1) (2 ^ 64) }
 
--- one more fault, if the count does not stand at the last value of a u64
+-- one more fault, if the count does not have the last value of a u64
 abbrev pub one_fault_more : ℕ → ℕ
 one_fault_more faults = max faults (counted faults)
 

@@ -39,7 +39,7 @@ row_none : (number : ℕ) (failing : List ℕ) → row_of_listed 0 number failin
 unfolding row_of_listed
 row_none number failing = refl
 
--- both of two tests hold; the second does not, where the first does and not both
+-- both of two tests hold; the second does not, if the first does and not both
 second_holds : (a b : Bool) → a && b ≡ true → b ≡ true
 second_holds true b h = h
 second_holds false b h = absurd (let x : false ≡ true = h in cc)
@@ -83,7 +83,7 @@ ahead_ends n h = elim (leb_tells n.used (2 ^ 64 - 1)) [
       ap (λ (x : ℕ). row_of_listed x n.used n.failing) left ∙ row_none n.used n.failing
 ]
 
--- where no fault is ahead, the next call does not fail
+-- if no fault is ahead, the next call does not fail
 pub fails_none : (b : Bool) (n : Numbering) → is_failing n ≡ b → faults_ahead n ≡ 0 → b ≡ false
 fails_none true n e h = absurd (let more : faults_ahead n ≡ suc (faults_ahead (call_failed n)) = ahead_fails n e in
     let none : suc (faults_ahead (call_failed n)) ≡ 0 = sym more ∙ h in cc)

@@ -32,7 +32,7 @@ pub data Starts {S : Type 0} (m : AssociationMeaning S) (p q : S) : Type 0 where
   ByAccept : (now max_send : ℕ) → m.accepted p now max_send (Ok tt) q → Starts m p q
   BySnap : (now max_send : ℕ) (local remote : List ℕ) → m.connected_snap p now max_send local remote (Ok tt) q → Starts m p q
 
--- the calls with which nothing was given, taken, written, read or told, and that neither pass time nor shut down
+-- the calls with which nothing was given, taken, written, read or reported, and that neither pass time nor shut down
 pub data Stirs {S : Type 0} (m : AssociationMeaning S) (p q : S) : Type 0 where
   LimitsSet : (max_payload local_max_message : ℕ) → m.limits_set p max_payload local_max_message q → Stirs m p q
   ConnectRefused : (now max_send : ℕ) (e : AssocError) → m.started p ≡ false → m.connected p now max_send (Err e) q → Stirs m p q
@@ -61,7 +61,7 @@ Acted m p (Stirred (Timed now)) q = (r : _) × m.timed p now r q
 Acted m p (Stirred Shut) q = (r : _) × m.shut p r q
 Acted m p (Stirred Other) q = Stirs m p q
 
--- whether a call of these sets a threshold and is answered Ok
+-- whether a call of these sets a threshold and returns Ok
 abbrev pub is_threshold_set : {S : Type 0} (m : AssociationMeaning S) (p q : S) → Stirs m p q → Bool
 is_threshold_set m p q (ThresholdSet id n (Ok _) h) = true
 is_threshold_set m p q _ = false

@@ -7,8 +7,8 @@ use Rattle.rtc_part_association.specs.AssociationMeaning.{AssociationMeaning}
 use Rattle.rtc_part_association.specs.AssociationActs.{AssociationAct}
 use Rattle.rtc_part_association.specs.AssociationWords.{told, completions}
 
--- events of a stream in order, by whether the other end closed it before them and behind them: a ResetComplete comes
--- behind a Finished alone, and takes it up
+-- events of a stream in order, by whether the other end closed it before them and behind them: a ResetComplete is behind a Finished alone,
+-- and takes it up
 abbrev pub InOrder : ℕ → Bool → List AssocEvent → Bool → Type 0
 InOrder s closed [] after = after ≡ closed
 InOrder s closed (Finished t ∷ events) after = InOrder s ((t == s) || closed) events after
@@ -16,8 +16,8 @@ InOrder s closed (ResetComplete t ∷ events) after =
     (t ≡ s → closed ≡ true) × InOrder s (not (t == s) && closed) events after
 InOrder s closed (_ ∷ events) after = InOrder s closed events after
 
--- what acts add behind the events that are due: by as many completed resets a generation rises, and where a message
--- came to stand unread, a Readable of its stream is among them
+-- what acts add behind the events that are due: by as many completed resets a generation rises, and if a message became unread, a Readable
+-- of its stream is among them
 pub record AddsEvents {S : Type 0} (m : AssociationMeaning S) (p : S) (acts : List AssociationAct) (q : S) : Type 0 where
   pub more : List AssocEvent
   pub due_is : told acts ++ m.due q ≡ m.due p ++ more

@@ -10,7 +10,7 @@ use Rattle.rtc_part_association.specs.AssociationNeeds.{Answered, closing_need, 
 use Rattle.rtc_part_association.specs.AssociationActs.{AssociationAct, starts, Acted, brings_threshold}
 use Rattle.rtc_part_association.specs.AssociationEvents.{AddsEvents}
 
--- what an answer of a starting call leaves: a started part with this limit, or one that is not started
+-- what a result of a starting call leaves: a started part with this limit, or one that is not started
 abbrev pub LeavesStarted : {S : Type 0} → AssociationMeaning S → ℕ → Result (Unit {0}) AssocError → S → Type 0
 LeavesStarted m max_send (Ok _) q = (m.started q ≡ true) × (m.max_send q ≡ max_send)
 LeavesStarted m max_send (Err _) q = m.started q ≡ false
@@ -30,7 +30,7 @@ pub record AssociationLaws {S : Type 0} (m : AssociationMeaning S) : Type 0 wher
   pub fresh_generation : (p : S) (id : ℕ) → m.fresh p → m.generation p id ≡ 0
   pub fresh_finished : (p : S) (id : ℕ) → m.fresh p → m.finished p id ≡ false
   pub fresh_unread : (p : S) (id g : ℕ) → m.fresh p → m.has_unread p id g ≡ false
-  -- each call refuses exactly where one of its needs holds, with the first that does
+  -- each call refuses exactly if one of its needs holds, with the first that does
   pub connect_answer : (p q : S) (now max_send : ℕ) (r : _) → m.connected p now max_send r q → Answered None (m.faults p) (m.faults q) r
   pub accept_answer : (p q : S) (now max_send : ℕ) (r : _) → m.accepted p now max_send r q → Answered None (m.faults p) (m.faults q) r
   pub snap_answer : (p q : S) (now max_send : ℕ) (local remote : List ℕ) (r : _)
@@ -64,14 +64,14 @@ pub record AssociationLaws {S : Type 0} (m : AssociationMeaning S) : Type 0 wher
   pub write_count : (p q : S) (id : ℕ) (ppi : Ppi) (bytes : List ℕ) (n : ℕ) → m.wrote p id ppi bytes (Ok n) q → n ≡ length bytes
   pub write_buffers : (p q : S) (id : ℕ) (ppi : Ppi) (bytes : List ℕ) (n : ℕ) → m.wrote p id ppi bytes (Ok n) q
       → Buffers m p id (length bytes) q
-  -- a reading that gives nothing, and an opening refused for the stream that is there or its outstanding reset,
-  -- change nothing and, `Alloc` aside, are answered so again
+  -- a reading that gives nothing, and an opening refused for the stream that is there or its outstanding reset, change nothing and, `Alloc`
+  -- aside, return the same again
   pub read_none : (p q : S) (id : ℕ) → m.read p id (Ok None) q → q ≡ p
   pub read_none_again : (p q o : S) (id : ℕ) (r : _) → m.read p id (Ok None) q → m.read p id r o → (r ≡ Ok None) ⊎ (r ≡ Err Alloc)
   pub open_refused : (p q : S) (id : ℕ) (e : AssocError) → (e ≡ StreamExists) ⊎ (e ≡ ResetPending) → m.opened p id (Err e) q → q ≡ p
   pub open_refused_again : (p q o : S) (id : ℕ) (e : AssocError) (r : _) → (e ≡ StreamExists) ⊎ (e ≡ ResetPending)
       → m.opened p id (Err e) q → m.opened p id r o → (r ≡ Err e) ⊎ (r ≡ Err Alloc)
-  -- a reading gives a message exactly where one of the stream's generation stands unread
+  -- a reading gives a message exactly if one of the stream's generation is unread
   pub read_unread : (p q : S) (id : ℕ) (message : Ppi × List ℕ) → m.read p id (Ok (Some message)) q
       → m.has_unread p id (m.generation p id) ≡ true
   pub none_unread : (p q : S) (id : ℕ) → m.read p id (Ok None) q → m.has_unread p id (m.generation p id) ≡ false
@@ -84,7 +84,7 @@ pub record AssociationLaws {S : Type 0} (m : AssociationMeaning S) : Type 0 wher
   pub poll_none : (p q : S) → m.polled p None q → m.due p ≡ []
   -- the count of faults never falls
   pub faults_rise : (p q : S) (act : AssociationAct) → Acted m p act q → m.faults p ≤ m.faults q
-  -- a poll that gives nothing changes nothing, and the polls all give nothing exactly where nothing is held
+  -- a poll that gives nothing changes nothing, and the polls all give nothing exactly if nothing is held
   pub event_none : (p q : S) → m.polled p None q → q ≡ p
   pub packet_none : (p q : S) → m.gave p None q → q ≡ p
   pub event_falls : (p q : S) (event : AssocEvent) → m.polled p (Some event) q → m.held q < m.held p

@@ -9,7 +9,7 @@ use Rattle.rtc_part_association.specs.declared.ppi.Ppi.{Ppi}
 pub record AssociationMeaning (S : Type 0) : Type 1 where
   -- a part that is as it was made
   pub fresh : S → Type 0
-  -- what each call does: the part before, the arguments, the answer, the part after
+  -- what each call does: the part before, the arguments, the result, the part after
   pub limits_set : S → (max_payload local_max_message : ℕ) → S → Type 0
   pub connected : S → (now max_send : ℕ) → Result (Unit {0}) AssocError → S → Type 0
   pub accepted : S → (now max_send : ℕ) → Result (Unit {0}) AssocError → S → Type 0
@@ -25,7 +25,7 @@ pub record AssociationMeaning (S : Type 0) : Type 1 where
   pub polled : S → Option AssocEvent → S → Type 0
   pub gave : S → Option (List ℕ) → S → Type 0
   pub shut : S → Result (Unit {0}) AssocError → S → Type 0
-  -- what the readings answer
+  -- what the readings return
   pub started : S → Bool
   pub closing : S → Bool
   pub closed : S → Bool
@@ -49,5 +49,5 @@ pub record AssociationMeaning (S : Type 0) : Type 1 where
   pub due : S → List AssocEvent
   -- whether the other end closed the generation that a stream has
   pub finished : S → (id : ℕ) → Bool
-  -- whether a whole message of a generation of a stream stands unread
+  -- whether a whole message of a generation of a stream is unread
   pub has_unread : S → (id generation : ℕ) → Bool

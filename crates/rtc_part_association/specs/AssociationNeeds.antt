@@ -1,4 +1,4 @@
--- When an association refuses a call: exactly where one of the call's needs holds, with the first that does.
+-- When an association refuses a call: exactly if one of the call's needs holds, with the first that does.
 use Rattle.std.specs.Prelude.{ℕ, ◌≡◌, ◌≤◌, Bool, true, false, not, ◌||◌, nat_lt, List, length, Option, Some, None, Result, Ok, Err}
 use Rattle.rtc_io.specs.Faults.{Rose}
 use Rattle.rtc_part_association.specs.declared.assoc_error.AssocError.{AssocError}
@@ -6,7 +6,7 @@ use Rattle.rtc_part_association.specs.declared.assoc_error.AssocError.TheVariant
 use Rattle.rtc_part_association.specs.declared.assoc_error.AssocError.TheVariants.{TooLong, Closing, Fault, Alloc}
 use Rattle.rtc_part_association.specs.AssociationMeaning.{AssociationMeaning}
 
--- a cause, where it holds, and else what follows
+-- a cause, if it holds, and else what follows
 abbrev pub need : Bool → AssocError → Option AssocError → Option AssocError
 need true cause next = Some cause
 need false cause next = next
@@ -29,8 +29,8 @@ module _ {S : Type 0} (m : AssociationMeaning S) where
   abbrev pub stream_need : S → ℕ → Option AssocError
   stream_need p id = need (not (m.has_stream p id)) NoStream None
 
--- an answer where the causes to refuse are these and the count of faults went from one number to another: any
--- call may answer `Alloc`, and a fault comes only where the count rose or stands at its last value
+-- a result if the causes to refuse are these and the count of faults went from one number to another: any call may return `Alloc`, and a
+-- fault is returned only if the count rose or has its last value
 abbrev pub Answered : {T : Type 0} → Option AssocError → (before after : ℕ) → Result T AssocError → Type 0
 Answered cause before after (Ok _) = (cause ≡ None) × (before ≤ after)
 Answered cause before after (Err Fault) = Rose before after

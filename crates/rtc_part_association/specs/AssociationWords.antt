@@ -1,4 +1,4 @@
--- What a list of acts of an association gave, took, wrote, read and told.
+-- What a list of acts of an association gave, took, wrote, read and reported.
 use Rattle.std.specs.Prelude.{ℕ, ◌+◌, ◌==◌, ◌&&◌, ◌||◌, if◌then◌else◌, Bool, false, List, [], ◌∷◌}
 use Rattle.rtc_part_association.specs.declared.assoc_event.AssocEvent.{AssocEvent}
 use Rattle.rtc_part_association.specs.declared.assoc_event.AssocEvent.TheVariants.{ResetComplete}
@@ -40,7 +40,7 @@ ended s g [] = false
 ended s g (Ended t h ∷ acts) = ((t == s) && (h == g)) || ended s g acts
 ended s g (_ ∷ acts) = ended s g acts
 
--- the events told, in order
+-- the reported events, in order
 abbrev pub told : List AssociationAct → List AssocEvent
 told [] = []
 told (Told e ∷ acts) = e ∷ told acts

@@ -12,7 +12,7 @@ ppi_number EmptyText = 56
 ppi_number EmptyBinary = 57
 ppi_number (Other number) = number
 
--- the identifier of a number, by its name where it has one
+-- the identifier of a number, by its name if it has one
 abbrev pub ppi_of : ℕ → Ppi
 ppi_of number =
     if number == 50 then Dcep

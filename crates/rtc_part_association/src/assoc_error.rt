@@ -2,7 +2,7 @@
 use std::alloc::{AllocError, AllocFailed};
 use thiserror::Error;
 
-/// Why a call of an association did nothing. Where several causes hold, the first of them is answered.
+/// Why a call of an association did nothing: the first cause that holds.
 #[derive(Clone, Copy, Debug, PartialEq, Eq, Error)]
 pub enum AssocError {
     #[error("the stream is there")]

@@ -1,13 +1,13 @@
-//! What an association tells.
+//! What an association reports.
 
-/// Something that happened at an association, told by `poll`.
+/// An event of an association, reported by `poll`.
 #[derive(Clone, Copy, Debug, PartialEq, Eq)]
 pub enum AssocEvent {
-    /// The other end answered.
+    /// The other end accepted.
     Connected,
     /// The other end shut the association down.
     Lost,
-    /// A whole message of the stream came.
+    /// A whole message of the stream was received.
     Readable(u16),
     Writable(u16),
     /// The other end closed the stream.

@@ -65,7 +65,7 @@ pub trait Association {
     fn generation(&self, id: u16) -> u64
         ensures { result ≡ association.generation self.now id };
 
-    /// Writes a message. Ok answers the number of its bytes.
+    /// Writes a message. Ok is the number of its bytes.
     fn stream_write(&mut self, id: u16, ppi: Ppi, bytes: &[u8]) -> Result<usize, AssocError>
         requires { association.started self.old ≡ true }
         ensures { association.wrote self.old id ppi bytes.now result self.new };
@@ -80,11 +80,11 @@ pub trait Association {
         requires { association.started self.old ≡ true }
         ensures { association.ended self.old id result self.new };
 
-    /// The written bytes of the stream that are not yet acknowledged; 0 where there is no such stream.
+    /// The written bytes of the stream that are not yet acknowledged; 0 if there is no such stream.
     fn buffered_amount(&self, id: u16) -> usize
         ensures { result ≡ association.buffered self.now id };
 
-    /// Asks for an event where the buffered amount falls to `n` bytes.
+    /// Asks for an event once `n` bytes or fewer are buffered.
     fn set_threshold(&mut self, id: u16, n: usize) -> Result<(), AssocError>
         requires { association.started self.old ≡ true }
         ensures { association.threshold_set self.old id n result self.new };

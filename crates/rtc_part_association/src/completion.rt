@@ -5,8 +5,8 @@ ghost use Rattle.rtc_part_association.specs.AssociationWords.{told, completions}
 
 use crate::Association;
 
-/// No message of a generation is read after its completion was told: where a message of generation `g` is read, at
-/// most `g` completed resets of its stream were told before.
+/// No message of a generation is read after its completion was reported: if one of generation `g` is read, at most `g`
+/// completed resets of its stream were reported before.
 pub fn nothing_read_after_completion<S: Association>()
     ensures { (p q : S) (acts before after : List AssociationAct) (s g i : ℕ) (bytes : List ℕ) → S.association.fresh p
         → Moved S.association p acts q → acts ≡ before ++ Read s g i bytes ∷ after → completions s (told before) ≤ g }

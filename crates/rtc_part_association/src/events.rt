@@ -8,9 +8,9 @@ ghost use Rattle.rtc_part_association.specs.AssociationWords.{told, completions}
 
 use crate::Association;
 
-/// Any acts add events behind those that are due. Of the events that a fresh association told and those that are due,
-/// each ResetComplete of a stream comes behind a Finished of its own, a stream's generation is the number of its
-/// ResetCompletes, and there is a Readable of each stream that has a whole message unread.
+/// Acts add events behind those that are due. The following holds of the events that were reported since the start and
+/// those that are due. Each ResetComplete of a stream is behind a Finished of its own. A stream's generation is the
+/// number of its ResetCompletes. Each stream with a whole unread message has a Readable.
 pub fn events_follow_each_other<S: Association>()
     ensures adds { (p q : S) (acts : List AssociationAct) → Moved S.association p acts q
         → AddsEvents S.association p acts q }

@@ -8,7 +8,7 @@ use Rattle.rtc_part_dtls.specs.declared.dtls_version.DtlsVersion.{DtlsVersion}
 use Rattle.rtc_part_dtls.specs.DtlsDrawn.{DtlsDrawn, DrewPacket, DrewData, tells}
 use Rattle.rtc_part_dtls.specs.DtlsMeaning.{DtlsMeaning}
 
--- a call by which nothing was given, taken, sent or got, with its arguments and its answer
+-- a call by which nothing was given, taken, sent or got, with its arguments and its result
 pub data DtlsCall : Type 0 where
   CertificateSet : (cert : List ℕ) (answer : Result (Unit {0}) AllocError) → DtlsCall
   Activated : (active : Bool) → DtlsCall
@@ -18,7 +18,7 @@ pub data DtlsCall : Type 0 where
   Closed : (answer : Result (Unit {0}) DtlsError) → DtlsCall
   Showed : (drawn : DtlsDrawn) → DtlsCall
 
--- one act: a packet that came in or went out, application data that was sent or came, or another call
+-- one act: a packet that was received or sent, application data that was sent or received, or another call
 pub data DtlsAct : Type 0 where
   Given : (packet : List ℕ) → DtlsAct
   Taken : (packet : List ℕ) → DtlsAct

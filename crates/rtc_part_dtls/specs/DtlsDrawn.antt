@@ -21,7 +21,7 @@ pub data DtlsDrawn : Type 0 where
   DrewTimeout : (moment : ℕ) → DtlsDrawn
   DrewClose : DtlsDrawn
 
--- an answer with the front of the buffer
+-- a result with the front of the buffer
 abbrev pub dtls_drawn : DtlsPolled → List ℕ → DtlsDrawn
 dtls_drawn (Packet n) buf = DrewPacket (take n buf)
 dtls_drawn Connected buf = DrewConnected
@@ -31,7 +31,7 @@ dtls_drawn (ApplicationData n) buf = DrewData (take n buf)
 dtls_drawn (Timeout moment) buf = DrewTimeout moment
 dtls_drawn CloseNotify buf = DrewClose
 
--- how many bytes an answer wrote
+-- how many bytes a result wrote
 abbrev pub polled_length : DtlsPolled → ℕ
 polled_length (Packet n) = n
 polled_length Connected = 0

@@ -7,15 +7,15 @@ use Rattle.rtc_part_dtls.specs.DtlsDrawn.{DtlsDrawn, DrewTimeout, drawn_bytes, d
 use Rattle.rtc_part_dtls.specs.DtlsMeaning.{DtlsMeaning}
 use Rattle.rtc_part_dtls.specs.DtlsActs.{DtlsAct, DtlsActed, DtlsMoved}
 
--- an answer of a call that never has to wait, where the count of faults went from one number to another: a fault comes
--- only where the count rose, and running out of memory may come at any time
+-- a result of a call that never has to wait, if the count of faults went from one number to another: a fault is returned only if the count
+-- rose, and running out of memory may be at any time
 abbrev pub DtlsAnswered : (before after : ℕ) → Result (Unit {0}) DtlsError → Type 0
 DtlsAnswered before after (Ok _) = before ≤ after
 DtlsAnswered before after (Err WouldBlock) = ⊥
 DtlsAnswered before after (Err Fault) = Rose before after
 DtlsAnswered before after (Err Alloc) = before ≤ after
 
--- an answer to application data, which may have to wait while the handshake is not finished
+-- a result for application data, which may have to wait while the handshake is not finished
 abbrev pub SendAnswered : (finished : Bool) → (before after : ℕ) → Result (Unit {0}) DtlsError → Type 0
 SendAnswered finished before after (Ok _) = before ≤ after
 SendAnswered finished before after (Err WouldBlock) = finished ≡ false
@@ -41,8 +41,8 @@ pub record DtlsLaws {D : Type 0} (m : DtlsMeaning D) : Type 0 where
       → (r ≡ Err WouldBlock) ⊎ (r ≡ Err Alloc)
   -- the count of faults never falls
   pub faults_rise : (p q : D) (act : DtlsAct) → DtlsActed m p act q → m.faults p ≤ m.faults q
-  -- a timeout comes exactly where nothing is held, changes nothing, and has the moment that the part asks for; what is
-  -- given lowers what is held
+  -- a timeout is returned exactly if nothing is held, changes nothing, and has the moment that the part asks for; what is given lowers what
+  -- is held
   pub timeout_none : (p q : D) (moment : ℕ) → m.polled p (DrewTimeout moment) q → q ≡ p
   pub timeout_asks : (p q : D) (moment : ℕ) → m.polled p (DrewTimeout moment) q → moment ≡ m.asks p
   pub silent : (p q : D) (moment : ℕ) → m.polled p (DrewTimeout moment) q → m.held p ≡ 0
@@ -61,7 +61,7 @@ pub record DtlsLaws {D : Type 0} (m : DtlsMeaning D) : Type 0 where
   pub timed_output : (p q : D) (now : ℕ) (r : _) → m.timed p now r q → m.packets q ≤ m.packets p + 32
   pub shut_input : (p q : D) (r : _) → m.shut p r q → m.units q ≤ m.units p
   pub shut_output : (p q : D) (r : _) → m.shut p r q → m.packets q ≤ m.packets p + 32
-  -- no moment is asked for at or before one that an Ok timeout gave, whatever came after
+  -- no moment is asked for at or before one that an Ok timeout gave, whatever was given after
   pub asks_later : (p q r : D) (now : ℕ) (acts : List DtlsAct) → m.timed p now (Ok tt) q → DtlsMoved m q acts r → IsLater now (m.asks r)
   -- polls, application data and a close never bring the moment nearer
   pub drawn_asks : (p q : D) (drawn : DtlsDrawn) → m.polled p drawn q → m.asks p ≤ m.asks q

@@ -8,7 +8,7 @@ use Rattle.rtc_part_dtls.specs.DtlsDrawn.{DtlsDrawn}
 pub record DtlsMeaning (D : Type 0) : Type 1 where
   -- a part that is as it was made
   pub fresh : D → Type 0
-  -- what each call does: the part before, the arguments, the answer, the part after
+  -- what each call does: the part before, the arguments, the result, the part after
   pub certificate_set : D → (cert : List ℕ) → Result (Unit {0}) AllocError → D → Type 0
   pub activated : D → (active : Bool) → D → Type 0
   pub version_set : D → DtlsVersion → D → Type 0
@@ -17,7 +17,7 @@ pub record DtlsMeaning (D : Type 0) : Type 1 where
   pub timed : D → (now : ℕ) → Result (Unit {0}) DtlsError → D → Type 0
   pub shut : D → Result (Unit {0}) DtlsError → D → Type 0
   pub polled : D → DtlsDrawn → D → Type 0
-  -- what the readings answer
+  -- what the readings return
   pub closed : D → Bool
   pub finished : D → Bool
   pub version : D → Option DtlsVersion

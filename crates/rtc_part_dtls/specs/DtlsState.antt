@@ -66,12 +66,12 @@ module _ {D : Type 0} (m : DtlsMeaning D) where
     pub fingerprint : certificate_fingerprint (codes "sha-256") cert ≡ Some q.local
     pub others : q ≡ record { instance = q.instance; active = None; local = q.local; remote = None; mtu = mtu; packets = [] }
 
-  -- the first role is set and stays
+  -- the first role is set and kept
   abbrev pub SetsRole : DtlsState D → Option Bool → Bool → DtlsState D → Type 0
   SetsRole p None active q = m.activated p.instance active q.instance × (q ≡ record p { instance = q.instance; active = Some active })
   SetsRole p (Some first) active q = q ≡ p
 
-  -- a call that is handed on once a role is set, and is Ok before
+  -- a call that is passed on once a role is set, and is Ok before
   abbrev pub HandsOn : DtlsState D → Option Bool → (D → Result (Unit {0}) DtlsError → D → Type 0) → Result (Unit {0}) DtlsError
       → DtlsState D → Type 0
   HandsOn p None done r q = (r ≡ Ok tt) × (q ≡ p)
@@ -81,13 +81,13 @@ module _ {D : Type 0} (m : DtlsMeaning D) where
   abbrev pub can_send : DtlsState D → Bool
   can_send p = is_some p.active && m.finished p.instance
 
-  -- application data is handed on where it can go, and has to wait where it cannot
+  -- application data is passed on if it can be sent, and has to wait if it cannot
   abbrev pub SendsData : DtlsState D → Bool → List ℕ → Result (Unit {0}) DtlsError → DtlsState D → Type 0
   SendsData p true bytes r q = m.sent p.instance bytes r q.instance × (q ≡ record p { instance = q.instance })
   SendsData p false bytes r q = (r ≡ Err WouldBlock) × (q ≡ p)
 
-  -- all packets up to the first other output are queued, and that output is answered. Where memory lacks for a packet,
-  -- it is lost, and those before it are queued
+  -- all packets up to the first other output are queued, and that output is returned. If memory runs out for a packet, it is lost, and
+  -- those before it are queued
   abbrev pub Drains : D → List (List ℕ) → Result DtlsOutput AllocError → D → List (List ℕ) → Type 0
   Drains i queue (Ok output) j rest = (packets : List (List ℕ))
       × ((k : D) × (DtlsMoved m i (takes packets) k × m.polled k (drawn_by output) j × (rest ≡ queue ++ packets)))

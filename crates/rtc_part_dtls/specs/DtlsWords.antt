@@ -20,7 +20,7 @@ dtls_sent [] = []
 dtls_sent (Sent bytes ∷ acts) = bytes ∷ dtls_sent acts
 dtls_sent (_ ∷ acts) = dtls_sent acts
 
--- the application data that came, in order
+-- the application data that was received, in order
 abbrev pub dtls_got : List DtlsAct → List (List ℕ)
 dtls_got [] = []
 dtls_got (Got bytes ∷ acts) = bytes ∷ dtls_got acts

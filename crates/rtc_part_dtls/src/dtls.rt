@@ -105,7 +105,7 @@ impl<D: DtlsInstance> Dtls<D> {
         self.active
     }
 
-    /// Sets the role. The first one stays.
+    /// Sets the role. The first one is kept.
     pub fn set_active(&mut self, active: bool)
         ensures { SetsRole D.dtls self.old self.old.active active self.new }
     {
@@ -167,7 +167,7 @@ impl<D: DtlsInstance> Dtls<D> {
         self.instance.handle_packet(packet)
     }
 
-    /// Sends application data. `WouldBlock` comes exactly before a role is set or before the handshake is finished.
+    /// Sends application data. It returns `WouldBlock` exactly before a role is set or before the handshake is finished.
     pub fn handle_input(&mut self, bytes: &[u8]) -> Result<(), DtlsError>
         requires { length bytes.now ≤ 1900 }
         ensures sent { SendsData D.dtls self.old (can_send D.dtls self.old) bytes.now result self.new }
@@ -179,7 +179,7 @@ impl<D: DtlsInstance> Dtls<D> {
         self.instance.send_application_data(bytes)
     }
 
-    /// Hands on the moment. Before a role is set it is ignored.
+    /// Passes the moment on. Before a role is set it is ignored.
     pub fn handle_timeout(&mut self, now: Moment) -> Result<(), DtlsError>
         ensures timed { HandsOn D.dtls self.old self.old.active (λ i r j. D.dtls.timed i now r j) result self.new }
         ensures never_blocked { result ≢ Err WouldBlock }

@@ -5,8 +5,8 @@ use std::alloc::AllocError;
 
 /// One side of a DTLS connection (RFC 6347), which proves a certificate to the other side and carries application data.
 ///
-/// Packets and moments are handed in; packets, data and events are polled. What a call does is its relation in the
-/// meaning of the part, and what holds of every part are the laws.
+/// Packets and moments are given; packets, data and events are polled. What a call does is its relation in the meaning
+/// of the part, and what holds of every part are the laws.
 pub trait DtlsInstance {
     ghost use Rattle.std.specs.Prelude.{◌≡◌, ◌≤◌, length};
     ghost use Rattle.rtc_part_dtls.specs.DtlsDrawn.{dtls_drawn, polled_length};
@@ -39,7 +39,7 @@ pub trait DtlsInstance {
     fn handle_timeout(&mut self, now: Moment) -> Result<(), DtlsError>
         ensures { dtls.timed self.old now result self.new };
 
-    /// Closes the connection, which is told to the other side.
+    /// Closes the connection, and notifies the other side.
     fn close(&mut self) -> Result<(), DtlsError>
         ensures { dtls.shut self.old result self.new };
 

@@ -1,8 +1,8 @@
-//! What a poll of `Dtls` answers.
+//! What a poll of `Dtls` returns.
 use rtc_part_values::SrtpProfile;
 use rtc_wire::Moment;
 
-/// What `poll_output` answers, with its bytes in the caller's buffer.
+/// What `poll_output` returns, with its bytes in the caller's buffer.
 #[derive(Clone, Copy, Debug, PartialEq, Eq)]
 pub enum DtlsOutput<'a> {
     Connected,

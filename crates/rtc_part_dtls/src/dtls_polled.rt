@@ -1,8 +1,8 @@
-//! What a poll of a DTLS part answers.
+//! What a poll of a DTLS part returns.
 use rtc_part_values::SrtpProfile;
 use rtc_wire::Moment;
 
-/// What `poll` answers. A number is that of the bytes that were written to the front of the buffer.
+/// What `poll` returns. A number is that of the bytes that were written to the front of the buffer.
 #[derive(Clone, Copy, Debug, PartialEq, Eq)]
 pub enum DtlsPolled {
     /// A packet for the other side.

@@ -7,7 +7,7 @@ use rtc_wire::{Bytes, DatagramSend, Moment};
 use std::alloc::{AllocError, Global};
 use std::collections::VecDeque;
 
-/// Queues each packet, and answers the first other output.
+/// Queues each packet, and returns the first other output.
 fn drain<'a, D: DtlsInstance>(
     alloc: Global,
     instance: &mut D,

@@ -11,7 +11,7 @@ use Rattle.rtc_part_values.specs.Why.{Why, Timed, Other}
 use Rattle.rtc_part_ice.specs.declared.ice_event.IceEvent.{IceEvent}
 use Rattle.rtc_part_ice.specs.IceMeaning.{IceMeaning}
 
--- a call by which nothing was given and nothing taken, with its arguments and its answer
+-- a call by which nothing was given and nothing taken, with its arguments and its result
 pub data IceCall : Type 0 where
   LiteSet : (on : Bool) → IceCall
   ControllingSet : (on : Bool) → IceCall
@@ -25,7 +25,7 @@ pub data IceCall : Type 0 where
   Told : (event : IceEvent) → IceCall
   RtoSet : (initial max retransmits : ℕ) → IceCall
 
--- one act: a message that came in, a datagram that went out, or another call
+-- one act: a message that was received, a datagram that was sent, or another call
 pub data IceAct : Type 0 where
   Given : (message : List ℕ) → IceAct
   Taken : (transmit : Transmit) → IceAct
@@ -50,7 +50,7 @@ IceCalled m p (TimedAt moment answer) q = m.timed p moment answer q
 IceCalled m p (Told event) q = m.polled p (Some event) q
 IceCalled m p (RtoSet initial max retransmits) q = m.rto_set p initial max retransmits q
 
--- a message took the agent from p to q, whatever was answered
+-- a message took the agent from p to q, whatever was returned
 pub data IceGiven {I : Type 0} (m : IceMeaning I) (p : I) (message : List ℕ) (q : I) : Type 0 where
   ByPacket : (now : ℕ) (proto : Protocol) (source destination : Addr) (answer : Result (Unit {0}) AllocError)
       → m.given p now proto source destination message answer q → IceGiven m p message q

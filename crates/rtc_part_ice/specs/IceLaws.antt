@@ -21,7 +21,7 @@ pub record IceLaws {I : Type 0} (m : IceMeaning I) : Type 0 where
   pub fresh_lite : (p : I) → m.fresh p → (m.settings p).lite ≡ false
   pub fresh_remote : (p : I) → m.fresh p → (m.settings p).remote ≡ None
   pub fresh_candidates : (p : I) → m.fresh p → (m.settings p).candidates ≡ []
-  -- what each call makes of the settings, answer by answer
+  -- what each call makes of the settings, result by result
   pub lite_settings : (p q : I) (on : Bool) → m.lite_set p on q → m.settings q ≡ record (m.settings p) { lite = on }
   pub controlling_settings : (p q : I) (on : Bool) → m.controlling_set p on q → m.settings q ≡ m.settings p
   pub local_settings : (p q : I) (creds : IceCreds) → m.local_set p creds q → m.settings q ≡ record (m.settings p) { local = creds }
@@ -47,8 +47,8 @@ pub record IceLaws {I : Type 0} (m : IceMeaning I) : Type 0 where
   pub controlling_sets : (p q : I) (on : Bool) → m.controlling_set p on q → m.controlling q ≡ on
   -- the count of faults never falls
   pub faults_rise : (p q : I) (act : IceAct) → IceActed m p act q → m.faults p ≤ m.faults q
-  -- a poll that gives nothing changes nothing, each that gives something lowers what is held, and all polls give
-  -- nothing exactly where nothing is held
+  -- a poll that gives nothing changes nothing, each that gives something lowers what is held, and all polls give nothing exactly if nothing
+  -- is held
   pub event_none : (p q : I) → m.polled p None q → q ≡ p
   pub transmit_none : (p q : I) → m.gave p None q → q ≡ p
   pub event_falls : (p q : I) (event : IceEvent) → m.polled p (Some event) q → m.held q < m.held p

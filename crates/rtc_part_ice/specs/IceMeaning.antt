@@ -20,7 +20,7 @@ pub record IceSettings : Type 0 where
 pub record IceMeaning (I : Type 0) : Type 1 where
   -- an agent that is as it was made
   pub fresh : I → Type 0
-  -- what each call does: the agent before, the arguments, the answer, the agent after
+  -- what each call does: the agent before, the arguments, the result, the agent after
   pub lite_set : I → (on : Bool) → I → Type 0
   pub controlling_set : I → (on : Bool) → I → Type 0
   pub local_set : I → IceCreds → I → Type 0
@@ -34,7 +34,7 @@ pub record IceMeaning (I : Type 0) : Type 1 where
   pub polled : I → Option IceEvent → I → Type 0
   pub gave : I → Option Transmit → I → Type 0
   pub rto_set : I → (initial max retransmits : ℕ) → I → Type 0
-  -- what the readings answer
+  -- what the readings return
   pub settings : I → IceSettings
   pub controlling : I → Bool
   pub viable : I → Addr → Bool

@@ -18,8 +18,8 @@ ice_taken [] = []
 ice_taken (Taken transmit ∷ acts) = transmit ∷ ice_taken acts
 ice_taken (_ ∷ acts) = ice_taken acts
 
--- what a call makes of the settings: credentials and lite are what was set last, a restart gives local credentials and
--- keeps or clears the local candidates, a candidate that is taken goes to the end, and an invalidation only removes
+-- what a call makes of the settings: credentials and lite are what was set last, a restart gives local credentials and keeps or clears the
+-- local candidates, a candidate that is taken is added at the end, and an invalidation only removes
 abbrev pub CallSets : IceSettings → IceCall → IceSettings → Type 0
 CallSets s (LiteSet on) t = t ≡ record s { lite = on }
 CallSets s (LocalSet creds) t = t ≡ record s { local = creds }

@@ -6,8 +6,8 @@ use std::alloc::AllocError;
 
 /// The ICE agent of one side (RFC 8445), which finds a pair of addresses by which datagrams reach the other side.
 ///
-/// Messages and moments are handed in; events and datagrams are polled. What a call does is its relation in the meaning
-/// of the agent, and what holds of every agent are the laws.
+/// Messages and moments are given; events and datagrams are polled. What a call does is its relation in the meaning of
+/// the agent, and what holds of every agent are the laws.
 pub trait IceAgent: StunReader {
     ghost use Rattle.std.specs.Prelude.{◌≡◌, MatchOption, Some, None};
     ghost use Rattle.rtc_part_ice.specs.IceMeaning.{IceMeaning};
@@ -56,7 +56,7 @@ pub trait IceAgent: StunReader {
     fn add_remote_candidate(&mut self, c: Candidate) -> Result<bool, AllocError>
         ensures { ice.remote_added self.old c result self.new };
 
-    /// Stops using a candidate. Answers whether it was there.
+    /// Stops using a candidate. Returns whether it was there.
     fn invalidate_candidate(&mut self, c: &Candidate) -> bool
         ensures { ice.invalidated self.old c.now result self.new };
 
@@ -101,7 +101,7 @@ pub trait IceAgent: StunReader {
     fn set_rto(&mut self, initial: Span, max: Span, retransmits: u32)
         ensures { ice.rto_set self.old initial max retransmits self.new };
 
-    /// From the last check of the pair in use to its response; None before a response came.
+    /// From the last check of the pair in use to its response; None before a response was received.
     fn pair_rtt(&self) -> Option<Span>
         ensures { result ≡ ice.pair_rtt self.now };
 
@@ -109,7 +109,7 @@ pub trait IceAgent: StunReader {
     fn pair_total_rtt(&self) -> Span
         ensures { result ≡ ice.pair_total_rtt self.now };
 
-    /// How many responses came for the pair in use.
+    /// How many responses were received for the pair in use.
     fn pair_responses(&self) -> u64
         ensures { result ≡ ice.pair_responses self.now };
 

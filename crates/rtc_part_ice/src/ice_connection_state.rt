@@ -2,7 +2,7 @@
 ghost use Rattle.std.specs.Prelude.{◌≡◌};
 ghost use Rattle.rtc_part_ice.specs.IceConnectionState.{state_is_connected};
 
-/// How far ICE has come (W3C WebRTC, section 5.6.4).
+/// The progress of ICE (W3C WebRTC, section 5.6.4).
 #[derive(Clone, Copy, Debug, PartialEq, Eq)]
 pub enum IceConnectionState {
     /// No check was made.

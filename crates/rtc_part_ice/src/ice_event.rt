@@ -1,14 +1,14 @@
-//! What an ICE agent tells.
+//! What an ICE agent reports.
 use crate::IceConnectionState;
 use rtc_wire::{Addr, Protocol};
 
-/// Something that happened at an ICE agent, told by `poll_event`.
+/// An event of an ICE agent, reported by `poll_event`.
 #[derive(Clone, Copy, Debug, PartialEq, Eq)]
 pub enum IceEvent {
     /// The agent was restarted.
     IceRestart,
     StateChange(IceConnectionState),
-    /// A check came from this address, so that datagrams from there may be the other side's.
+    /// A check was received from this address, so that datagrams from there may be the other side's.
     DiscoveredRecv {
         proto: Protocol,
         source: Addr,

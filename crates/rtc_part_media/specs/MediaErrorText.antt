@@ -1,4 +1,4 @@
--- The texts by which faults of media are told.
+-- The texts of faults of media.
 use Rattle.std.specs.Prelude.{ℕ, List, ◌++◌, codes}
 use Rattle.std.specs.Fmt.{decimal}
 use Rattle.rtc_part_media.specs.declared.media_error.MediaError.{MediaError}

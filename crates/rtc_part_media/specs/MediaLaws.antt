@@ -10,12 +10,12 @@ use Rattle.rtc_part_media.specs.MediaMeaning.{MediaMeaning, held_media}
 use Rattle.rtc_part_media.specs.MediaUpdates.{line_after, removed_by}
 use Rattle.rtc_part_media.specs.MediaActs.{MediaAct, MediaActed, KeepsLines, changes_pending}
 
--- the lines and the ssrcs in use are the same
+-- the lines and the SSRCs in use are the same
 pub record SameLines {M E X T W : Type 0} (m : MediaMeaning M E X T W) (p q : M) : Type 0 where
   pub lines : (mid : List ℕ) → m.line q mid ≡ m.line p mid
   pub used : (ssrc : Ssrc) → m.used q ssrc ≡ m.used p ssrc
 
--- the lines are the same; the ssrc of a stream and of its retransmissions is in use, and no other is newly so
+-- the lines are the same; the SSRC of a stream and of its retransmissions is in use, and no other is newly so
 pub record UsesStream {M E X T W : Type 0} (m : MediaMeaning M E X T W) (p : M) (ssrc : Ssrc) (rtx : Option Ssrc) (q : M) : Type 0 where
   pub lines : (mid : List ℕ) → m.line q mid ≡ m.line p mid
   pub own : m.used q ssrc ≡ true
@@ -25,20 +25,20 @@ pub record UsesStream {M E X T W : Type 0} (m : MediaMeaning M E X T W) (p : M) 
 pub record MediaLaws {M E X T W : Type 0} (m : MediaMeaning M E X T W) : Type 0 where
   -- a fresh part has no line
   pub fresh_line : (p : M) (mid : List ℕ) → m.fresh p → m.line p mid ≡ None
-  -- preparing changes neither a line nor which ssrcs are in use, and a commit applies what was prepared last
+  -- preparing changes neither a line nor which SSRCs are in use, and a commit applies what was prepared last
   pub prepare_same : (p q : M) (updates : List MediaUpdate) (r : _) → m.prepared p updates r q → SameLines m p q
   pub prepare_pending : (p q : M) (updates : List MediaUpdate) → m.prepared p updates (Ok tt) q → m.pending q ≡ updates
   pub commit_lines : (p q : M) (mid : List ℕ) → m.committed p q → m.line q mid ≡ line_after (m.pending p) mid (m.line p mid)
   pub commit_streams : (p q : M) (mid : List ℕ) → m.committed p q → removed_by (m.pending p) mid ≡ true → m.has_streams q mid ≡ false
   pub pending_stays : (p q : M) (act : MediaAct) (h : MediaActed m p act q) → changes_pending m p q act h ≡ false
       → m.pending q ≡ m.pending p
-  -- a line that is removed is gone with its streams, and the others stay
+  -- a line that is removed is gone with its streams, and the others are unchanged
   pub removed_line : (p q : M) (mid : List ℕ) → m.line_removed p mid q → m.line q mid ≡ None
   pub removed_streams : (p q : M) (mid : List ℕ) → m.line_removed p mid q → m.has_streams q mid ≡ false
   pub removed_others : (p q : M) (mid other : List ℕ) → other ≢ mid → m.line_removed p mid q → m.line q other ≡ m.line p other
   -- a line changes by nothing else
   pub lines_stay : (p q : M) (mid : List ℕ) → KeepsLines m p q → m.line q mid ≡ m.line p mid
-  -- whatever is written through a reference, the lines stay; an ssrc is newly in use only by a stream that is made
+  -- whatever is written through a reference, the lines are unchanged; an SSRC is newly in use only by a stream that is made
   pub writer_same : (p q : M) (mid : List ℕ) (lent left : W) → m.writer_lent p mid lent left q → SameLines m p q
   pub rx_same : (p q : M) (ssrc : Ssrc) (lent left : X) → m.rx_lent p ssrc lent left q → SameLines m p q
   pub tx_same : (p q : M) (ssrc : Ssrc) (lent left : T) → m.tx_lent p ssrc lent left q → SameLines m p q
@@ -52,12 +52,12 @@ pub record MediaLaws {M E X T W : Type 0} (m : MediaMeaning M E X T W) : Type 0 
       → m.tx_declared p ssrc rtx mid rid lent left q → UsesStream m p ssrc rtx q
   pub reset_uses : (p q : M) (mid : List ℕ) (rid : Option (List ℕ)) (ssrc : Ssrc) (rtx : Option Ssrc) (lent left : T)
       → m.resets_tx p mid rid ssrc rtx ≡ true → m.tx_reset p mid rid ssrc rtx lent left q → UsesStream m p ssrc rtx q
-  -- a line has streams exactly where one of a layer of it is found
+  -- a line has streams exactly if one of a layer of it is found
   pub rx_of_line : (p : M) (mid : List ℕ) (rid : Option (List ℕ)) → m.has_rx_named p mid rid ≡ true → m.has_streams p mid ≡ true
   pub tx_of_line : (p : M) (mid : List ℕ) (rid : Option (List ℕ)) → m.has_tx_named p mid rid ≡ true → m.has_streams p mid ≡ true
   pub streams_found : (p : M) (mid : List ℕ) → m.has_streams p mid ≡ true
       → (rid : Option (List ℕ)) × ((m.has_rx_named p mid rid ≡ true) ⊎ (m.has_tx_named p mid rid ≡ true))
-  -- where a stream is found by an ssrc, one is found by some line and layer; what is made is found by its ssrc and by its own
+  -- if a stream is found by an SSRC, one is found by some line and layer; what is made is found by its SSRC and by its own
   pub rx_named : (p : M) (ssrc : Ssrc) → m.has_rx p ssrc ≡ true
       → (mid : List ℕ) × ((rid : Option (List ℕ)) × (m.has_rx_named p mid rid ≡ true))
   pub tx_named : (p : M) (ssrc : Ssrc) → m.has_tx p ssrc ≡ true
@@ -66,14 +66,14 @@ pub record MediaLaws {M E X T W : Type 0} (m : MediaMeaning M E X T W) : Type 0 
       → m.rx_expected p ssrc rtx mid rid lent left q → (m.has_rx q ssrc ≡ true) × (m.has_rx_named q mid rid ≡ true)
   pub tx_made : (p q : M) (ssrc : Ssrc) (rtx : Option Ssrc) (mid : List ℕ) (rid : Option (List ℕ)) (lent left : T)
       → m.tx_declared p ssrc rtx mid rid lent left q → (m.has_tx q ssrc ≡ true) × (m.has_tx_named q mid rid ≡ true)
-  -- a stream that is dropped is gone, and the answer says whether it was there
+  -- a stream that is dropped is gone, and the call returns whether it was there
   pub rx_removal : (p q : M) (ssrc : Ssrc) (b : Bool) → m.rx_removed p ssrc b q → (b ≡ m.has_rx p ssrc) × (m.has_rx q ssrc ≡ false)
   pub tx_removal : (p q : M) (ssrc : Ssrc) (b : Bool) → m.tx_removed p ssrc b q → (b ≡ m.has_tx p ssrc) × (m.has_tx q ssrc ≡ false)
-  -- the count of faults never falls, and an error other than running out of memory comes only where it rose
+  -- the count of faults never falls, and an error other than running out of memory is returned only if it rose
   pub faults_rise : (p q : M) (act : MediaAct) → MediaActed m p act q → m.faults p ≤ m.faults q
   pub time_fault : (p q : M) (now : ℕ) (e : MediaError) → e ≢ Alloc → m.timed p now (Err e) q → Rose (m.faults p) (m.faults q)
   pub event_fault : (p q : M) (now : ℕ) (e : MediaError) → e ≢ Alloc → m.told_fallible p now (Err e) q → Rose (m.faults p) (m.faults q)
-  -- a poll that gives nothing changes nothing, and the polls all give nothing exactly where nothing is held
+  -- a poll that gives nothing changes nothing, and the polls all give nothing exactly if nothing is held
   pub event_none : (p q : M) → m.told p None q → q ≡ p
   pub fallible_none : (p q : M) (now : ℕ) → m.told_fallible p now (Ok None) q → q ≡ p
   pub datagram_none : (p q : M) (now : ℕ) → m.gave p now None q → q ≡ p
@@ -94,8 +94,7 @@ pub record MediaLaws {M E X T W : Type 0} (m : MediaMeaning M E X T W) : Type 0 
   pub fault_falls : (p q : M) (now : ℕ) (e : MediaError) → e ≢ Alloc → m.told_fallible p now (Err e) q → held_media m q < held_media m p
   pub lack_falls : (p q : M) (now : ℕ) → m.told_fallible p now (Err Alloc) q → held_media m q ≤ held_media m p
   pub datagram_falls : (p q : M) (now : ℕ) (datagram : List ℕ) → m.gave p now (Some datagram) q → held_media m q < held_media m p
-  -- clearing the feedback never raises what is held; where no event is held it leaves the part quiet, and a quiet part
-  -- as it was
+  -- clearing the feedback never raises what is held; if no event is held it leaves the part quiet, and a quiet part unchanged
   pub clear_held : (p q : M) → m.cleared p q → held_media m q ≤ held_media m p
   pub clear_quiets : (p q : M) → m.held_events p ≡ 0 → m.cleared p q → held_media m q ≡ 0
   pub clear_quiet : (p q : M) → held_media m p ≡ 0 → m.cleared p q → q ≡ p

@@ -9,12 +9,12 @@ use Rattle.rtc_part_media.specs.declared.media_settings.MediaSettings.{MediaSett
 use Rattle.rtc_part_media.specs.declared.media_update.MediaUpdate.{MediaUpdate}
 use Rattle.rtc_part_media.specs.declared.stats_snapshot.StatsSnapshot.{StatsSnapshot}
 
--- E are its events; X, T and W stand behind the streams received, the streams sent and the writers that it lends. A mid
--- and a rid are lists of bytes
+-- E are its events; X, T and W are behind the received streams, the sent streams and the writers that it lends. A mid and a rid are lists
+-- of bytes
 pub record MediaMeaning (M E X T W : Type 0) : Type 1 where
   -- a part that is as it was made
   pub fresh : M → Type 0
-  -- what each call does: the part before, the arguments, the answer, the part after
+  -- what each call does: the part before, the arguments, the result, the part after
   pub configured : M → MediaSettings → M → Type 0
   pub prepared : M → List MediaUpdate → Result (Unit {0}) AllocError → M → Type 0
   pub committed : M → M → Type 0
@@ -44,7 +44,7 @@ pub record MediaMeaning (M E X T W : Type 0) : Type 1 where
   pub rx_named_lent : M → (mid : List ℕ) → (rid : Option (List ℕ)) → (lent left : X) → M → Type 0
   pub tx_named_lent : M → (mid : List ℕ) → (rid : Option (List ℕ)) → (lent left : T) → M → Type 0
   pub tx_reset : M → (mid : List ℕ) → (rid : Option (List ℕ)) → Ssrc → (rtx : Option Ssrc) → (lent left : T) → M → Type 0
-  -- what the readings answer
+  -- what the readings return
   pub line : M → (mid : List ℕ) → Option MediaUpdate
   pub used : M → Ssrc → Bool
   pub connected : M → Bool

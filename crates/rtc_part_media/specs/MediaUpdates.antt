@@ -17,7 +17,7 @@ abbrev pub latest : List ℕ → List MediaUpdate → Option MediaUpdate → Opt
 latest mid [] held = held
 latest mid (u ∷ us) held = latest mid us (if same_mid mid (update_mid u) then Some u else held)
 
--- a mid stands as removed in an update
+-- a mid is removed by an update
 abbrev pub removes : List ℕ → MediaUpdate → Bool
 removes mid update = is_mid update.removed
   where
@@ -25,7 +25,7 @@ removes mid update = is_mid update.removed
     is_mid None = false
     is_mid (Some other) = same_mid mid other
 
--- a mid stands as removed in some updates, and in no row
+-- a mid is removed by some updates, and is in no row
 abbrev pub removed_by : List MediaUpdate → List ℕ → Bool
 removed_by updates mid = list_any (removes mid) updates && not (list_any (λ u. same_mid mid (update_mid u)) updates)
 

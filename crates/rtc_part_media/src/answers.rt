@@ -1,11 +1,11 @@
-//! An answer that lends a stream, with None in place of the reason.
+//! A result that lends a stream, with None in place of the reason.
 ghost use Rattle.std.specs.Prelude.{◌≡◌};
 ghost use Rattle.rtc_part_media.specs.NoStream.{none_where_declined};
 
 use crate::NoStream;
 use std::alloc::AllocError;
 
-/// The answer with None in place of `Declined`.
+/// The result with None in place of `Declined`.
 pub fn answer_of<T>(lent: Result<&mut T, NoStream>) -> Result<Option<&mut T>, AllocError>
     ensures { result ≡ none_where_declined lent.entry }
 {

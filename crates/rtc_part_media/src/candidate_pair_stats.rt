@@ -8,9 +8,9 @@ pub struct CandidatePairStats {
     pub protocol: Protocol,
     pub local: CandidateStats,
     pub remote: CandidateStats,
-    /// Round-trip time of the last answered check.
+    /// Round-trip time of the last check that was answered.
     pub current_round_trip_time: Option<Span>,
-    /// Sum of the round-trip times of all answered checks.
+    /// Sum of the round-trip times of all checks that were answered.
     pub total_round_trip_time: Span,
     pub responses_received: u64,
 }

@@ -1,7 +1,7 @@
 //! Events of the media part.
 use crate::RawPacket;
 
-/// An event that a media part tells.
+/// An event that a media part reports.
 pub trait MediaEvent {
     ghost use Rattle.std.specs.Prelude.{◌≡◌, Option};
     ghost use Rattle.std.specs.Option.{option_copied};
@@ -10,7 +10,7 @@ pub trait MediaEvent {
     /// The packet that an event shows, if it shows one.
     ghost packet_of: { Self → Option RawPacket };
 
-    /// The packet that this event shows, where raw packets are on and it is one.
+    /// The raw packet of this event, if raw packets are on and it is one.
     fn raw_packet(&self) -> Option<&RawPacket>
         ensures { option_copied result ≡ packet_of self.now };
 }

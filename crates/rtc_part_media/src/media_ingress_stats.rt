@@ -26,7 +26,7 @@ pub struct MediaIngressStats {
     pub remote: Option<RemoteEgressStats>,
 }
 
-/// The two reports added; the one that is there, where the other is not.
+/// The two reports added; the one that is there, if the other is not.
 fn merge_remote(
     a: Option<RemoteEgressStats>,
     b: Option<RemoteEgressStats>,
@@ -47,7 +47,7 @@ fn merge_remote(
 
 impl MediaIngressStats {
     /// Adds the counts of another report on the same line and layer, each at most `u64::MAX`. Jitter and round-trip
-    /// time are those of the later report, the other one's where both are of one moment.
+    /// time are those of the later report, the other one's if both are of one moment.
     pub fn merge_by_mid_rid(&mut self, other: &MediaIngressStats)
         requires mid { self.old.mid ≡ other.now.mid }
         requires rid { self.old.rid ≡ other.now.rid }

@@ -8,8 +8,8 @@ use std::alloc::AllocError;
 
 /// The media lines of a peer with their streams, and the protection of their packets (RFC 3550, RFC 3711).
 ///
-/// Packets and moments are handed in; datagrams and events are polled. What a call does is its relation in the meaning
-/// of the part, and what holds of every part are the laws.
+/// Packets and moments are given; datagrams and events are polled. What a call does is its relation in the meaning of
+/// the part, and what holds of every part are the laws.
 pub trait MediaSession {
     type E: MediaEvent;
     /// A stream that is received.
@@ -45,7 +45,7 @@ pub trait MediaSession {
     fn line(&self, mid: Mid) -> Option<&MediaUpdate>
         ensures { option_copied result ≡ media.line self.now mid };
 
-    /// Whether a stream of this end or of the other one has this ssrc.
+    /// Whether a stream of this end or of the other one has this SSRC.
     fn ssrc_used(&self, ssrc: Ssrc) -> bool
         ensures { result ≡ media.used self.now ssrc };
 
@@ -115,7 +115,7 @@ pub trait MediaSession {
             (λ n w. IfSome result (λ lent. media.writer_lent self.old mid lent.now w n)) (λ n. n ≡ self.old)) }
         ensures found { is_some result ≡ media.has_writer self.old mid };
 
-    /// Switches redundancy (RFC 2198) of what a line sends on or off. False where the line has none.
+    /// Switches redundancy (RFC 2198) of what a line sends on or off. False if the line has no redundancy.
     fn set_red_send(&mut self, mid: Mid, on: bool) -> bool
         ensures { media.red_set self.old mid on result self.new };
 
@@ -136,7 +136,7 @@ pub trait MediaSession {
     fn send_pli_feedback(&mut self, sender: Ssrc, media_source: Ssrc) -> Result<(), AllocError>
         ensures { media.pli_fed self.old sender media_source result self.new };
 
-    /// Makes the stream of an ssrc to be received, or replaces it, and lends it. The error says why there is none.
+    /// Makes the stream of an SSRC to be received, or replaces it, and lends it. The error says why there is none.
     fn make_stream_rx(
         &mut self,
         ssrc: Ssrc,
@@ -148,7 +148,7 @@ pub trait MediaSession {
             (λ n x. IfOk result (λ lent. media.rx_expected self.old ssrc rtx mid rid lent.now x n)) (λ n. n ≡ self.old)) }
         ensures answer { StreamAnswers (media.declines_rx self.old ssrc rtx mid rid) result };
 
-    /// Makes the stream of an ssrc to be sent, or replaces it, and lends it. The error says why there is none.
+    /// Makes the stream of an SSRC to be sent, or replaces it, and lends it. The error says why there is none.
     fn make_stream_tx(
         &mut self,
         ssrc: Ssrc,
@@ -160,21 +160,21 @@ pub trait MediaSession {
             (λ n x. IfOk result (λ lent. media.tx_declared self.old ssrc rtx mid rid lent.now x n)) (λ n. n ≡ self.old)) }
         ensures answer { StreamAnswers (media.declines_tx self.old ssrc rtx mid rid) result };
 
-    /// Drops the stream of an ssrc that is received. False where there is none.
+    /// Drops the received stream of an SSRC. False if there is none.
     fn remove_stream_rx(&mut self, ssrc: Ssrc) -> bool
         ensures { media.rx_removed self.old ssrc result self.new };
 
-    /// Drops the stream of an ssrc that is sent. False where there is none.
+    /// Drops the sent stream of an SSRC. False if there is none.
     fn remove_stream_tx(&mut self, ssrc: Ssrc) -> bool
         ensures { media.tx_removed self.old ssrc result self.new };
 
-    /// The stream of an ssrc that is received.
+    /// The stream of an SSRC that is received.
     fn stream_rx(&mut self, ssrc: Ssrc) -> Option<&mut Self::Rx>
         ensures* leaves { sem 𝓛 (LendsSo Self.row Self.Rx.row self.entry result
             (λ n x. IfSome result (λ lent. media.rx_lent self.old ssrc lent.now x n)) (λ n. n ≡ self.old)) }
         ensures found { is_some result ≡ media.has_rx self.old ssrc };
 
-    /// The stream of an ssrc that is sent.
+    /// The stream of an SSRC that is sent.
     fn stream_tx(&mut self, ssrc: Ssrc) -> Option<&mut Self::Tx>
         ensures* leaves { sem 𝓛 (LendsSo Self.row Self.Tx.row self.entry result
             (λ n x. IfSome result (λ lent. media.tx_lent self.old ssrc lent.now x n)) (λ n. n ≡ self.old)) }
@@ -192,8 +192,8 @@ pub trait MediaSession {
             (λ n x. IfSome result (λ lent. media.tx_named_lent self.old mid rid lent.now x n)) (λ n. n ≡ self.old)) }
         ensures found { is_some result ≡ media.has_tx_named self.old mid rid };
 
-    /// Gives the stream of a line and a layer that is sent a new ssrc. None where there is no such stream, or where it
-    /// has this ssrc, or these retransmissions, already.
+    /// Gives the sent stream of a line and a layer a new SSRC. None if there is no such stream, or if it has this SSRC,
+    /// or this RTX SSRC, already.
     fn reset_stream_tx(
         &mut self,
         mid: Mid,
@@ -205,7 +205,7 @@ pub trait MediaSession {
             (λ n x. IfSome result (λ lent. media.tx_reset self.old mid rid new_ssrc new_rtx lent.now x n)) (λ n. n ≡ self.old)) }
         ensures found { is_some result ≡ media.resets_tx self.old mid rid new_ssrc new_rtx };
 
-    /// `make_stream_rx` with None where the part has no such stream.
+    /// `make_stream_rx` with None if the part has no such stream.
     final fn expect_stream_rx(
         &mut self,
         ssrc: Ssrc,
@@ -220,7 +220,7 @@ pub trait MediaSession {
         answer_of(self.make_stream_rx(ssrc, rtx, mid, rid))
     }
 
-    /// `make_stream_tx` with None where the part has no such stream.
+    /// `make_stream_tx` with None if the part has no such stream.
     final fn declare_stream_tx(
         &mut self,
         ssrc: Ssrc,

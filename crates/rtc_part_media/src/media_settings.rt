@@ -7,7 +7,7 @@ use rtc_wire::Span;
 pub struct MediaSettings {
     /// Whether callers send and receive packets in place of samples.
     pub rtp_mode: bool,
-    /// Whether packets are told as events, too.
+    /// Whether raw packets are reported as events, too.
     pub raw_packets: bool,
     /// Time between reports on audio (RFC 3550, section 6.2).
     pub report_audio: Span,

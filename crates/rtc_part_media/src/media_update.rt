@@ -6,13 +6,13 @@ use rtc_wire::{Seq, Text, TryCopy};
 use rtc_wire_drops::{fill_next, whole};
 use std::alloc::AllocError;
 
-/// A line as a negotiation leaves it. The media part is handed one for each media line of a session description.
+/// A line as a negotiation leaves it. The media part is given one for each media line of a description.
 #[derive(Debug, PartialEq, Eq)]
 pub struct MediaUpdate {
     pub row: LineRow,
     /// The stopped line in whose place an offer put this one (RFC 8829, section 5.2.2).
     pub removed: Option<Mid>,
-    /// Whether callers are to be told of a new line.
+    /// Whether a new line is to be reported to callers.
     pub announce: bool,
     pub payloads: Seq<PayloadRow>,
     /// Header extensions by their ids.

@@ -1,4 +1,4 @@
-//! What the other end tells of a stream that it receives.
+//! What the other end reports of a stream that it receives.
 
 /// The other end's report on a stream that this end sends (RFC 3550, section 6.4.1).
 #[derive(Clone, Copy, Debug, PartialEq, Eq)]

@@ -1,4 +1,4 @@
-//! Statistics as they are told.
+//! Statistics as they are reported.
 use crate::{MediaEgressStats, MediaIngressStats, PeerStats};
 
 /// One report of a round of statistics.

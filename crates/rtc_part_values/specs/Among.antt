@@ -6,6 +6,6 @@ abbrev pub Member : {A : Type 0} → A → List A → Type 0
 Member x [] = ⊥
 Member x (y ∷ ys) = (x ≡ y) ⊎ Member x ys
 
--- each of these is one of those, whatever their order and how often they come
+-- each of these is one of those, whatever their order and however often they occur
 pub record Among {A : Type 0} (xs ys : List A) : Type 0 where
   pub each : (x : A) → Member x xs → Member x ys

@@ -1,7 +1,7 @@
 -- Numbers that are drawn one after another.
 use Rattle.std.specs.Prelude.{◌≡◌, ℕ, zero, suc}
 
--- what a source of numbers answers next, and what it is after that
+-- what a source of numbers returns next, and what it is after that
 pub record Draws (N : Type 0) : Type 0 where
   pub drawn : N → ℕ
   pub after : N → N

@@ -2,9 +2,9 @@
 ghost use Rattle.std.specs.Prelude.{◌≡◌};
 ghost use Rattle.rtc_part_values.specs.Draws.{Draws};
 
-/// A source of the numbers that names, credentials and sources are made of.
+/// A source of the numbers of which names, credentials and SSRCs are made.
 pub trait Ids {
-    /// What a draw answers, and what the source is after it.
+    /// What a draw returns, and the source after it.
     ghost ids: { Draws Self };
 
     /// The next number.

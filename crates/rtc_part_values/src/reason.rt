@@ -1,6 +1,6 @@
 //! Why a timeout is wanted.
 
-/// What a peer waits for: the deadline that is the least when a poll answers a timeout.
+/// What a peer waits for: the least deadline when a poll returns a timeout.
 #[derive(Clone, Copy, Debug, PartialEq, Eq, Hash, Default)]
 pub enum Reason {
     /// Nothing is waited for.

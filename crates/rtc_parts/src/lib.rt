@@ -1,4 +1,4 @@
-//! The outside of a peer: the traits of its parts, of their source of numbers, and the values that their calls speak of.
+//! The outside of a peer: the traits of its parts and of its source of numbers, and the values of their calls.
 #![tactic(auto)]
 
 pub use rtc_part_association::{AssocError, AssocEvent, Association, Ppi};
