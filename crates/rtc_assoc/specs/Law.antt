@@ -14,17 +14,17 @@ use Rattle.rtc_assoc.specs.declared.assoc_reply.AssocReply.TheVariants.{Message}
 use Rattle.rtc_assoc.specs.Unread.{unread, IsPrefix}
 use Rattle.rtc_assoc.specs.Replies.{written_in, read_in, told_in, is_open}
 
--- of each generation of each stream, one end read a prefix of what the other one wrote; where the generation is open at
--- the reader and the writer holds no unacknowledged item of the stream, what is read and what is unread are together all of it
+-- of each generation of each stream, one end read a prefix of what the other one wrote; if the generation is open at the reader and the
+-- writer holds no unacknowledged item of the stream, what is read and what is unread are together all of it
 pub record OneWay (steps : List AssocStep) (replies : List AssocReply) (from_left : Bool) (writer reader : Contents) : Type 0 where
   pub begins : (s g : ℕ) → IsPrefix (read_in steps replies (not from_left) s g) (written_in steps replies from_left s g)
   pub all : (s g : ℕ) → is_open reader s g ≡ true → has_unacknowledged s writer.outbox.items ≡ false
       → read_in steps replies (not from_left) s g ++ unread s g reader.inbox.unread
       ≡ written_in steps replies from_left s g
 
--- what an end told, with the events that are due behind it: of each stream the completed resets behind their closes
--- and no more than its generation, and a Readable where a whole message stands unread. Before a message of a generation
--- was read at most that many completed resets were told: none is read after its own
+-- what an end reported, with the events that are due: of each stream the completed resets behind their closes and no more than its
+-- generation, and a Readable if a whole message is unread. Before a message of a generation was read at most that many completed resets
+-- were reported: none is read after its own
 pub record TellsEvents (steps : List AssocStep) (replies : List AssocReply) (left : Bool) (end : Contents) : Type 0 where
   pub most : (s : ℕ) → completions s (told_in steps replies left) ≤ generation_of end s
   pub in_order : (s : ℕ) → InOrder s false (told_in steps replies left ++ end.events) (is_finished end s)

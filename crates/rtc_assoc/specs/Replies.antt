@@ -1,4 +1,4 @@
--- What steps and their replies say was written, read and told.
+-- What steps and their replies say was written, read and reported.
 use Rattle.std.specs.Prelude.{ℕ, ◌==◌, ◌&&◌, not, if◌then◌else◌, Bool, true, false, List, [], ◌∷◌, ◌++◌, Some}
 use Rattle.rtc_part_association.specs.Ppi.{ppi_number}
 use Rattle.rtc_part_association.specs.declared.assoc_event.AssocEvent.{AssocEvent}
@@ -28,7 +28,7 @@ read_by (Read at id) (Message generation (Some message)) left s g =
     then record { identifier = ppi_number message.0; bytes = message.1 } ∷ [] else []
 read_by _ _ left s g = []
 
--- the events that a step told at an end
+-- the events that a step reported at an end
 abbrev pub told_by : AssocStep → AssocReply → (left : Bool) → List AssocEvent
 told_by (Poll at) (Event (Some event)) left = if same_end left at then event ∷ [] else []
 told_by _ _ left = []
@@ -45,6 +45,6 @@ abbrev pub told_in : List AssocStep → List AssocReply → (left : Bool) → Li
 told_in (step ∷ steps) (reply ∷ replies) left = told_by step reply left ++ told_in steps replies left
 told_in _ _ left = []
 
--- whether an end did not close a generation of a stream: one to come, or the stream's own where it is not closed here
+-- whether an end did not close a generation of a stream: a later one, or the stream's own if it is not closed here
 abbrev pub is_open : Contents → ℕ → ℕ → Bool
 is_open p s g = takes_messages (stream_of s p.streams) g

@@ -1,4 +1,4 @@
--- Steps of two ends, and what each answers.
+-- Steps of two ends, and what each returns.
 use Rattle.std.specs.Prelude.{ℕ, ◌≡◌, ◌⊎◌, ◌&&◌, not, Bool, true, false, List, [], ◌∷◌, ◌++◌}
 use Rattle.std.specs.Prelude.{length, Option, Some, None, Ok, Err, slice_get}
 use Rattle.rtc_part_association.specs.declared.assoc_error.AssocError.{AssocError}
@@ -38,11 +38,11 @@ is_refusal Closing = true
 is_refusal Fault = false
 is_refusal Alloc = false
 
--- where a call is not to be made nothing is done, and else what the call does
+-- if a call is not to be made nothing is done, and else what the call does
 abbrev pub Tried : Bool → Type 0 → AssocReply → Contents → Contents → Type 0
 Tried test Called reply p q = ((test ≡ false) × (reply ≡ NoSuch) × (q ≡ p)) ⊎ ((test ≡ true) × Called)
 
--- what each call answers and does, from the meaning of the part
+-- what each call returns and does, from the meaning of the part
 abbrev pub Connects : AssocReply → Contents → Contents → Type 0
 Connects Done p q = plain_meaning.connected p 0 4294967295 (Ok tt) q
 Connects (Refused e) p q = (is_refusal e ≡ true) × plain_meaning.connected p 0 4294967295 (Err e) q
@@ -85,7 +85,7 @@ StepReads id (Message generation message) p q = (generation ≡ generation_of p 
 StepReads id (Refused e) p q = (is_refusal e ≡ true) × plain_meaning.read p id (Err e) q
 StepReads id _ p q = ⊥
 
--- a packet that is taken is put at the end of all, and answered by its number
+-- a packet that is taken is put at the end of all, and its number is returned
 pub record Numbers (left : Bool) (number : ℕ) (p q : Contents) (packets after : List Sent) : Type 0 where
   pub bytes : List ℕ
   pub gave : plain_meaning.gave p (Some bytes) q

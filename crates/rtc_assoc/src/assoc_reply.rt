@@ -1,8 +1,8 @@
-//! What steps of two ends answer.
+//! What steps of two ends return.
 use rtc_part_association::{AssocError, AssocEvent, Ppi};
 use rtc_wire::Bytes;
 
-/// What a step answered.
+/// What a step returned.
 #[derive(Debug, PartialEq, Eq, Drop)]
 pub enum AssocReply {
     Done,

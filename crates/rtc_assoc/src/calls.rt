@@ -194,7 +194,7 @@ pub fn transmit(
     }
 }
 
-// The packet of a number, where it is one for this end.
+// The packet of a number, if it is one for this end.
 fn packet_for(packets: &[Sent], left: bool, number: u32) -> Option<&Sent>
     ensures some { IfSome result (λ sent. (slice_get packets.now number ≡ Some sent.now)
         × (is_packet_for left (slice_get packets.now number) ≡ true)) }

@@ -8,8 +8,8 @@ ghost use Rattle.rtc_assoc.specs.Unread.{unread, IsPrefix};
 ghost use Rattle.rtc_assoc.specs.Joined.{Move, Ends, Run};
 
 /// Of each generation of each stream, one end reads a prefix of the messages that the other one wrote, whatever is
-/// lost, repeated or reordered between them. Where neither closed the generation and the writer holds no
-/// unacknowledged item, the messages read and those still unread are together all that were written.
+/// lost, repeated or reordered between them. If neither closed the generation and the writer holds no unacknowledged
+/// item, the messages read and those still unread are together all that were written.
 pub fn what_is_read_was_written()
     ensures right { (moves : List Move) (ends : Ends) (s g : ℕ) → Run moves ends
         → IsPrefix (read s g ends.right_acts) (written s g ends.left_acts) }

@@ -1,12 +1,12 @@
-//! The completed resets that one end tells.
+//! The completed resets that one end reports.
 ghost use Rattle.std.specs.Prelude.{◌≡◌, ◌≤◌, ◌+◌, ℕ, List, ◌∷◌, ◌++◌};
 ghost use Rattle.rtc_part_association.specs.AssociationActs.{AssociationAct, Read, Moved};
 ghost use Rattle.rtc_part_association.specs.AssociationWords.{told, completions};
 ghost use Rattle.rtc_assoc_state.specs.Contents.{Contents, fresh_contents, generation_of};
 ghost use Rattle.rtc_assoc_state.specs.PlainMeaning.{plain_meaning};
 
-/// An end tells each completed reset of a stream once. So the n-th one told, from 1, is that of generation n - 1: there
-/// are never more of them than the stream's generation, and no message of a generation is read after its own.
+/// An end reports each completed reset of a stream once. So the n-th one, from 1, is that of generation n - 1: there
+/// are never more than the stream's generation. No message of a generation is read after its own.
 pub fn each_reset_is_told_once()
     ensures all { (p : Contents) (acts : List AssociationAct) (s : ℕ) → Moved plain_meaning fresh_contents acts p
         → completions s (told acts) + completions s p.events ≡ generation_of p s }

@@ -19,10 +19,11 @@ fn add(replies: &mut Vec<AssocReply>, reply: AssocReply) -> Result<(), AllocErro
     Ok(())
 }
 
-/// Takes the steps at two fresh ends, whose packets have at most `max_payload` bytes, and gives a reply for each.
+/// Takes steps at two fresh ends, whose packets have at most `max_payload` bytes, and returns a reply for each.
 ///
-/// A start of an end that is started, every other step at one that is not, and the delivery of a packet that the other
-/// end did not transmit are answered `NoSuch`, and nothing is done. A step that runs out of memory ends the run.
+/// The reply is `NoSuch`, and nothing is done, in three cases: a start of an end that is started; every other step at
+/// one that is not; and the delivery of a packet that the other end did not transmit. A step that runs out of memory
+/// ends the run.
 pub fn run_assoc(
     alloc: Global,
     max_payload: usize,

@@ -1,4 +1,4 @@
-//! What items do that come in their order.
+//! What items do that are received in order.
 ghost use Rattle.std.specs.Prelude.{◌≡◌, ◌<◌, ◌+◌, ◌^◌, ◌∷◌, [], ◌++◌, OnOk, OnErr, false, true, vec_len, vec_capacity};
 ghost use Rattle.std.specs.VecDeque.{deque_len, deque_capacity};
 ghost use Rattle.rtc_assoc_packets.specs.Headers.{item_with};
@@ -20,7 +20,7 @@ use rtc_wire::Moment;
 use std::alloc::AllocError;
 use std::collections::VecDeque;
 
-/// One more item came: its stream has this row now, and it is answered, in room that was made.
+/// One more item was received: its stream has this row now, and it is acknowledged, in room that was made.
 fn count_item(
     received: &mut u64,
     streams: &mut StreamTable,
@@ -46,7 +46,7 @@ fn count_item(
 }
 
 impl PlainAssociation {
-    /// An item came that changes nothing but the number, and the row of its stream.
+    /// An item was received that changes nothing but the number, and the row of its stream.
     pub(crate) fn skip_item(&mut self, row: StreamRow) -> Result<(), AllocError>
         requires { self.old.inbox.received + 1 < 2 ^ 64 }
         ensures ok { OnOk result (Sends self.old (answered (item_counted row self.old)) self.new) }
@@ -70,7 +70,7 @@ impl PlainAssociation {
         Ok(())
     }
 
-    /// A piece of a message came, with more to come.
+    /// A piece of a message was received, with more to follow.
     fn take_more(
         &mut self,
         row: StreamRow,
@@ -100,7 +100,7 @@ impl PlainAssociation {
         Ok(())
     }
 
-    /// The last piece of a message came.
+    /// The last piece of a message was received.
     fn take_last(
         &mut self,
         row: StreamRow,
@@ -133,7 +133,7 @@ impl PlainAssociation {
         Ok(())
     }
 
-    /// A piece of a message came.
+    /// A piece of a message was received.
     pub(crate) fn take_piece(
         &mut self,
         row: StreamRow,
@@ -154,7 +154,7 @@ impl PlainAssociation {
         }
     }
 
-    /// The close of a stream came, which this end did not close: it does now.
+    /// The close of a stream was received, which this end did not close: it does now.
     pub(crate) fn take_first_close(
         &mut self,
         now: Moment,
@@ -192,7 +192,7 @@ impl PlainAssociation {
         Ok(())
     }
 
-    /// The close of a stream came, which this end closed. Its close was not acknowledged.
+    /// The close of a stream was received, which this end closed. Its close was not acknowledged.
     pub(crate) fn take_second_close(&mut self, mut row: StreamRow) -> Result<(), AllocError>
         requires { self.old.inbox.received + 1 < 2 ^ 64 }
         ensures ok { OnOk result (Sends self.old
@@ -219,7 +219,7 @@ impl PlainAssociation {
         Ok(())
     }
 
-    /// The close of a stream came, after this end's was acknowledged: the reset is complete.
+    /// The close of a stream was received, after this end's was acknowledged: the reset is complete.
     pub(crate) fn take_last_close(&mut self, row: StreamRow) -> Result<(), AllocError>
         requires number { self.old.inbox.received + 1 < 2 ^ 64 }
         requires generation { row.generation < 4294967295 }

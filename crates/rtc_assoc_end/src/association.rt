@@ -15,12 +15,12 @@ use std::alloc::Global;
 use std::collections::{BTreeMap, VecDeque};
 use std::marker::Model;
 
-/// One end of a reliable transport of messages over streams that can be reset. It keeps everything in memory and has
-/// no security: whoever can give it a packet can forge one.
+/// One end of a reliable transport of messages over streams that can be reset. It keeps everything in memory and has no
+/// security: whoever can give it a packet can forge one.
 ///
-/// Items (pieces of messages, and closes of streams) are numbered from 1 over all streams. A receiver takes the next
-/// one alone and answers with the greatest number up to which all came; a sender queues what is not acknowledged again
-/// one second after it last queued an item.
+/// Items (pieces of messages, and closes of streams) are numbered from 1 over all streams. A receiver takes only the
+/// next one, and acknowledges the greatest number up to which all were received. A sender queues what is not
+/// acknowledged again one second after it last queued an item.
 pub struct PlainAssociation {
     pub(crate) alloc: Global,
     pub(crate) limits: Limits,

@@ -42,7 +42,7 @@ fn greet(standing: &mut Standing, events: &mut VecDeque<AssocEvent>)
     }
 }
 
-/// The association is connected, which is told once, in room that was made.
+/// The association is connected, which is reported once, in room that was made.
 fn link(standing: &mut Standing, events: &mut VecDeque<AssocEvent>)
     requires { deque_len events.old < deque_capacity events.old }
     ensures standing { standing.new ≡ record standing.old { connected = true } }
@@ -148,7 +148,7 @@ impl PlainAssociation {
         Ok(())
     }
 
-    /// Answers with the number up to which all came.
+    /// Acknowledges the number up to which all items were received.
     #[tactic(auto, unfolding(rtc_assoc_state::specs::Calls::answered))]
     fn answer(&mut self) -> Result<(), AllocError>
         ensures ok { OnOk result (Sends self.old (answered self.old) self.new) }
@@ -159,7 +159,7 @@ impl PlainAssociation {
         Ok(())
     }
 
-    /// A data packet came: its acknowledgement first, then its item where it is the next one, and an answer.
+    /// Receives a data packet: its acknowledgement first, then its item if it is the next one; then acknowledges.
     #[tactic(auto, unfolding(rtc_assoc_state::specs::Calls::item_came))]
     fn take_data(
         &mut self,
@@ -177,7 +177,7 @@ impl PlainAssociation {
         self.take_numbered(now, number, item, bytes)
     }
 
-    /// An item came: it is taken where its number is the next one, and answered.
+    /// Receives an item: takes it if its number is the next one, and acknowledges.
     #[tactic(auto, unfolding(rtc_assoc_state::specs::Calls::item_came))]
     fn take_numbered(
         &mut self,
@@ -227,7 +227,7 @@ impl PlainAssociation {
         Ok(())
     }
 
-    /// The hello again, where it is due.
+    /// The hello again, if it is due.
     fn hello_again(&self, due: bool) -> Result<VecDeque<Packet>, AllocError>
         ensures { IfOk result (λ packets. packets.items ≡ (if due then (1 ∷ []) ∷ [] else [])) }
     {
@@ -239,7 +239,7 @@ impl PlainAssociation {
         Ok(packets)
     }
 
-    /// The unacknowledged items again, where they are due.
+    /// The unacknowledged items again, if they are due.
     fn items_again(&self, due: bool) -> Result<VecDeque<Packet>, AllocError>
         ensures packets { IfOk result (λ packets. packets.items
             ≡ (if due then packets_from self.now.inbox.received (self.now.outbox.acked + 1) self.now.outbox.items

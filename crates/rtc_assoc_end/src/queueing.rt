@@ -131,7 +131,7 @@ pub(crate) fn queue_message(
     Ok(())
 }
 
-/// Tells that the generation of a row is finished, in room that was made, and drops what came of it.
+/// Reports that the generation of a row is finished, in room that was made, and drops what was received of it.
 pub(crate) fn finish(
     events: &mut VecDeque<AssocEvent>,
     unread: &mut Unread,

@@ -1,4 +1,4 @@
-//! What an end answers of itself.
+//! What an end returns of itself.
 ghost use Rattle.std.specs.Prelude.{◌≡◌, ◌+◌, ◌<◌, ◌^◌, nat_lt, Some, None, []};
 ghost use Rattle.std.specs.Bool.{OnFalse};
 ghost use Rattle.rtc_assoc_packets.specs.Headers.{item_with};
@@ -41,7 +41,7 @@ impl PlainAssociation {
         self.closes() || self.is_lost()
     }
 
-    /// Whether an item is of a generation that its stream has not come to.
+    /// Whether an item is of a later generation than its stream has.
     pub(crate) fn is_ahead(&self, item: ItemHeader) -> bool
         ensures { result ≡ is_ahead (item_with item []) self.now }
     {

@@ -1,4 +1,4 @@
-//! Which of its cases an item is that comes in its order.
+//! The cases of an item that is received in order.
 ghost use Rattle.std.specs.Prelude.{◌≡◌, ◌<◌, ◌+◌, ◌^◌, OnOk, OnErr, false};
 ghost use Rattle.rtc_assoc_packets.specs.Headers.{item_with};
 ghost use Rattle.rtc_assoc_state.specs.Contents.{is_ending};
@@ -12,7 +12,7 @@ use rtc_wire::Moment;
 use std::alloc::AllocError;
 
 impl PlainAssociation {
-    /// The close of a stream came.
+    /// The close of a stream was received.
     fn take_close(&mut self, now: Moment, row: StreamRow, generation: u32) -> Result<(), AllocError>
         requires number { self.old.inbox.received + 1 < 2 ^ 64 }
         requires lives { is_ending self.old ≡ false }
@@ -34,7 +34,7 @@ impl PlainAssociation {
         }
     }
 
-    /// The next item came. Whether it is of a generation to come is remembered.
+    /// The next item was received. Whether it is of a later generation is remembered.
     #[tactic(auto, unfolding(rtc_assoc_state::specs::Calls::answered))]
     pub(crate) fn take_item(
         &mut self,

@@ -12,7 +12,7 @@ abbrev pub item_with : ItemHeader → List ℕ → Item
 item_with header bytes =
     record { stream = header.stream; generation = header.generation; part = header.part; identifier = header.identifier; bytes = bytes }
 
--- what a packet says that has this header: the bytes of an item stand behind the first 28
+-- what a packet says that has this header: the bytes of an item are behind the first 28
 abbrev pub frame_with : Header → List ℕ → Frame
 frame_with Hello bytes = frame.Hello
 frame_with Welcome bytes = frame.Welcome

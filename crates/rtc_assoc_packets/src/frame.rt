@@ -9,7 +9,7 @@ pub enum Frame {
     Hello,
     /// The server's answer.
     Welcome,
-    /// An item and its number, beside the greatest number up to which all items of the other end came.
+    /// An item and its number, beside the greatest number up to which all items of the other end were received.
     Data {
         acknowledged: u64,
         number: u64,

@@ -13,7 +13,7 @@ pub enum Header {
     Hello,
     /// The server's answer.
     Welcome,
-    /// An item and its number, beside the greatest number up to which all items of the other end came.
+    /// An item and its number, beside the greatest number up to which all items of the other end were received.
     Data {
         acknowledged: u64,
         number: u64,
@@ -89,7 +89,7 @@ pub fn content_of(packet: &[u8]) -> &[u8]
 }
 
 impl Header {
-    /// What a packet says; None where it is none. A packet with bytes behind is none, but for the bytes of an item.
+    /// What a packet says; None if it is none. A packet with bytes behind is none, but for the bytes of an item.
     #[tactic(auto, unfolding(crate::specs::Packets::frame_in))]
     pub fn read(bytes: &[u8]) -> Option<Header>
         ensures { option_map (λ header. frame_with header bytes.now) result ≡ frame_in bytes.now }

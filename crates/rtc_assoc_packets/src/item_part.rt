@@ -5,7 +5,7 @@ ghost use Rattle.rtc_assoc_packets.specs.Packets.{part_byte, part_of};
 /// What an item carries.
 #[derive(Clone, Copy, Debug, PartialEq, Eq)]
 pub enum ItemPart {
-    /// A piece of a message, with more to come.
+    /// A piece of a message, with more to follow.
     More,
     /// The last piece of a message.
     Last,

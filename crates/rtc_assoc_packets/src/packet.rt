@@ -77,7 +77,7 @@ impl Packet {
         Packet::short(alloc, &[SHUTDOWN])
     }
 
-    /// An item and its number, with the number up to which all came.
+    /// An item and its number, with the number up to which all were received.
     pub fn data(
         alloc: Global,
         acknowledged: u64,
@@ -105,7 +105,7 @@ impl Packet {
         })
     }
 
-    /// The number up to which all came.
+    /// The number up to which all items were received.
     #[tactic(auto, unfolding(crate::specs::Packets::acknowledgement_bytes))]
     pub fn acknowledgement(alloc: Global, number: u64) -> Result<Packet, AllocError>
         ensures bytes { IfOk result (λ packet. packet ≡ acknowledgement_bytes number) }

@@ -6,7 +6,7 @@ use Rattle.std.specs.BTreeMap.{BTreeMap, get}
 use Rattle.rtc_assoc_packets.specs.declared.item.Item.{Item}
 use Rattle.rtc_assoc_state.specs.Outbox.{buffered}
 
--- the amount of a stream, which is 0 where it has no entry
+-- the amount of a stream, which is 0 if it has no entry
 abbrev pub amount_of : ℕ → BTreeMap ℕ ℕ → ℕ
 amount_of stream amounts = unwrap_or (get nat_cmp amounts stream) 0
 

@@ -92,14 +92,14 @@ thresholded id n p = record p { streams = put (record (stream_of id p.streams) {
 unfoldable pub shut_down : Contents → Contents
 shut_down p = record p { standing = record p.standing { shut = true }; packets = p.packets ++ (5 ∷ []) ∷ [] }
 
--- the client hears of the server: told once
+-- the client hears of the server: reported once
 unfoldable pub greeted : Contents → Contents
 greeted p = record p {
   standing = record p.standing { connected = p.standing.connected || is_client p.standing.role };
   events = p.events ++ (if waits p.standing then Connected ∷ [] else []);
 }
 
--- the server hears of the client: told once, and answered each time
+-- the server hears of the client: reported once, and answered each time
 unfoldable pub welcomed : Contents → Contents
 welcomed p =
     if is_server p.standing.role
@@ -121,11 +121,11 @@ acknowledged number p =
       events = t.events;
     }
 
--- one more item came, and its stream has this row now
+-- one more item was received, and its stream has this row now
 unfoldable pub item_counted : StreamRow → Contents → Contents
 item_counted row p = record p { inbox = record p.inbox { received = p.inbox.received + 1 }; streams = put row p.streams }
 
--- a piece of a message, with more to come
+-- a piece of a message, with more to follow
 unfoldable pub more_kept : Item → Contents → Contents
 more_kept item p = record p { inbox = kept_more item p.inbox }
 
@@ -141,7 +141,7 @@ piece_kept _ item p = more_kept item p
 abbrev pub piece_came : Item → StreamRow → Contents → Contents
 piece_came item row p = if takes_messages row item.generation then piece_kept item.part item (item_counted row p) else item_counted row p
 
--- the other end's close is told, and what is unread of the generation is dropped
+-- the other end's close is reported, and what is unread of the generation is dropped
 unfoldable pub finished : StreamRow → Contents → Contents
 finished row p = record p { inbox = forgotten row.stream row.generation p.inbox; events = p.events ++ Finished row.stream ∷ [] }
 
@@ -149,8 +149,7 @@ finished row p = record p { inbox = forgotten row.stream row.generation p.inbox;
 unfoldable pub reset_told : StreamRow → Contents → Contents
 reset_told row p = record p { events = p.events ++ ResetComplete row.stream ∷ [] }
 
--- the other end's close, by how far this end's has come: it is queued now, it was queued, or it was acknowledged and
--- the reset is complete
+-- the other end's close, by the progress of this end's: it is queued now, it was queued, or it was acknowledged and the reset is complete
 abbrev pub close_came_at : CloseState → ℕ → StreamRow → Contents → Contents
 close_came_at Unclosed now row p =
     sent now (close_of row.stream row.generation ∷ []) (item_counted (record row { close = Queued; finished = true }) p)
@@ -173,7 +172,7 @@ part_came _ now item row p = piece_came item row p
 abbrev pub item_put : ℕ → Item → Contents → Contents
 item_put now item p = part_came item.part now item (record (stream_of item.stream p.streams) { there = true }) p
 
--- whether an item is of a generation that its stream has not come to
+-- whether an item is of a later generation than its stream has
 abbrev pub is_ahead : Item → Contents → Bool
 is_ahead item p = nat_lt (stream_of item.stream p.streams).generation item.generation
 
@@ -184,7 +183,7 @@ marked ahead p = record p { inbox = record p.inbox { ahead = p.inbox.ahead || ah
 abbrev pub item_taken : ℕ → Item → Contents → Contents
 item_taken now item p = marked (is_ahead item p) (item_put now item p)
 
--- an item is taken where its number is the next one, whatever generation it carries, and never while the association is
+-- an item is taken if its number is the next one, whatever generation it carries, and never while the association is
 -- closing or closed
 unfoldable pub item_came : (now number : ℕ) → Item → Contents → Contents
 item_came now number item p =
@@ -212,7 +211,7 @@ at_moment now p = record p { clock = record p.clock { now = now } }
 abbrev pub input_taken : ℕ → List ℕ → Contents → Contents
 input_taken now bytes p = at_moment now (framed now (frame_in bytes) p)
 
--- where memory ran out after the acknowledgement of a data packet was taken
+-- the end if memory ran out after the acknowledgement of a data packet was taken
 abbrev pub half_taken : Option Frame → Contents → Contents
 half_taken (Some (Data number_acknowledged number item)) p = acknowledged number_acknowledged (greeted p)
 half_taken _ p = p

@@ -1,4 +1,4 @@
--- What an end of the plain association holds, and what its readings answer.
+-- What an end of the plain association holds, and what its readings return.
 use Rattle.std.specs.Prelude.{ℕ, ◌+◌, ◌-◌, ◌*◌, ◌&&◌, ◌||◌, not, nat_lt, min, if◌then◌else◌, Bool, true}
 use Rattle.std.specs.Prelude.{false, List, [], ◌∷◌, length, Option, Some, None}
 use Rattle.std.specs.List.{list_any}
@@ -85,7 +85,7 @@ is_stale p id = has_stream p id && closed_here p id
 abbrev pub generation_of : Contents → ℕ → ℕ
 generation_of p id = (stream_of id p.streams).generation
 
--- the bytes of a stream that are not acknowledged; 0 where it is not there
+-- the bytes of a stream that are not acknowledged; 0 if it is not there
 abbrev pub buffered_of : Contents → ℕ → ℕ
 buffered_of p id = if has_stream p id then buffered id p.outbox.items else 0
 
@@ -93,7 +93,7 @@ buffered_of p id = if has_stream p id then buffered id p.outbox.items else 0
 abbrev pub is_finished : Contents → ℕ → Bool
 is_finished p id = (stream_of id p.streams).finished
 
--- whether a whole message of a generation of a stream stands unread
+-- whether a whole message of a generation of a stream is unread
 abbrev pub has_unread : Contents → ℕ → ℕ → Bool
 has_unread p id generation = list_any (is_message_of id generation) p.inbox.unread
 
@@ -115,7 +115,7 @@ hello_wake p = if waits p.standing then Some (second_after p.clock.hello_sent) e
 abbrev pub items_wake : Contents → Option ℕ
 items_wake p = if is_empty p.outbox.items then None else Some (second_after p.clock.items_sent)
 
--- the earlier of two moments, where there are any
+-- the earlier of two moments, if there are any
 abbrev pub earlier : Option ℕ → Option ℕ → Option ℕ
 earlier None b = b
 earlier (Some a) None = Some a

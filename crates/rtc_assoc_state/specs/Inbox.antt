@@ -1,11 +1,11 @@
--- The messages that came and are not read.
+-- The received messages that are not read.
 use Rattle.std.specs.Prelude.{ℕ, ◌==◌, ◌&&◌, not, nat_lt, if◌then◌else◌, Bool, List, [], ◌∷◌, ◌++◌, filter}
 use Rattle.rtc_assoc_packets.specs.declared.item.Item.{Item}
 use Rattle.rtc_assoc_state.specs.declared.message.Message.{Message}
 pub use Rattle.rtc_assoc_state.specs.MessagePart.{MessagePart}
 
--- the number up to which all items came, the messages whose last piece is to come, and the whole messages: each by stream,
--- and those of a stream as they came
+-- the number up to which all items were received, the messages whose last piece is missing, and the whole messages: each by stream, and
+-- those of a stream as they were received
 pub record Inbox : Type 0 where
   pub received : ℕ
   pub parts : List MessagePart
@@ -22,12 +22,12 @@ is_part_of stream generation p = (p.stream == stream) && (p.generation == genera
 abbrev pub is_message_of : ℕ → ℕ → Message → Bool
 is_message_of stream generation message = (message.stream == stream) && (message.generation == generation)
 
--- the bytes that came of the message of a generation of a stream
+-- the received bytes of the message of a generation of a stream
 abbrev pub bytes_so_far : ℕ → ℕ → List MessagePart → List ℕ
 bytes_so_far stream generation [] = []
 bytes_so_far stream generation (p ∷ parts) = if is_part_of stream generation p then p.bytes else bytes_so_far stream generation parts
 
--- whether a message whose last piece is to come is of a lesser stream, of this one, or of a greater one
+-- whether a message whose last piece is missing is of a lesser stream, of this one, or of a greater one
 abbrev pub is_part_below : ℕ → MessagePart → Bool
 is_part_below stream p = nat_lt p.stream stream
 
@@ -77,7 +77,7 @@ forgotten stream generation inbox =
 abbrev pub message_of : Item → List ℕ → Message
 message_of item bytes = record { stream = item.stream; generation = item.generation; identifier = item.identifier; bytes = bytes }
 
--- a piece with more to come, and a last piece
+-- a piece with more to follow, and a last piece
 abbrev pub kept_more : Item → Inbox → Inbox
 kept_more item inbox = record inbox { parts = with_bytes item.stream item.generation item.bytes inbox.parts }
 

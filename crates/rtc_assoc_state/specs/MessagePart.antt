@@ -1,4 +1,4 @@
--- A message of which the last piece is still to come.
+-- A message whose last piece is still missing.
 use Rattle.std.specs.Prelude.{ℕ, List}
 
 pub record MessagePart : Type 0 where

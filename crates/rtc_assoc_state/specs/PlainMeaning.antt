@@ -37,8 +37,8 @@ end_cause p id = need (not (has_stream p id) || closed_here p id) NoStream (endi
 abbrev pub stream_cause : Contents → ℕ → Option AssocError
 stream_cause p id = need (not (has_stream p id)) NoStream None
 
--- a call with one cause to refuse at most: refused for it, or where memory ran out, it changes nothing, and else it does
--- what it is to do. A plain end has no faults
+-- a call with one cause to refuse at most: refused for it, or if memory ran out, it changes nothing, and else it does what it is to do. A
+-- plain end has no faults
 abbrev pub Does : {T : Type 0} → Option AssocError → Contents → (T → Contents → Type 0) → Result T AssocError → Contents → Type 0
 Does cause p done (Ok x) q = (cause ≡ None) × done x q
 Does cause p done (Err Fault) q = ⊥
@@ -55,14 +55,14 @@ Sends p r q = (q ≡ r) × Queues p q
 abbrev pub message_shown : Message → Ppi × List ℕ
 message_shown m = (ppi_of m.identifier, m.bytes)
 
--- what a reading answers and leaves, by the next message of the stream
+-- what a reading returns and leaves, by the next message of the stream
 abbrev pub Reads : Option Message → ℕ → Contents → Option (Ppi × List ℕ) → Contents → Type 0
 Reads None id p None q = q ≡ p
 Reads None id p (Some shown) q = ⊥
 Reads (Some m) id p None q = ⊥
 Reads (Some m) id p (Some shown) q = (shown ≡ message_shown m) × (q ≡ taken_out id p)
 
--- a packet that was given. Where memory ran out, the end is as it was, or has taken the acknowledgement of the packet
+-- a packet that was given. If memory ran out, the end is unchanged, or has taken the acknowledgement of the packet
 abbrev pub Gives : Contents → ℕ → List ℕ → Result (Unit {0}) AllocError → Contents → Type 0
 Gives p now bytes (Ok _) q = Sends p (input_taken now bytes p) q
 Gives p now bytes (Err _) q = (q ≡ p) ⊎ (q ≡ half_taken (frame_in bytes) p)

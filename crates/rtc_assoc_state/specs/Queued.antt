@@ -1,4 +1,4 @@
--- What came and is not read, as it is kept: a queue for each stream that has some.
+-- What was received and is not read, as it is kept: a queue for each stream that has some.
 use Rattle.std.specs.Prelude.{ℕ, ◌≡◌, ◌<◌, List, [], ◌∷◌, ◌++◌, Some}
 use Rattle.std.specs.List.{AllByRecursion}
 use Rattle.std.specs.Ordering.{nat_cmp}
@@ -19,7 +19,7 @@ module _ {M Q : Type 0} (items : Q → List M) where
   all_queued [] = []
   all_queued (e ∷ entries) = items e.1 ++ all_queued entries
 
-  -- the queues stand by stream, and what is in each is of its stream alone
+  -- the queues are in order of their streams, and what is in each is of its stream alone
   pub record SoundQueues (stream : M → ℕ) (queues : BTreeMap ℕ Q) : Type 0 where
     pub ordered : IsOrdered nat_cmp queues
     pub own : AllByRecursion (λ e. AllByRecursion (λ m. stream m ≡ e.0) (items e.1)) queues.entries

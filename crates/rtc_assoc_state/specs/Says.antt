@@ -7,14 +7,14 @@ use Rattle.rtc_assoc_packets.specs.declared.frame.Frame.TheVariants.{Data, Ackno
 use Rattle.rtc_assoc_packets.specs.Packets.{frame_in}
 use Rattle.rtc_assoc_state.specs.Contents.{Contents}
 
--- an item of a list has a number, where the first has the one after base
+-- an item of a list has a number, if the first has the one after base
 pub record Numbered (base : ℕ) (items : List Item) (number : ℕ) (item : Item) : Type 0 where
   pub before : List Item
   pub after : List Item
   pub is : items ≡ before ++ item ∷ after
   pub number_is : number ≡ base + length before + 1
 
--- what a packet says that is made now: an unacknowledged item with its number, and the number up to which all came
+-- what a packet says that is made now: an unacknowledged item with its number, and the number up to which all were received
 abbrev pub SaysPacket : Contents → Option Frame → Type 0
 SaysPacket p None = Unit {0}
 SaysPacket p (Some (Data acknowledged number item)) = (acknowledged ≡ p.inbox.received) × Numbered p.outbox.acked p.outbox.items number item

@@ -24,11 +24,11 @@ abbrev pub reaches : Option ℕ → (before after : ℕ) → Bool
 reaches None before after = false
 reaches (Some n) before after = nat_lt n before && nat_le after n
 
--- whether a stream may be reset once both closes came
+-- whether a stream may be reset once both closes were received
 abbrev pub can_reset : StreamRow → Bool
 can_reset row = nat_lt row.generation LAST_GENERATION
 
--- this end's close of a stream is acknowledged: where the other end's came, the reset is complete
+-- this end's close of a stream is acknowledged: if the other end's was received, the reset is complete
 abbrev pub close_settled : CloseState → StreamRow → Told → Told
 close_settled Queued row t =
     if row.finished && can_reset row

@@ -18,7 +18,7 @@ gone_state = record { there = false; close = Unclosed; finished = false; thresho
 abbrev pub is_in_use : StreamState → Bool
 is_in_use state = state.there || not (is_unclosed state.close) || state.finished || is_some state.threshold
 
--- what is kept of a state: nothing where the stream is gone
+-- what is kept of a state: nothing if the stream is gone
 abbrev pub kept_state : StreamState → Option StreamState
 kept_state state = if is_in_use state then Some state else None
 
@@ -60,7 +60,7 @@ pub record SoundTable (rows : List StreamRow) (places : BTreeMap ℕ ℕ) (at_la
   pub found : (id place : ℕ) → position (λ row. row.stream == id) rows ≡ Some place → get nat_cmp places id ≡ Some place
   pub last_is : at_last ≡ any_at_last_generation rows
 
--- where the row of a stream stands, or would be added
+-- the place at which the row of a stream is, or would be added
 abbrev pub stream_place : ℕ → List StreamRow → ℕ
 stream_place id rows = unwrap_or (position (λ row. row.stream == id) rows) (length rows)
 

@@ -1,4 +1,4 @@
--- The streams of an end: each has a row, also where it is not there, since its generation goes on.
+-- The streams of an end: each has a row, also if it is not there, since its generation is kept.
 use Rattle.std.specs.Prelude.{ℕ, ◌+◌, ◌==◌, ◌&&◌, ◌||◌, not, nat_lt, if◌then◌else◌, Bool, true, false, List, [], ◌∷◌, None, is_some}
 use Rattle.std.specs.List.{list_any}
 use Rattle.rtc_assoc_state.specs.declared.close_state.CloseState.{CloseState}

@@ -12,7 +12,7 @@ pub fn amount_in(amounts: &BTreeMap<u16, usize>, stream: u16) -> usize
     amounts.get(&stream).copied().unwrap_or(0)
 }
 
-/// Adds to the amount of a stream. It answers `AllocError` also where the sum would not fit.
+/// Adds to the amount of a stream. It returns `AllocError` also if the sum would not fit.
 pub fn raise(
     amounts: &mut BTreeMap<u16, usize>,
     stream: u16,

@@ -22,7 +22,7 @@ pub fn second_after(moment: Moment) -> Moment
     moment.plus(Span::from_secs(1))
 }
 
-/// The earlier of two moments, where there are any.
+/// The earlier of two moments, if there are any.
 pub fn earlier(a: Option<Moment>, b: Option<Moment>) -> Option<Moment>
     ensures { result ≡ earlier a b }
 {

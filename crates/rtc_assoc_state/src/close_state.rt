@@ -1,6 +1,6 @@
-//! How far this end's close of a stream has come.
+//! The progress of this end's close of a stream.
 
-/// How far this end's close of a stream has come: not closed, the close is queued, the other end acknowledged it.
+/// The progress of this end's close of a stream: not closed, the close is queued, the other end acknowledged it.
 #[derive(Clone, Copy, Debug, PartialEq, Eq)]
 pub enum CloseState {
     Unclosed,

@@ -1,4 +1,4 @@
-//! Messages that came and are not read.
+//! Received messages that are not read.
 ghost use Rattle.std.specs.Prelude.{◌≡◌, OnOk, OnErr, position};
 ghost use Rattle.rtc_assoc_state.specs.Inbox.{bytes_so_far, with_more, without_part, without_messages};
 ghost use Rattle.rtc_assoc_state.specs.Inbox.{is_part_of, is_message_of};
@@ -11,14 +11,14 @@ use rtc_wire::Bytes;
 use std::alloc::{AllocError, Global};
 use std::collections::VecDeque;
 
-/// The place of the message of a generation of a stream whose last piece is to come.
+/// The place of the message of a generation of a stream whose last piece is missing.
 fn place_of(parts: &[Partial], stream: u16, generation: u32) -> Option<usize>
     ensures { result ≡ position (is_part_of stream generation) parts.now }
 {
     parts.iter().position(|p| p.is_of(stream, generation))
 }
 
-/// Keeps a piece with more to come: its bytes are copied behind those before it.
+/// Keeps a piece with more to follow: its bytes are copied behind those before it.
 pub fn keep_more(
     alloc: Global,
     parts: &mut Vec<Partial>,
@@ -41,7 +41,7 @@ pub fn keep_more(
     Ok(())
 }
 
-/// Takes out what came of a message: its bytes, joined where they stand.
+/// Takes out what was received of a message: its bytes, joined in place.
 pub fn take_part(alloc: Global, parts: &mut Vec<Partial>, stream: u16, generation: u32) -> Bytes
     ensures bytes { result ≡ bytes_so_far stream generation parts.old.items }
     ensures rest { parts.new.items ≡ without_part stream generation parts.old.items }
@@ -56,7 +56,7 @@ pub fn take_part(alloc: Global, parts: &mut Vec<Partial>, stream: u16, generatio
     }
 }
 
-/// Drops what came of a message.
+/// Drops what was received of a message.
 pub fn drop_part(parts: &mut Vec<Partial>, stream: u16, generation: u32)
     ensures { parts.new.items ≡ without_part stream generation parts.old.items }
 {

@@ -1,4 +1,4 @@
-//! Messages that came.
+//! Received messages.
 ghost use Rattle.std.specs.Prelude.{◌≡◌};
 ghost use Rattle.rtc_assoc_state.specs.Inbox.{is_message_of};
 

@@ -1,4 +1,4 @@
-//! Queues of messages whose last piece is to come, by stream.
+//! Queues of messages whose last piece is missing, by stream.
 ghost use Rattle.std.specs.Prelude.{◌≡◌, [], None, IsSome, OnOk, OnErr, IfSome};
 ghost use Rattle.std.specs.Bool.{OnTrue};
 ghost use Rattle.std.specs.Ordering.{nat_cmp};
@@ -31,7 +31,7 @@ fn begin(
     Ok(())
 }
 
-/// Begins the queue of a stream where it has none.
+/// Begins the queue of a stream if it has none.
 pub fn begin_parts(
     alloc: Global,
     queues: &mut BTreeMap<u16, Vec<Partial>>,
@@ -48,7 +48,7 @@ pub fn begin_parts(
     begin(alloc, queues, stream)
 }
 
-/// Keeps a piece with more to come in the queue of its stream, which was begun.
+/// Keeps a piece with more to follow in the queue of its stream, which was begun.
 pub fn add_piece(
     alloc: Global,
     queues: &mut BTreeMap<u16, Vec<Partial>>,
@@ -70,7 +70,7 @@ pub fn add_piece(
     }
 }
 
-/// Takes out what came of a message: its bytes, joined.
+/// Takes out what was received of a message: its bytes, joined.
 pub fn take_joined(
     alloc: Global,
     queues: &mut BTreeMap<u16, Vec<Partial>>,
@@ -89,7 +89,7 @@ pub fn take_joined(
     }
 }
 
-/// Drops what came of a message.
+/// Drops what was received of a message.
 pub fn drop_joined(queues: &mut BTreeMap<u16, Vec<Partial>>, stream: u16, generation: u32)
     requires { SoundQueues vec_items stream_of_part queues.old }
     ensures rest { all_queued vec_items queues.new.entries
@@ -112,7 +112,7 @@ fn has_no_parts(queues: &BTreeMap<u16, Vec<Partial>>, stream: u16) -> bool
     }
 }
 
-/// Lets the queue of a stream go where it is empty.
+/// Drops the queue of a stream if it is empty.
 pub fn release_parts(queues: &mut BTreeMap<u16, Vec<Partial>>, stream: u16)
     requires { SoundQueues vec_items stream_of_part queues.old }
     ensures same { all_queued vec_items queues.new.entries ≡ all_queued vec_items queues.old.entries }

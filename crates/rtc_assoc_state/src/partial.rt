@@ -1,4 +1,4 @@
-//! Messages of which the last piece is still to come.
+//! Messages whose last piece is still missing.
 ghost use Rattle.std.specs.Prelude.{◌≡◌, ◌++◌, length, IfOk, OnOk, OnErr};
 ghost use Rattle.rtc_assoc_state.specs.Inbox.{is_part_of, part};
 
@@ -7,7 +7,7 @@ use rtc_wire::Bytes;
 use std::alloc::{AllocError, Global};
 use std::marker::Model;
 
-/// The pieces that came of a message whose last piece is still to come, joined.
+/// The received pieces of a message whose last piece is still missing, joined.
 #[derive(Debug, Drop)]
 pub struct Partial {
     stream: u16,

@@ -1,4 +1,4 @@
-//! The messages whose last piece is to come.
+//! The messages whose last piece is missing.
 ghost use Rattle.std.specs.Prelude.{◌≡◌, [], OnOk, OnErr};
 ghost use Rattle.rtc_assoc_state.specs.Inbox.{bytes_so_far, with_bytes, without_part};
 
@@ -10,10 +10,9 @@ use std::alloc::{AllocError, Global};
 use std::collections::BTreeMap;
 use std::marker::Model;
 
-/// The messages whose last piece is to come, in a queue for each stream that has some. A contract sees one list of them.
+/// The messages whose last piece is missing, in a queue for each stream that has some. A contract sees one list of them.
 ///
-/// Two ends that keep to the format have one such message of a stream at most, so that a piece is found in the logarithm
-/// of the streams.
+/// Two ends that keep to the format have one such message of a stream at most, so that a piece is found in the logarithm of the streams.
 pub struct Parts {
     queues: BTreeMap<u16, Vec<Partial>>,
 }
@@ -48,7 +47,7 @@ impl Parts {
         }
     }
 
-    /// Keeps a piece with more to come: its bytes are copied behind those before it.
+    /// Keeps a piece with more to follow: its bytes are copied behind those before it.
     pub fn keep_more(
         &mut self,
         alloc: Global,
@@ -65,7 +64,7 @@ impl Parts {
         Ok(())
     }
 
-    /// Takes out what came of a message: its bytes, joined.
+    /// Takes out what was received of a message: its bytes, joined.
     pub fn take(&mut self, alloc: Global, stream: u16, generation: u32) -> Bytes
         ensures bytes { result ≡ bytes_so_far stream generation self.old }
         ensures rest { self.new ≡ without_part stream generation self.old }
@@ -75,7 +74,7 @@ impl Parts {
         bytes
     }
 
-    /// Drops what came of a message.
+    /// Drops what was received of a message.
     pub fn forget(&mut self, stream: u16, generation: u32)
         ensures { self.new ≡ without_part stream generation self.old }
     {

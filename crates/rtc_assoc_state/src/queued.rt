@@ -116,7 +116,7 @@ fn is_drained(queues: &BTreeMap<u16, VecDeque<Message>>, stream: u16) -> bool
     }
 }
 
-/// Lets the queue of a stream go where it is empty.
+/// Drops the queue of a stream if it is empty.
 fn release(queues: &mut BTreeMap<u16, VecDeque<Message>>, stream: u16)
     requires { SoundQueues deque_items stream_of_message queues.old }
     ensures same { all_queued deque_items queues.new.entries ≡ all_queued deque_items queues.old.entries }
@@ -144,7 +144,7 @@ pub fn take(
     message
 }
 
-/// Drops the messages of a generation of a stream, and its queue where nothing is left of it.
+/// Drops the messages of a generation of a stream, and its queue if nothing is left of it.
 pub fn forget_messages(queues: &mut BTreeMap<u16, VecDeque<Message>>, stream: u16, generation: u32)
     requires { SoundQueues deque_items stream_of_message queues.old }
     ensures rest { all_queued deque_items queues.new.entries

@@ -86,7 +86,7 @@ fn settle_piece(
     }
 }
 
-/// The item that was first is acknowledged: what is told of it, with the items that are left behind it.
+/// The item that was first is acknowledged: what is reported of it, with the items that are left behind it.
 fn settle_item(
     item: &Outgoing,
     behind: &VecDeque<Outgoing>,

@@ -1,14 +1,14 @@
-//! Where an association stands.
+//! The state of an association.
 ghost use Rattle.std.specs.Prelude.{◌≡◌};
 ghost use Rattle.rtc_assoc_state.specs.Contents.{waits};
 
 use crate::role::Role;
 
-/// Where an association stands between its start and its end.
+/// The state of an association between its start and its end.
 #[derive(Clone, Copy, Debug, PartialEq, Eq)]
 pub struct Standing {
     pub role: Role,
-    /// The other end answered.
+    /// The other end accepted.
     pub connected: bool,
     /// This end shut down.
     pub shut: bool,

@@ -2,7 +2,7 @@
 ghost use Rattle.std.specs.Prelude.{◌≡◌};
 ghost use Rattle.rtc_assoc_state.specs.StreamTable.{is_last_generation};
 
-/// How many resets of a stream were completed. It stays where the stream is gone.
+/// How many resets of a stream were completed. It is kept if the stream is gone.
 #[derive(Clone, Copy, Debug, PartialEq, Eq)]
 pub struct StreamGeneration {
     pub stream: u16,

@@ -7,7 +7,7 @@ use crate::close_state::CloseState;
 use crate::stream_generation::StreamGeneration;
 use crate::stream_state::StreamState;
 
-/// What an end knows of a stream, also where it is gone: its generation goes on.
+/// What an end knows of a stream, also of one that is gone: its generation is kept.
 #[derive(Clone, Copy, Debug, PartialEq, Eq)]
 pub struct StreamRow {
     pub stream: u16,
@@ -15,7 +15,7 @@ pub struct StreamRow {
     pub generation: u32,
     pub there: bool,
     pub close: CloseState,
-    /// The other end's close came.
+    /// The other end's close was received.
     pub finished: bool,
     pub threshold: Option<usize>,
 }

@@ -14,13 +14,13 @@ use crate::stream_state::{StreamState, keep_state, make_state, state_in};
 use std::alloc::{AllocError, Global};
 use std::collections::BTreeMap;
 
-/// The rows of the streams, in the order in which the streams were first heard of. Of a stream that is gone, its
-/// generation and its place stay, and nothing else.
+/// The rows of the streams, in the order in which the streams were first heard of. Of a stream that is gone, only its
+/// generation and its place are kept.
 #[derive(Debug)]
 pub struct StreamTable {
     /// The generation of each stream, in order.
     pub generations: Vec<StreamGeneration>,
-    /// Where a stream stands, if it was heard of. Other entries only keep room.
+    /// The place of a stream that was heard of. Other entries only keep room.
     pub places: BTreeMap<u16, usize>,
     /// The states of the streams that are not gone, by their places. Other entries only keep room.
     pub states: BTreeMap<usize, StreamState>,
@@ -81,7 +81,7 @@ impl StreamTable {
         }
     }
 
-    /// A stream's row; where there is none, the row of a stream of which nothing was heard.
+    /// A stream's row; if there is none, the row of a stream of which nothing was heard.
     pub fn row_of(&self, id: u16) -> StreamRow
         requires { SoundTable (stream_rows self.now.states self.now.generations.items) self.now.places self.now.at_last }
         ensures { result ≡ stream_of id (stream_rows self.now.states self.now.generations.items) }
@@ -172,8 +172,7 @@ impl StreamTable {
         }
     }
 
-    /// Puts a row at the place of its stream. The generations are looked through where one leaves the last, which no
-    /// stream does.
+    /// Puts a row at the place of its stream. The generations are looked through if one leaves the last, which no stream does.
     fn set_at(&mut self, place: usize, row: StreamRow)
         requires sound { SoundTable (stream_rows self.old.states self.old.generations.items) self.old.places self.old.at_last }
         requires state { IsSome (get nat_cmp self.old.states place) }

@@ -47,7 +47,7 @@ impl Unread {
         }
     }
 
-    /// Keeps a last piece, which makes a whole message. It is put behind the pieces before it, where they stand.
+    /// Keeps a last piece, which makes a whole message. It is put behind the pieces before it, if there are any.
     pub fn keep_last(
         &mut self,
         alloc: Global,
@@ -80,7 +80,7 @@ impl Unread {
         Ok(())
     }
 
-    /// Drops what came of a generation of a stream.
+    /// Drops what was received of a generation of a stream.
     pub fn forget(&mut self, parts: &mut Parts, stream: u16, generation: u32)
         ensures parts { parts.new ≡ without_part stream generation parts.old }
         ensures unread { self.new ≡ without_messages stream generation self.old }

@@ -24,14 +24,14 @@ use Rattle.rtc_plain_dtls.specs.Frames.{
 }
 use Rattle.rtc_plain_dtls.specs.Contents.{DtlsContents, asks_of}
 
--- outputs and packets go to the ends of their queues, and the handshake goes on
+-- outputs and packets are put at the ends of their queues, and the handshake continues
 unfoldable pub went_on : Phase → List Output → List (List ℕ) → DtlsContents → DtlsContents
 went_on phase outputs packets p = record p { phase = phase; outputs = p.outputs ++ outputs; packets = p.packets ++ packets }
 
 unfoldable pub certificate_kept : List ℕ → DtlsContents → DtlsContents
 certificate_kept cert p = record p { cert = cert }
 
--- the first role stays
+-- the first role is kept
 abbrev pub role_taken : Bool → Phase → Phase
 role_taken true NoRole = AwaitStart
 role_taken false NoRole = AwaitHello
@@ -55,7 +55,7 @@ start_came AwaitFinish p = p
 start_came FinishedActive p = p
 start_came FinishedPassive p = p
 
--- a hello is answered by the certificate, and that of the other side is told once
+-- a hello is answered by the certificate, and that of the other side is reported once
 abbrev pub hello_came : Phase → List ℕ → DtlsContents → DtlsContents
 hello_came NoRole cert p = p
 hello_came AwaitStart cert p = p
@@ -85,7 +85,7 @@ finish_came AwaitFinish p = went_on FinishedPassive (Keying ∷ Connected ∷ []
 finish_came FinishedActive p = p
 finish_came FinishedPassive p = p
 
--- and by application data. Data that comes before the other side's certificate is ignored
+-- and by application data. Data that is received before the other side's certificate is ignored
 abbrev pub data_came : Phase → List ℕ → DtlsContents → DtlsContents
 data_came NoRole bytes p = p
 data_came AwaitStart bytes p = p
@@ -95,7 +95,7 @@ data_came AwaitFinish bytes p = went_on FinishedPassive (Keying ∷ Connected �
 data_came FinishedActive bytes p = went_on FinishedActive (Data bytes ∷ []) [] p
 data_came FinishedPassive bytes p = went_on FinishedPassive (Data bytes ∷ []) [] p
 
--- the other side's close is told once
+-- the other side's close is reported once
 unfoldable pub close_told : DtlsContents → DtlsContents
 close_told p = record p { notified = true; outputs = p.outputs ++ Close ∷ [] }
 
@@ -132,11 +132,11 @@ sent_again FinishedPassive p = p
 unfoldable pub moment_taken : ℕ → DtlsContents → DtlsContents
 moment_taken now p = record p { greatest = max p.greatest now }
 
--- time passes: a timer is due where its moment came
+-- time passes: a timer is due once its moment is reached
 abbrev pub dtls_time_passed : ℕ → DtlsContents → DtlsContents
 dtls_time_passed now p = moment_taken now (if nat_le (asks_of p) now then sent_again p.phase p else p)
 
--- a close is sent where there is a role
+-- a close is sent if there is a role
 abbrev pub close_packets : Phase → List (List ℕ)
 close_packets NoRole = []
 close_packets AwaitStart = close_packet ∷ []

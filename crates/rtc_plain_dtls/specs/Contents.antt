@@ -1,4 +1,4 @@
--- What a plain part holds, and what it answers of itself.
+-- What a plain part holds, and what it returns of itself.
 use Rattle.std.specs.Prelude.{ℕ, ◌+◌, ◌-◌, ◌^◌, nat_le, if◌then◌else◌, Bool, true, false, List, [], Option, Some, None}
 use Rattle.rtc_part_dtls.specs.declared.dtls_version.DtlsVersion.{DtlsVersion}
 use Rattle.rtc_part_dtls.specs.declared.dtls_version.DtlsVersion.TheVariants.{Dtls12}
@@ -20,7 +20,7 @@ pub record DtlsContents : Type 0 where
   -- the greatest moment that was given, 0 before any
   pub greatest : ℕ
   pub closed : Bool
-  -- whether the other side's close was told
+  -- whether the other side's close was reported
   pub notified : Bool
   pub packets : List (List ℕ)
   pub outputs : List Output
@@ -52,7 +52,7 @@ resends AwaitFinish = true
 resends FinishedActive = false
 resends FinishedPassive = false
 
--- one second after a moment, where that is a moment that can come
+-- one second after a moment, if there is such a moment
 abbrev pub second_behind : ℕ → ℕ
 second_behind moment = if nat_le (moment + 1_000_000_000) (2 ^ 64 - 2) then moment + 1_000_000_000 else 2 ^ 64 - 1
 

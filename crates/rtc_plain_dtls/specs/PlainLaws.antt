@@ -90,7 +90,7 @@ use Rattle.rtc_plain_dtls.specs.PollLemmas.{
 }
 use Rattle.rtc_plain_dtls.specs.PlainMeaning.{plain_dtls, KeepsCert, LeavesDtls, SendsDtls}
 
--- answers
+-- results
 leaves_answered : (p done q : DtlsContents) (r : Result (Unit {0}) DtlsError) → LeavesDtls p done r q → DtlsAnswered 0 0 r
 leaves_answered p done q (Ok x) h = omega arith
 leaves_answered p done q (Err WouldBlock) h = absurd h

@@ -19,24 +19,24 @@ use Rattle.rtc_plain_dtls.specs.Calls.{
   dtls_output_given,
 }
 
--- a certificate is kept, or nothing changes where memory runs out
+-- a certificate is kept, or nothing changes if memory runs out
 abbrev pub KeepsCert : DtlsContents → DtlsContents → Result (Unit {0}) AllocError → DtlsContents → Type 0
 KeepsCert p done (Ok _) q = q ≡ done
 KeepsCert p done (Err _) q = q ≡ p
 
--- a call that leaves these contents, or changes nothing where memory runs out. A plain part has no faults
+-- a call that leaves these contents, or changes nothing if memory runs out. A plain part has no faults
 abbrev pub LeavesDtls : DtlsContents → DtlsContents → Result (Unit {0}) DtlsError → DtlsContents → Type 0
 LeavesDtls p done (Ok _) q = q ≡ done
 LeavesDtls p done (Err WouldBlock) q = ⊥
 LeavesDtls p done (Err Fault) q = ⊥
 LeavesDtls p done (Err Alloc) q = q ≡ p
 
--- application data has to wait exactly where the handshake is not finished
+-- application data has to wait exactly if the handshake is not finished
 abbrev pub SendsDtls : Bool → DtlsContents → DtlsContents → Result (Unit {0}) DtlsError → DtlsContents → Type 0
 SendsDtls true p done r q = LeavesDtls p done r q
 SendsDtls false p done r q = (r ≡ Err WouldBlock) × (q ≡ p)
 
--- a poll gives the oldest packet, then the oldest other output, and where there is none the moment that is asked for
+-- a poll gives the oldest packet, then the oldest other output, and if there is none the moment that is asked for
 abbrev pub PollsDtls : List (List ℕ) → List Output → DtlsContents → DtlsDrawn → DtlsContents → Type 0
 PollsDtls (packet ∷ packets) outputs p drawn q = (drawn ≡ DrewPacket packet) × (length packet ≤ 2000) × (q ≡ dtls_packet_given packets p)
 PollsDtls [] (output ∷ outputs) p drawn q = (drawn ≡ output_drawn output) × (length (drawn_bytes (output_drawn output)) ≤ 2000)

@@ -26,7 +26,7 @@ abbrev moment_in : DtlsDrawn → ℕ
 moment_in (DrewTimeout moment) = moment
 moment_in _ = 0
 
--- a timeout comes where both queues are empty
+-- a timeout is returned if both queues are empty
 pub timeout_only : (packets : List (List ℕ)) (outputs : List Output) (p q : DtlsContents) (moment : ℕ)
     → PollsDtls packets outputs p (DrewTimeout moment) q → (length packets + length outputs ≡ 0) × (q ≡ p) × (moment ≡ asks_of p)
 timeout_only (x ∷ packets) outputs p q moment h = absurd (cc (h.0))
@@ -39,7 +39,7 @@ empties (x ∷ packets) outputs p e = absurd (omega (arith, e))
 empties [] (x ∷ outputs) p e = absurd (omega (arith, e))
 empties [] [] p e = (refl, refl)
 
--- where both queues are empty, no unit of input is held
+-- if both queues are empty, no unit of input is held
 pub no_units : (packets : List (List ℕ)) (outputs : List Output) → length packets + length outputs ≡ 0 → outputs_units outputs ≡ 0
 no_units packets [] e = refl
 no_units packets (x ∷ outputs) e = absurd (omega (arith, e))

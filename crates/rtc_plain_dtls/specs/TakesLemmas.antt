@@ -1,4 +1,4 @@
--- What packets and time add to the queues of a plain part: what is told of application data came in a packet, and no
+-- What packets and time add to the queues of a plain part: what is reported of application data was in a received packet, and no
 -- application data is sent.
 use Rattle.std.proofs.Common.{ℕ, ◌≡◌, ◌≤◌, ◌+◌, Bool, true, false, inl, inr, List, [], ◌∷◌, ◌++◌, length}
 use Rattle.std.proofs.Common.{refl, sym, ap, arith, append-nil, length-append}
@@ -74,7 +74,7 @@ takes_went frame phase told sent p g u = record {
   unsent = u;
 }
 
--- one packet of the handshake is sent, and nothing is told
+-- one packet of the handshake is sent, and nothing is reported
 takes_sent : (frame : DtlsFrame) (phase : Phase) (rest : List ℕ) (p : DtlsContents) → Takes frame p (went_on phase [] ((22 ∷ rest) ∷ []) p)
 takes_sent frame phase rest p = takes_went frame phase [] ((22 ∷ rest) ∷ []) p (λ b m. absurd m) (λ b m. sent_no b m)
   where
@@ -188,7 +188,7 @@ frame_takes (said.Data bytes) p = data_takes p.phase bytes p
 frame_takes said.Close p = close_takes p.notified p
 frame_takes said.Unknown p = takes_none said.Unknown p
 
--- time tells nothing, and sends at most one packet of the handshake
+-- time reports nothing, and sends at most one packet of the handshake
 pub record Repeats (p q : DtlsContents) : Type 0 where
   pub takes : Takes said.Unknown p q
   pub nothing : q.outputs ≡ p.outputs

@@ -1,4 +1,4 @@
-//! What the other calls do, and what a part answers of itself.
+//! What the other calls do, and what a part returns of itself.
 ghost use Rattle.std.specs.Prelude.{◌≡◌, ◌≤◌, ◌+◌, length, OnOk, OnErr, true};
 ghost use Rattle.rtc_part_dtls.specs.DtlsDrawn.{dtls_drawn, polled_length};
 ghost use Rattle.rtc_plain_dtls.specs.Contents.{phase_is_finished, resends, asks_of, second_behind};
@@ -38,7 +38,7 @@ fn sends_again(phase: Phase) -> bool
     }
 }
 
-/// One second after a moment, where that is a moment that can come.
+/// One second after a moment, if there is such a moment.
 fn second_after(moment: Moment) -> Moment
     ensures { result ≡ second_behind moment }
 {

@@ -44,7 +44,7 @@ impl PlainDtls {
         }
     }
 
-    /// The first hello: the other side's certificate is told, and this side's is sent.
+    /// The first hello: the other side's certificate is reported, and this side's is sent.
     fn take_first_hello(&mut self, cert: &[u8]) -> Result<(), AllocError>
         requires awaits { self.old.phase ≡ AwaitHello }
         requires fits { length cert.now ≤ 1900 }
@@ -89,7 +89,7 @@ impl PlainDtls {
         }
     }
 
-    /// The first certificate of the passive side: it is told and answered, and the handshake is finished.
+    /// The first certificate of the passive side: it is reported and answered, and the handshake is finished.
     fn take_first_certificate(&mut self, cert: &[u8]) -> Result<(), AllocError>
         requires { length cert.now ≤ 1900 }
         ensures ok { OnOk result (self.new ≡ certificate_came AwaitCert cert.now self.old) }
@@ -192,7 +192,7 @@ impl PlainDtls {
         }
     }
 
-    /// The other side closed, which is told once.
+    /// The other side closed, which is reported once.
     #[tactic(auto, unfolding(crate::specs::Calls::close_told))]
     fn take_close(&mut self) -> Result<(), AllocError>
         ensures ok { OnOk result (self.new ≡ dtls_close_came self.old.notified self.old) }

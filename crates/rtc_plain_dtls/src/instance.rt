@@ -10,10 +10,10 @@ use std::alloc::Global;
 use std::collections::VecDeque;
 use std::marker::Model;
 
-/// A DTLS part that keeps everything in memory and has no security: certificates and data go as they are.
+/// A DTLS part in memory without security: certificates and data are sent as they are.
 ///
-/// The active side sends its certificate as a hello until the passive side's comes, which it answers by a finish. The
-/// passive side sends its own until the finish or application data comes.
+/// The active side sends its certificate as a hello until it receives the passive side's, which it acknowledges by a
+/// finish. The passive side sends its own until it receives the finish or application data.
 pub struct PlainDtls {
     pub(crate) alloc: Global,
     pub(crate) cert: Bytes,

@@ -20,7 +20,7 @@ impl DtlsInstance for PlainDtls {
         Ok(())
     }
 
-    /// The first role stays.
+    /// The first role is kept.
     fn set_active(&mut self, active: bool) {
         self.take_role(active);
     }

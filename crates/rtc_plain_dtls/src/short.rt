@@ -45,7 +45,7 @@ impl Short {
         })
     }
 
-    /// Writes them to the front of a buffer, and answers how many they are.
+    /// Writes them to the front of a buffer, and returns how many they are.
     pub fn put(&self, buf: &mut [u8]) -> usize
         requires { 2000 ≤ length buf.old }
         ensures front { take result buf.new ≡ self.now }

@@ -53,8 +53,8 @@ remote_set creds p = record p { settings = record p.settings { remote = Some cre
 unfoldable pub rto_set : ℕ → IceContents → IceContents
 rto_set initial p = record p { rto = initial }
 
--- a restart gives local credentials, drops the outstanding check, and clears the local candidates unless they are
--- kept. The pair in use stays
+-- a restart gives local credentials, drops the outstanding check, and clears the local candidates unless they are kept. The pair in use is
+-- kept
 unfoldable pub restarted : IceCreds → Bool → IceContents → IceContents
 restarted creds keeps p = record p {
   settings = record p.settings { local = creds; candidates = if keeps then p.settings.candidates else [] };
@@ -75,7 +75,7 @@ withdrawn c p = record p {
   remote_candidates = without_place c p.remote_candidates;
 }
 
--- a pair is nominated: no check is outstanding any more, and it is told
+-- a pair is nominated: no check is outstanding any more, and it is reported
 unfoldable pub nominated_with : Ends → IceContents → IceContents
 nominated_with ends p = record p {
   nominated = true;
@@ -84,7 +84,7 @@ nominated_with ends p = record p {
   events = p.events ++ StateChange Connected ∷ NominatedSend ends.proto ends.source ends.destination ∷ [];
 }
 
--- a check of the other side is told and answered, with its fragments exchanged
+-- a check of the other side is reported and answered, with its fragments exchanged
 unfoldable pub heard_check : Protocol → (source destination : Addr) → IceMessage → IceContents → IceContents
 heard_check proto source destination message p = record p {
   discovered = with_addr source p.discovered;
@@ -97,7 +97,7 @@ heard_check proto source destination message p = record p {
   } ∷ [];
 }
 
--- and a lite agent that has no pair takes the pair by which it came
+-- and a lite agent that has no pair takes the pair by which it was received
 abbrev pub check_came : Protocol → (source destination : Addr) → IceMessage → IceContents → IceContents
 check_came proto source destination message p =
     if p.settings.lite && not p.nominated
@@ -128,7 +128,7 @@ message_came (Some m) now proto source destination p =
 abbrev pub ice_input_taken : ℕ → Protocol → (source destination : Addr) → List ℕ → IceContents → IceContents
 ice_input_taken now proto source destination bytes p = message_came (ice_message_in bytes) now proto source destination p
 
--- the first check makes the state Checking, which is told
+-- the first check makes the state Checking, which is reported
 abbrev pub state_checked : IceConnectionState → IceConnectionState
 state_checked New = Checking
 state_checked Checking = Checking

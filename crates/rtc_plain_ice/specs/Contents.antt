@@ -1,4 +1,4 @@
--- What a plain agent holds, and what it answers of itself.
+-- What a plain agent holds, and what it returns of itself.
 use Rattle.std.specs.Prelude.{
   ℕ,
   ◌&&◌,
@@ -36,14 +36,14 @@ pub record IceContents : Type 0 where
   pub settings : IceSettings
   pub controlling : Bool
   pub remote_candidates : List Candidate
-  -- the addresses from which checks came, each once
+  -- the addresses from which checks were received, each once
   pub discovered : List Addr
   pub state : IceConnectionState
   -- the span from a check to the next, in nanoseconds
   pub rto : ℕ
   -- the number of the last check, 0 before the first
   pub checks : ℕ
-  -- the check to which no response came
+  -- the check without a response so far
   pub check : Option Check
   pub nominated : Bool
   -- from the last check to its response
@@ -73,7 +73,7 @@ abbrev pub ufrags_fit : Option IceCreds → List ℕ → Bool
 ufrags_fit None local = false
 ufrags_fit (Some remote) local = nat_le (length remote.ufrag) 255 && nat_le (length local) 255
 
--- the pair of the first candidates, which goes by the protocol of the local one
+-- the pair of the first candidates, with the protocol of the local one
 abbrev pub first_ends : List Candidate → List Candidate → Option Ends
 first_ends [] remote = None
 first_ends (c ∷ local) [] = None
@@ -87,7 +87,7 @@ makes_checks p = not p.settings.lite && not p.nominated && ufrags_fit p.settings
 abbrev pub next_ends : IceContents → Option Ends
 next_ends p = if makes_checks p then first_ends p.settings.candidates p.remote_candidates else None
 
--- when the next check is wanted: where the last one is due; at once where one can be made and none is outstanding
+-- when the next check is wanted: when the last one is due; at once if one can be made and none is outstanding
 abbrev pub wake_with : Option Check → Bool → Option ℕ
 wake_with (Some c) can_check = Some c.due
 wake_with None true = Some 0
@@ -96,7 +96,7 @@ wake_with None false = None
 abbrev pub ice_wake : IceContents → Option ℕ
 ice_wake p = wake_with p.check (is_some (next_ends p))
 
--- whether an address is that of a remote candidate, or one from which a check came
+-- whether an address is that of a remote candidate, or one from which a check was received
 abbrev pub is_viable : IceContents → Addr → Bool
 is_viable p a = has_viable a p.remote_candidates || has_addr a p.discovered
 
@@ -108,7 +108,7 @@ is_message_for ufrag (Some m) = bytes_eq m.receiver ufrag
 abbrev pub accepts_bytes : IceContents → List ℕ → Bool
 accepts_bytes p bytes = is_message_for p.settings.local.ufrag (ice_message_in bytes)
 
--- at most one response comes before the nomination and none after it, so that the sum is of one span
+-- at most one response is received before the nomination and none after it, so that the sum is of one span
 abbrev pub rtt_sum : Option ℕ → ℕ
 rtt_sum None = 0
 rtt_sum (Some span) = span

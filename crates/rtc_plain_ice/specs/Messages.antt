@@ -45,8 +45,8 @@ message_bytes first number receiver sender =
     first ∷ 1 ∷ to_be_bytes w16 (2 + length receiver + length sender) ++ 33 ∷ 18 ∷ 164 ∷ 66 ∷ [] ++ number
     ++ length receiver ∷ receiver ++ length sender ∷ sender
 
--- whether bytes are a STUN message: the length in the header is that of what follows, the first two bits are 0, and
--- the cookie stands in its place
+-- whether bytes are a STUN message: the length in the header is that of what follows, the first two bits are 0, and the cookie is in its
+-- place
 unfoldable pub is_ice_message : List ℕ → Bool
 is_ice_message bytes =
     nat_le 20 (length bytes) && nat_lt (slice_index bytes 0) 64

@@ -1,4 +1,4 @@
--- Where two candidates or addresses are the same, and lists of them.
+-- When two candidates or addresses are the same, and lists of them.
 use Rattle.std.specs.Prelude.{ℕ, ◌==◌, ◌&&◌, not, if◌then◌else◌, Bool, List, [], ◌∷◌, ◌++◌}
 use Rattle.std.specs.List.{list_any, filter}
 use Rattle.std.specs.Str.{bytes_eq}
@@ -7,7 +7,7 @@ use Rattle.rtc_wire.specs.declared.protocol.Protocol.{Protocol}
 use Rattle.rtc_wire.specs.declared.protocol.Protocol.TheVariants.{Udp, Tcp, SslTcp, Tls}
 use Rattle.rtc_sdp_values.specs.declared.candidate.Candidate.{Candidate}
 
--- protocols, told apart by a number
+-- protocols, distinguished by a number
 abbrev pub protocol_number : Protocol → ℕ
 protocol_number Udp = 0
 protocol_number Tcp = 1
@@ -17,7 +17,7 @@ protocol_number Tls = 3
 abbrev pub is_same_addr : Addr → Addr → Bool
 is_same_addr a b = (a.port == b.port) && bytes_eq a.ip b.ip
 
--- candidates are the same where their addresses and protocols are
+-- candidates are the same if their addresses and protocols are
 abbrev pub is_same_place : Candidate → Candidate → Bool
 is_same_place a b = (protocol_number a.proto == protocol_number b.proto) && is_same_addr a.addr b.addr
 
@@ -37,6 +37,6 @@ has_viable a candidates = list_any (λ x. is_same_addr x.addr a) candidates
 abbrev pub has_addr : Addr → List Addr → Bool
 has_addr a addresses = list_any (λ x. is_same_addr x a) addresses
 
--- a list of addresses with one more, where it is not there
+-- a list of addresses with one more, if it is not there
 abbrev pub with_addr : Addr → List Addr → List Addr
 with_addr a addresses = if has_addr a addresses then addresses else addresses ++ a ∷ []

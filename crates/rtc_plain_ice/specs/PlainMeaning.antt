@@ -9,23 +9,23 @@ use Rattle.rtc_plain_ice.specs.Places.{has_place}
 use Rattle.rtc_plain_ice.specs.Contents.{IceContents, fresh_ice, ice_wake, is_viable, accepts_bytes, rtt_sum, rtt_count}
 use Rattle.rtc_plain_ice.specs.Calls as call
 
--- a call that leaves these contents, or changes nothing where memory runs out
+-- a call that leaves these contents, or changes nothing if memory runs out
 abbrev pub LeavesIce : IceContents → IceContents → Result (Unit {0}) AllocError → IceContents → Type 0
 LeavesIce p done (Ok _) q = q ≡ done
 LeavesIce p done (Err _) q = q ≡ p
 
--- a candidate is taken exactly where the list does not hold its address and protocol
+-- a candidate is taken exactly if the list does not hold its address and protocol
 abbrev pub AddsTo : List Candidate → Candidate → IceContents → IceContents → Result Bool AllocError → IceContents → Type 0
 AddsTo list c p done (Ok true) q = (has_place c list ≡ false) × (q ≡ done)
 AddsTo list c p done (Ok false) q = (has_place c list ≡ true) × (q ≡ p)
 AddsTo list c p done (Err _) q = q ≡ p
 
--- a candidate is found exactly where a list holds its address and protocol
+-- a candidate is found exactly if a list holds its address and protocol
 abbrev pub Invalidates : IceContents → Candidate → Bool → IceContents → Type 0
 Invalidates p c true q = (has_place c p.settings.candidates || has_place c p.remote_candidates ≡ true) × (q ≡ call.withdrawn c p)
 Invalidates p c false q = (has_place c p.settings.candidates || has_place c p.remote_candidates ≡ false) × (q ≡ p)
 
--- a poll gives the oldest event, and nothing exactly where there is none
+-- a poll gives the oldest event, and nothing exactly if there is none
 abbrev pub PollsEvent : List IceEvent → IceContents → Option IceEvent → IceContents → Type 0
 PollsEvent [] p None q = q ≡ p
 PollsEvent [] p (Some event) q = ⊥

@@ -13,11 +13,10 @@ use std::alloc::Global;
 use std::collections::VecDeque;
 use std::marker::Model;
 
-/// An ICE agent that keeps everything in memory and has no security: whoever knows the user name fragments can forge
-/// its messages.
+/// An ICE agent that keeps everything in memory and has no security: whoever knows the user name fragments can forge its messages.
 ///
-/// It checks the pair of its first local and its first remote candidate until a response comes, which nominates the
-/// pair. A lite agent makes no check, and takes the pair by which the first one came.
+/// It checks the pair of its first local and its first remote candidate until it receives a response, which nominates
+/// the pair. A lite agent makes no check, and takes the pair of the first check that it received.
 pub struct PlainIce {
     pub(crate) alloc: Global,
     pub(crate) lite: bool,

@@ -1,4 +1,4 @@
-//! What is set at an agent, and what it answers of itself.
+//! What is set at an agent, and what it returns of itself.
 ghost use Rattle.std.specs.Prelude.{◌≡◌, ◌||◌, OnOk, OnErr, OnSome, IfSome, true, is_some};
 ghost use Rattle.rtc_plain_ice.specs.Places.{has_place};
 ghost use Rattle.rtc_plain_ice.specs.Contents.{next_ends, ufrags_fit, ice_wake, is_viable, accepts_bytes, first_ends};

@@ -110,7 +110,7 @@ impl CandidateTable {
         self.places.contains(&key)
     }
 
-    /// Adds a candidate unless its address and protocol are there. Answers whether it was added.
+    /// Adds a candidate unless its address and protocol are there. Returns whether it was added.
     pub fn add(&mut self, c: Candidate) -> Result<bool, AllocError>
         ensures answer { IfOk result (λ taken. (taken ≡ not (has_place c self.old))
             × (self.new ≡ (if taken then self.old ++ c ∷ [] else self.old))) }

@@ -9,7 +9,7 @@ pub struct Ends {
     pub destination: Addr,
 }
 
-/// A check to which no response came, with the moments at which it was made and at which the next is due.
+/// A check without a response so far, with the moments at which it was made and at which the next is due.
 #[derive(Clone, Copy)]
 pub struct Check {
     pub number: u64,

@@ -59,7 +59,7 @@ fn read_body<'a>(kind: u16, number: &'a [u8], body: &'a [u8]) -> Option<Message<
     })
 }
 
-/// What bytes say as a message; None where they are none.
+/// What bytes say as a message; None if they are none.
 #[tactic(auto, unfolding(crate::specs::Messages::ice_message_in))]
 pub fn read<'a>(bytes: &'a [u8]) -> Option<Message<'a>>
     ensures fits { IfSome result (λ m. (length m.receiver.now ≤ 255) × (length m.sender.now ≤ 255)) }
@@ -73,7 +73,7 @@ pub fn read<'a>(bytes: &'a [u8]) -> Option<Message<'a>>
     read_body(kind, &bytes[8..20], &bytes[20..])
 }
 
-/// The number of a check, as it stands in messages.
+/// The number of a check, as messages have it.
 pub fn number_bytes(number: u64) -> [u8; 12]
     ensures { result ≡ check_number number }
 {

@@ -21,7 +21,7 @@ pub fn tell(events: &mut VecDeque<IceEvent>, event: IceEvent)
     }
 }
 
-/// The first check changes the state, which is told.
+/// The first check changes the state, which is reported.
 pub fn start_checking(state: &mut IceConnectionState, events: &mut VecDeque<IceEvent>)
     requires { deque_len events.old < deque_capacity events.old }
     ensures state { state.new ≡ state_checked state.old }

@@ -31,7 +31,7 @@ fn response_to(alloc: Global, check: &Message<'_>) -> Result<DatagramSend, Alloc
     write(alloc, 1, check.number, check.sender, check.receiver)
 }
 
-/// Tells and answers a check that came between these ends, and leaves room for two more events.
+/// Reports and answers a check that was received between these ends, and leaves room for two more events.
 fn answer_check(
     alloc: Global,
     ends: &Ends,
@@ -122,7 +122,7 @@ fn time_since(check: &Check, now: Moment) -> Span
 }
 
 impl PlainIce {
-    /// Answers a check that came between these ends. A lite agent without a pair takes them as its pair.
+    /// Answers a check that was received between these ends. A lite agent without a pair takes them as its pair.
     #[tactic(auto, unfolding(crate::specs::Calls::heard_check, crate::specs::Calls::nominated_with))]
     fn take_check(&mut self, ends: &Ends, message: &Message<'_>) -> Result<(), AllocError>
         requires receiver_fits { length message.now.receiver.now ≤ 255 }

@@ -51,7 +51,7 @@ use Rattle.rtc_plain_media.specs.MediaCalls.{said_goodbye}
 use Rattle.rtc_plain_media.specs.PlainMediaMeaning.{MediaLeaves, MediaStays, TellsNext, GivesNext, plain_media_meaning}
 use Rattle.rtc_plain_media.specs.UpdateLemmas.{update-writer_marked}
 
--- lines and what was prepared stay, and datagrams still begin with 80
+-- lines and what was prepared are unchanged, and datagrams still begin with 80
 pub record KeepsMedia (p q : MediaContents) : Type 0 where
   pub lines : (mid : List ℕ) → update_of q mid ≡ update_of p mid
   pub pending : q.pending ≡ p.pending
@@ -62,7 +62,7 @@ pub begins_more : (ds : List (List ℕ)) (d : List ℕ) → EachBegins ds → Is
 begins_more [] d h k = (k, tt)
 begins_more (x ∷ xs) d h k = (h.0, begins_more xs d h.1 k)
 
--- what a call leaves, where both of what it may leave have a property
+-- what a call leaves, if both of what it may leave have a property
 pub leaves_with : {E : Type 0} (P : MediaContents → Type 0) (p t q : MediaContents) (r : Result (Unit {0}) E) → P p → P t
     → MediaLeaves p t r q → P q
 leaves_with P p t q (Ok x) a b h = subst P (sym h) b
@@ -95,7 +95,7 @@ pub gives_none : (queue : List (List ℕ)) (p q : MediaContents) → GivesNext q
 gives_none [] p q h = (h, refl)
 gives_none (x ∷ xs) p q h = absurd h
 
--- what is left where both the part and what a call makes of it keep what p has
+-- what is left if both the part and what a call makes of it keep what p has
 keeps_self : (p : MediaContents) → KeepsMedia p p
 keeps_self p = record { lines = λ mid. refl; pending = refl; begins = λ b. b }
 

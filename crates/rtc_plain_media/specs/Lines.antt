@@ -33,7 +33,7 @@ abbrev pub writer_mark : Option HeldLine → PlainMark
 writer_mark None = record { count = 0 }
 writer_mark (Some line) = line.mark
 
--- an update takes the place of the line of its mid, which keeps its writer, or else goes last
+-- an update takes the place of the line of its mid, which keeps its writer, or else becomes the last one
 abbrev pub set_line : MediaUpdate → Lines → Lines
 set_line u lines = insert_entry same_key lines (key_of (update_mid u)) (record {
   update = u;
@@ -45,7 +45,7 @@ abbrev pub tell_changed : List ℕ → Direction → LineRow → Option PlainMed
 tell_changed mid dir (Media place _ kind before stopped remote_created) = if same_direction before dir then None else Some (Changed mid dir)
 tell_changed mid dir (App place _) = None
 
--- what is told of a row, from the line of its mid before: that it is new, or that its direction changed
+-- what is reported of a row, from the line of its mid before: that it is new, or that its direction changed
 abbrev pub tell_row : LineRow → (announce : Bool) → Option HeldLine → Option PlainMediaEvent
 tell_row (Media place mid kind dir stopped remote_created) true before = Some (Added mid kind dir)
 tell_row (Media place mid kind dir stopped remote_created) false None = None
@@ -59,7 +59,7 @@ some_event (Some event) = event ∷ []
 abbrev pub events_of : MediaUpdate → Lines → List PlainMediaEvent
 events_of u lines = some_event (tell_row u.row u.announce (held_line (update_mid u) lines))
 
--- the lines after some updates in turn, and what is told of them
+-- the lines after some updates in turn, and what is reported of them
 abbrev pub lines_after : List MediaUpdate → Lines → Lines
 lines_after [] lines = lines
 lines_after (u ∷ us) lines = lines_after us (set_line u lines)

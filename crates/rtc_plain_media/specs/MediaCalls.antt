@@ -31,7 +31,7 @@ applied p =
 abbrev pub line_dropped : List ℕ → MediaContents → MediaContents
 line_dropped mid p = dropped (λ other. same_mid other mid) p
 
--- a packet, where raw packets are told
+-- a packet, if raw packets are reported
 abbrev pub if_raw : Bool → RawPacket → Option RawPacket
 if_raw true packet = Some packet
 if_raw false packet = None

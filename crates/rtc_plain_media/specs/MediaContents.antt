@@ -1,4 +1,4 @@
--- What the plain media part holds, and what its readings answer.
+-- What the plain media part holds, and what its readings return.
 use Rattle.std.specs.Prelude.{ℕ, ◌&&◌, ◌||◌, Bool, true, false, List, [], ◌∷◌, Option, Some, None}
 use Rattle.std.specs.Option.{is_some, option_map}
 use Rattle.std.specs.List.{list_any}
@@ -12,7 +12,7 @@ use Rattle.rtc_plain_media.specs.Lines.{Lines, held_line}
 use Rattle.rtc_plain_media.specs.Streams.{Streams, is_ssrc, is_of_line, row_uses}
 
 pub record MediaContents : Type 0 where
-  -- whether packets are told as events, whether keys were given, and whether goodbye was said
+  -- whether raw packets are reported as events, whether keys were given, and whether goodbye was said
   pub raw_packets : Bool
   pub is_keyed : Bool
   pub is_shut : Bool
@@ -41,14 +41,14 @@ fresh_media = record {
 abbrev pub update_of : MediaContents → List ℕ → Option MediaUpdate
 update_of p mid = option_map (λ (line : HeldLine). line.update) (held_line mid p.lines)
 
--- a source of a line, or its retransmissions, has an ssrc
+-- an SSRC of a line, or its RTX SSRC, is this one
 abbrev pub source_uses : Ssrc → Ssrc × Option Ssrc → Bool
 source_uses ssrc source = is_ssrc (Some source.0) ssrc || is_ssrc source.1 ssrc
 
 abbrev pub line_uses : Ssrc → LineKey × HeldLine → Bool
 line_uses ssrc line = list_any (source_uses ssrc) line.1.update.ssrcs_tx || list_any (source_uses ssrc) line.1.update.ssrcs_rx
 
--- a stream or a line has an ssrc
+-- a stream or a line has an SSRC
 abbrev pub media_uses : MediaContents → Ssrc → Bool
 media_uses p ssrc = list_any (row_uses ssrc) p.rx || (list_any (row_uses ssrc) p.tx || list_any (line_uses ssrc) p.lines)
 

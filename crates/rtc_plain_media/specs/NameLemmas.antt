@@ -1,4 +1,4 @@
--- Streams that are found by their line and layer, and by their ssrc.
+-- Streams that are found by their line and layer, and by their SSRC.
 use Rattle.std.proofs.Common.{◌≡◌, ◌⊎◌, inl, inr, ℕ, ◌||◌, ◌&&◌, Bool, true, false, Option, Some, None}
 use Rattle.std.proofs.Common.{List, [], ◌∷◌, refl, sym, ap, ◌∙◌, true≢false}
 use Rattle.std.specs.List.{list_any}
@@ -70,14 +70,14 @@ found_layer rx tx mid h = by (or_case (list_any (is_of_line mid) rx) (list_any (
     by (inl a) = let there = layer_there mid rx a in (there.0, inl there.1)
     by (inr a) = let there = layer_there mid tx a in (there.0, inr there.1)
 
--- where a stream has an ssrc, the first one is found by its line and layer
+-- if a stream has an SSRC, the first one is found by its line and layer
 pub named_stream : (ssrc : Ssrc) (rows : Streams) → list_any (has_ssrc ssrc) rows ≡ true
     → (mid : List ℕ) × ((rid : Option (List ℕ)) × (list_any (has_name mid rid) rows ≡ true))
 named_stream ssrc [] h = absurd (true≢false (sym h))
 named_stream ssrc (x ∷ xs) h =
     (x.mid, (x.rid, or_left (has_name x.mid x.rid x) (list_any (has_name x.mid x.rid) xs) (own_name x)))
 
--- a stream is found by its ssrc, and by its line and layer
+-- a stream is found by its SSRC, and by its line and layer
 abbrev pub Finds : Streams → Ssrc → List ℕ → Option (List ℕ) → Type 0
 Finds rows ssrc mid rid = (list_any (has_ssrc ssrc) rows ≡ true) × (list_any (has_name mid rid) rows ≡ true)
 

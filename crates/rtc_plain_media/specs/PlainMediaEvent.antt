@@ -12,7 +12,7 @@ packet_shown (Changed mid dir) = None
 packet_shown (Rtp len) = None
 packet_shown (Rtcp len) = None
 
--- the event that shows a packet, where one is told
+-- the event that shows a packet, if one is reported
 abbrev pub raw_event : Option RawPacket → List PlainMediaEvent
 raw_event None = []
 raw_event (Some packet) = Raw packet ∷ []

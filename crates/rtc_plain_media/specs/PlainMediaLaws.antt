@@ -103,7 +103,7 @@ use Rattle.rtc_plain_media.specs.ActLemmas.{
 abbrev Plain : (p q : MediaContents) → Type 0
 Plain p q = SameLines plain_media_meaning p q
 
--- lines and used ssrcs are those of another part
+-- lines and used SSRCs are those of another part
 same_as : (p t q : MediaContents) → Plain p t → q ≡ t → Plain p q
 same_as p t q s h = subst (Plain p) (sym h) s
 
@@ -130,7 +130,7 @@ no_streams : (p : MediaContents) (mid : List ℕ) (gone : List ℕ → Bool) →
     → has_streams_of (record p { rx = without_streams gone p.rx; tx = without_streams gone p.tx }) mid ≡ false
 no_streams p mid gone h = or_none _ _ (any-without mid gone p.rx h) (any-without mid gone p.tx h)
 
--- whatever mark is written, the ssrcs in use stay
+-- whatever mark is written, the SSRCs in use are unchanged
 mark_uses : (ssrc : Ssrc) (fits : StreamRow → Bool) (w : PlainMark) (rows : Streams)
     → list_any (row_uses ssrc) (marked fits w rows) ≡ list_any (row_uses ssrc) rows
 mark_uses ssrc fits w rows = any-change (row_uses ssrc) fits (λ row. record row { mark = w }) rows (λ row. refl)
@@ -218,7 +218,7 @@ module _ (p : MediaContents) (ssrc : Ssrc) (rtx : Option Ssrc) (mid : List ℕ) 
         [ inl a ↦ inr a | inr a ↦ inl a ];
   }
 
--- two mids that differ are told apart
+-- two mids that differ are distinguished
 other_mid : (a b : List ℕ) → a ≢ b → same_mid a b ≡ false
 other_mid a b n = by (same_mid a b) refl
   where

@@ -48,7 +48,7 @@ abbrev pub MediaStays : {T E : Type 0} → T → MediaContents → Result T E �
 MediaStays answer p (Ok x) q = (x ≡ answer) × (q ≡ p)
 MediaStays answer p (Err e) q = ⊥
 
--- the oldest event is told
+-- the oldest event is reported
 abbrev pub TellsNext : List PlainMediaEvent → MediaContents → Option PlainMediaEvent → MediaContents → Type 0
 TellsNext [] p None q = q ≡ p
 TellsNext [] p (Some event) q = ⊥

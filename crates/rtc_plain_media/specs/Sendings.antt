@@ -19,7 +19,7 @@ queued_begin p q t (ChangingLines (Committed h) e) b = subst (λ (c : MediaConte
 queued_begin p q t (ChangingLines (LineRemoved mid h) e) b = subst (λ (c : MediaContents). EachBegins c.datagrams) (sym h) b
 queued_begin p q t (Staying (Preparing updates e h)) b = subst (λ (c : MediaContents). EachBegins c.datagrams) (sym h) b
 
--- where those that wait begin with 80, those that are taken do, too
+-- if those that wait begin with 80, those that are taken do, too
 pub taken_begin : (p q : MediaContents) (acts : List MediaAct) → EachBegins p.datagrams → MediaMoved plain_media_meaning p acts q
     → EachBegins (datagrams_taken acts)
 taken_begin p q [] b h = tt

@@ -1,4 +1,4 @@
--- How often each ssrc stands among the sources of lines, so that one in use is found without a walk over the lines.
+-- How often each SSRC is among those of lines, so that one in use is found without a walk over the lines.
 use Rattle.std.specs.Prelude.{◌≡◌, ◌==◌, ◌+◌, ◌*◌, ◌^◌, ◌≤◌, ◌<◌, nat_eq, filter, ℕ, Bool}
 use Rattle.std.specs.Prelude.{List, [], ◌∷◌, Option, Some, None, length, if◌then◌else◌}
 use Rattle.std.specs.Map.{count_at}
@@ -8,7 +8,7 @@ use Rattle.rtc_part_media.specs.declared.media_update.MediaUpdate.{MediaUpdate}
 use Rattle.rtc_plain_media.specs.declared.held_line.HeldLine.{HeldLine}
 use Rattle.rtc_plain_media.specs.Lines.{Lines}
 
--- 1 where two numbers are the same
+-- 1 if two numbers are the same
 abbrev pub same_once : ℕ → ℕ → ℕ
 same_once number other = if other == number then 1 else 0
 
@@ -16,7 +16,7 @@ abbrev pub ssrc_count : ℕ → Option Ssrc → ℕ
 ssrc_count number None = 0
 ssrc_count number (Some ssrc) = same_once number ssrc.0
 
--- how often a number is that of a source or of its retransmissions
+-- how often a number is that of an SSRC or of its RTX SSRC
 abbrev pub source_count : ℕ → Ssrc × Option Ssrc → ℕ
 source_count number source = same_once number source.0.0 + ssrc_count number source.1
 
@@ -60,8 +60,8 @@ CountsLines counts lines = (number : ℕ) → count_for counts number ≡ lines_
 abbrev pub CountsLess : {S : Type 0} → IndexMap ℕ ℕ S → IndexMap ℕ ℕ S → Type 0
 CountsLess old new = (number : ℕ) → count_for new number ≤ count_for old number
 
--- what a part keeps of its counts: room for the ssrcs of what is prepared, a bound that no count will pass, and that they are those
--- of the lines
+-- what a part keeps of its counts: room for the SSRCs of what is prepared, a bound that no count will pass, and that they are those of the
+-- lines
 pub record KeepsCounts {S : Type 0} (counts : IndexMap ℕ ℕ S) (most : ℕ) (pending : List MediaUpdate) (lines : Lines) : Type 0 where
   pub room : updates_numbers pending ≤ spare counts
   pub bounded : most < 2 ^ 64

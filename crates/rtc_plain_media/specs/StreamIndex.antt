@@ -1,4 +1,4 @@
--- Streams that are found without a walk over them: by ssrc, by line and layer, and by each number that one has.
+-- Streams that are found without a walk over them: by SSRC, by line and layer, and by each number that one has.
 use Rattle.std.specs.Prelude.{◌≡◌, ◌==◌, ◌&&◌, ◌+◌, ◌*◌, ◌≤◌, nat_eq, ℕ, Bool, List, Option, Some, None, length, if◌then◌else◌}
 use Rattle.std.specs.List.{list_any, position_from}
 use Rattle.std.specs.Option.{option_eq}
@@ -25,7 +25,7 @@ layer_key (Some rid) = Some (record { rid = rid })
 abbrev pub stream_name : List ℕ → Option (List ℕ) → StreamName
 stream_name mid rid = record { line = record { mid = mid }; layer = layer_key rid }
 
--- a row is that of the ssrc with this number
+-- a row is that of the SSRC with this number
 abbrev pub is_numbered : ℕ → StreamRow → Bool
 is_numbered number row = row.ssrc.0 == number
 
@@ -61,7 +61,7 @@ UsesRoomOfOne old new = (spare old ≤ spare new + 1) × (room_of old ≤ room_o
 abbrev pub KeepsEntries : {K X S : Type 0} → IndexMap K X S → IndexMap K X S → Type 0
 KeepsEntries old new = (new.entries ≡ old.entries) × (spare old ≤ spare new)
 
--- the place of the first row of each ssrc, that of the first of each name, and which numbers the rows have
+-- the place of the first row of each SSRC, that of the first of each name, and which numbers the rows have
 pub record FindsStreams (index : StreamIndex) (rows : Streams) : Type 0 where
   pub places : (number : ℕ) → get nat_eq index.places number ≡ position_from (is_numbered number) 0 rows
   pub names : (name : StreamName) → get same_name index.names name ≡ position_from (has_stream_name name) 0 rows

@@ -8,7 +8,7 @@ use Rattle.rtc_plain_media.specs.declared.stream_row.StreamRow.{StreamRow}
 abbrev pub Streams : Type 0
 Streams = List StreamRow
 
--- a row is that of an ssrc
+-- a row is that of an SSRC
 abbrev pub has_ssrc : Ssrc → StreamRow → Bool
 has_ssrc ssrc row = row.ssrc.0 == ssrc.0
 
@@ -30,7 +30,7 @@ abbrev pub is_ssrc : Option Ssrc → Ssrc → Bool
 is_ssrc None ssrc = false
 is_ssrc (Some other) ssrc = other.0 == ssrc.0
 
--- a stream or its retransmissions have an ssrc
+-- a stream or its retransmissions have an SSRC
 abbrev pub row_uses : Ssrc → StreamRow → Bool
 row_uses ssrc row = has_ssrc ssrc row || is_ssrc row.rtx ssrc
 
@@ -42,7 +42,7 @@ new_mark = record { count = 0 }
 abbrev pub made_stream_row : Ssrc → Option Ssrc → List ℕ → Option (List ℕ) → StreamRow
 made_stream_row ssrc rtx mid rid = record { ssrc = ssrc; rtx = rtx; mid = mid; rid = rid; mark = new_mark }
 
--- a row in the place of the first of its ssrc, or else as a last one
+-- a row in the place of the first of its SSRC, or else as a last one
 abbrev pub put_row : StreamRow → Streams → Streams
 put_row r [] = r ∷ []
 put_row r (x ∷ xs) = if has_ssrc r.ssrc x then r ∷ xs else x ∷ put_row r xs
@@ -66,12 +66,12 @@ abbrev pub first_passes : (StreamRow → Bool) → (StreamRow → Bool) → Stre
 first_passes fits test [] = false
 first_passes fits test (row ∷ rows) = if fits row then test row else first_passes fits test rows
 
--- retransmissions are new to a row that has none, and else where they are others
+-- an RTX SSRC is new to a row that has none, and else if it is another one
 abbrev pub are_new : Option Ssrc → Option Ssrc → Bool
 are_new None rtx = true
 are_new (Some held) rtx = not (is_ssrc rtx held)
 
--- a row may take an ssrc and retransmissions where both are new to it
+-- a row may take an SSRC and an RTX SSRC if both are new to it
 abbrev pub row_can_renumber : Ssrc → Option Ssrc → StreamRow → Bool
 row_can_renumber ssrc rtx row = if has_ssrc ssrc row then false else are_new row.rtx rtx
 

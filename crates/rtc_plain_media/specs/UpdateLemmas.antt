@@ -13,7 +13,7 @@ use Rattle.rtc_plain_media.specs.Lines.{Lines, same_key, key_of, held_line, writ
 use Rattle.rtc_plain_media.specs.MediaContents.{MediaContents, update_of}
 use Rattle.rtc_plain_media.specs.MediaCalls.{applied, line_dropped, writer_marked}
 
--- two mids are the same by their bytes exactly where they are equal
+-- two mids are the same by their bytes exactly if they are equal
 pub same_is : (a b : List ℕ) → same_mid a b ≡ true → a ≡ b
 same_is a b h = (bytes_decides a b).0 h
 
@@ -115,7 +115,7 @@ line-applied p mid =
     update-lines_after mid p.pending (without_lines gone p.lines)
     ∙ ap (latest mid p.pending) (ap its_update (look_without mid gone p.lines) ∙ update_none (gone mid) (held_line mid p.lines))
 
--- a line that is dropped is gone, and the others stay
+-- a line that is dropped is gone, and the others are unchanged
 pub line-dropped : (p : MediaContents) (mid : List ℕ) → update_of (line_dropped mid p) mid ≡ None
 line-dropped p mid =
     ap its_update (look_without mid (λ other. same_mid other mid) p.lines)

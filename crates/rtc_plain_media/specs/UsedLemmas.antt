@@ -1,4 +1,4 @@
--- Which ssrcs and which streams are there, after changes of the tables.
+-- Which SSRCs and which streams are there, after changes of the tables.
 use Rattle.std.proofs.Common.{
   ◌≡◌,
   ◌⊎◌,
@@ -152,7 +152,7 @@ any-without mid gone (x ∷ xs) h = by (gone x.mid) refl (is_of_line mid x) refl
     by false is false of more = ap (λ (t : Bool). list_any (is_of_line mid) (cond (not t) (x
         ∷ without_streams gone xs) (without_streams gone xs))) is ∙ or_none (is_of_line mid x) _ of more
 
--- a writer's mark is no source
+-- a writer's mark is no SSRC
 pub any-writer_marked : (ssrc : Ssrc) (mid : List ℕ) (w : PlainMark) (ls : Lines)
     → list_any (line_uses ssrc) (writer_marked mid w ls) ≡ list_any (line_uses ssrc) ls
 any-writer_marked ssrc mid w [] = refl
@@ -166,7 +166,7 @@ any-writer_marked ssrc mid w (e ∷ es) = by (same_key (key_of mid) e.0) refl (a
     by false is more = ap (λ (t : Bool). list_any (line_uses ssrc) (cond t ((e.0, record e.1 { mark = w }) ∷ es) (e
         ∷ writer_marked mid w es))) is ∙ ap (λ (t : Bool). line_uses ssrc e || t) more
 
--- an ssrc that a stream or its retransmissions have is one of the two
+-- an SSRC that a stream or its retransmissions have is one of the two
 pub uses_is : (ssrc : Ssrc) (rtx : Option Ssrc) (other : Ssrc) → ((ssrc.0 == other.0) || is_ssrc rtx other) ≡ true
     → (other ≡ ssrc) ⊎ (rtx ≡ Some other)
 uses_is ssrc rtx other h =

@@ -32,8 +32,8 @@ pub fn copy_updates(
     Ok(copies)
 }
 
-/// Makes room for the lines, the ssrcs and the events of some updates, beside so many events for which room is kept. It answers how many
-/// ssrcs the updates so far, which could have so many at most, can have with them.
+/// Makes room for the lines, the SSRCs and the events of some updates, beside so many events for which room is kept.
+/// Returns how many SSRCs the updates so far, which could have so many at most, can have with them.
 pub fn make_ready(
     lines: &mut Lines,
     counts: &mut SourceCounts,
@@ -72,7 +72,7 @@ fn copied(alloc: Global, packet: &[u8]) -> Result<Bytes, AllocError>
     Ok(Bytes::new(bytes))
 }
 
-/// A copy of an RTP packet that came, where packets are told.
+/// A copy of a received RTP packet, if raw packets are reported.
 pub fn raw_rtp(
     alloc: Global,
     raw_packets: bool,
@@ -87,7 +87,7 @@ pub fn raw_rtp(
     Ok(Some(RawPacket::RtpRx(bytes)))
 }
 
-/// A copy of an RTCP packet that came, where packets are told.
+/// A copy of a received RTCP packet, if raw packets are reported.
 pub fn raw_rtcp(
     alloc: Global,
     raw_packets: bool,

@@ -28,7 +28,7 @@ pub fn make_room(
     }
 }
 
-/// Queues the event of a packet, and before it the packet, if it is told. So much room stays for other events.
+/// Queues the event of a packet, and before it the raw packet, if there is one. So much room is left for other events.
 pub fn queue_packet(
     events: &mut VecDeque<PlainMediaEvent>,
     kept: usize,

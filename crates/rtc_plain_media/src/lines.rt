@@ -58,7 +58,7 @@ fn tell_changed(mid: Mid, dir: Direction, before: &LineRow) -> Option<PlainMedia
     }
 }
 
-/// What is told of a row, from the line of its mid before.
+/// What is reported of a row, from the line of its mid before.
 fn tell_row(row: &LineRow, announce: bool, before: Option<&HeldLine>) -> Option<PlainMediaEvent>
     ensures { result ≡ tell_row row.now announce (option_copied before.entry) }
 {
@@ -86,7 +86,7 @@ fn mark_at(lines: &Lines, key: &LineKey) -> PlainMark
     }
 }
 
-/// What is told of an update.
+/// What is reported of an update.
 fn event_at(lines: &Lines, key: &LineKey, update: &MediaUpdate) -> Option<PlainMediaEvent>
     ensures { result ≡ tell_row update.now.row update.now.announce (held_line key.now.mid lines.now.entries) }
 {
@@ -106,7 +106,7 @@ fn tell(events: &mut VecDeque<PlainMediaEvent>, event: Option<PlainMediaEvent>)
     }
 }
 
-/// Puts a line in room that was made, and answers the line of its mid before.
+/// Puts a line in room that was made, and returns the line of its mid before.
 fn put_line(lines: &mut Lines, key: LineKey, line: HeldLine) -> Option<HeldLine>
     requires { 0 < spare lines.old }
     ensures before { result ≡ held_line key.mid lines.old.entries }
@@ -122,7 +122,7 @@ fn put_line(lines: &mut Lines, key: LineKey, line: HeldLine) -> Option<HeldLine>
 /// Drops a value, by one call for all that is in it.
 fn release<T: Drop>(_value: T) {}
 
-/// Counts no more the sources of a line, where there was one.
+/// Counts the SSRCs of a line no more, if there was one.
 fn drop_sources(counts: &mut SourceCounts, line: &Option<HeldLine>)
     ensures counts { (n : ℕ) → count_for counts.new n ≡ count_for counts.old n - held_count n line.now }
     ensures room { spare counts.old ≤ spare counts.new }
@@ -132,7 +132,7 @@ fn drop_sources(counts: &mut SourceCounts, line: &Option<HeldLine>)
     }
 }
 
-/// Puts an update in the place of the line of its mid, and tells of it. Room was made for all of it.
+/// Puts an update in the place of the line of its mid, and reports it. Room was made for all of it.
 fn apply(
     lines: &mut Lines,
     counts: &mut SourceCounts,
@@ -213,7 +213,7 @@ fn any_names(updates: &VecDeque<MediaUpdate>, mid: Mid) -> bool
     updates.iter().any(|update| mid == update.row.mid())
 }
 
-/// Whether a mid stands as removed in some updates, and in no row.
+/// Whether a mid is removed by some updates, and has no row.
 pub fn is_removed(updates: &VecDeque<MediaUpdate>, mid: Mid) -> bool
     ensures { result ≡ removed_by updates.now.items mid }
 {
@@ -227,7 +227,7 @@ pub fn any_removal(updates: &VecDeque<MediaUpdate>) -> bool
     updates.iter().any(|update| update.removed.is_some())
 }
 
-/// Counts the sources of lines no more that some updates remove.
+/// Counts the SSRCs of lines no more that some updates remove.
 fn drop_removed_sources(counts: &mut SourceCounts, lines: &Lines, updates: &VecDeque<MediaUpdate>)
     ensures counts { (n : ℕ) → count_for counts.new n
         ≡ count_for counts.old n - gone_count n (removed_by updates.now.items) lines.now.entries }
@@ -240,7 +240,7 @@ fn drop_removed_sources(counts: &mut SourceCounts, lines: &Lines, updates: &VecD
     }
 }
 
-/// Counts the sources of a line no more.
+/// Counts the SSRCs of a line no more.
 fn drop_sources_of(counts: &mut SourceCounts, lines: &Lines, mid: Mid)
     ensures counts { (n : ℕ) → count_for counts.new n
         ≡ count_for counts.old n - gone_count n (λ other. same_mid other mid) lines.now.entries }
@@ -269,7 +269,7 @@ fn retain_others(lines: &mut Lines, mid: Mid)
     lines.retain(|key, _line| key.mid != mid);
 }
 
-/// Drops the lines that some updates remove, and counts their sources no more. The lines are looked through only where one does.
+/// Drops the lines that some updates remove, and counts their SSRCs no more. The lines are looked through only if one does.
 pub fn drop_removed(lines: &mut Lines, counts: &mut SourceCounts, updates: &VecDeque<MediaUpdate>)
     ensures lines { lines.new.entries ≡ without_lines (removed_by updates.now.items) lines.old.entries }
     ensures spare { spare lines.old ≤ spare lines.new }
@@ -284,7 +284,7 @@ pub fn drop_removed(lines: &mut Lines, counts: &mut SourceCounts, updates: &VecD
     retain_lines(lines, updates);
 }
 
-/// Drops a line, and counts its sources no more.
+/// Drops a line, and counts its SSRCs no more.
 pub fn drop_line(lines: &mut Lines, counts: &mut SourceCounts, mid: Mid)
     ensures lines { lines.new.entries ≡ without_lines (λ other. same_mid other mid) lines.old.entries }
     ensures spare { spare lines.old ≤ spare lines.new }

@@ -161,7 +161,7 @@ impl MediaSession for PlainMedia {
         }
     }
 
-    /// Nothing is switched; the answer says whether the line has redundancy.
+    /// Nothing is switched; it returns whether the line has redundancy.
     fn set_red_send(&mut self, mid: Mid, _on: bool) -> bool {
         has_red(&self.lines, mid)
     }

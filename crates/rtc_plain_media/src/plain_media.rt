@@ -20,9 +20,9 @@ pub struct PlainMedia {
     pub(crate) is_keyed: bool,
     pub(crate) is_shut: bool,
     pub(crate) lines: Lines,
-    /// How often each ssrc stands among the sources of the lines.
+    /// How often each SSRC is among those of the lines.
     pub(crate) counts: SourceCounts,
-    /// How many ssrcs the updates so far can have had at most. No count is greater.
+    /// How many SSRCs the updates so far can have had at most. No count is greater.
     pub(crate) most: usize,
     pub(crate) pending: VecDeque<MediaUpdate>,
     pub(crate) rx: StreamTable,

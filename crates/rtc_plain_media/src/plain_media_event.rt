@@ -1,19 +1,19 @@
-//! What the plain media part tells.
+//! What the plain media part reports.
 use rtc_part_media::{MediaEvent, RawPacket};
 use rtc_sdp_values::{Direction, MediaKind, Mid};
 
 /// An event of the plain media part.
 #[derive(Debug, PartialEq, Eq, Drop)]
 pub enum PlainMediaEvent {
-    /// A new line came live in an offer.
+    /// An offer made a new line live.
     Added(Mid, MediaKind, Direction),
     /// The direction of a line changed.
     Changed(Mid, Direction),
-    /// An RTP packet of so many bytes came.
+    /// An RTP packet of so many bytes was received.
     Rtp(usize),
-    /// An RTCP packet of so many bytes came.
+    /// An RTCP packet of so many bytes was received.
     Rtcp(usize),
-    /// A packet, where raw packets are on.
+    /// A packet, if raw packets are on.
     Raw(RawPacket),
 }
 

@@ -1,4 +1,4 @@
-//! What the part answers of its lines.
+//! What the part returns of its lines.
 ghost use Rattle.std.specs.Prelude.{◌≡◌};
 ghost use Rattle.std.specs.List.{list_any};
 ghost use Rattle.rtc_plain_media.specs.Lines.{Lines as LinesHeld, held_line};
@@ -27,7 +27,7 @@ pub fn has_red(lines: &Lines, mid: Mid) -> bool
     }
 }
 
-/// Whether a source of some line has an ssrc, by the counts of the lines.
+/// Whether some line has an SSRC, by the counts of the lines.
 pub fn lines_use(counts: &SourceCounts, ssrc: Ssrc) -> bool
     ensures { (lines : LinesHeld) → CountsLines counts.now lines → result ≡ list_any (line_uses ssrc) lines }
 {

@@ -1,4 +1,4 @@
-//! How often each ssrc stands among the sources of lines.
+//! How often each SSRC is among those of lines.
 ghost use Rattle.std.specs.Prelude.{◌≡◌, ◌≤◌, ◌<◌, ◌+◌, ◌-◌, ◌*◌, ◌^◌, ℕ, IfOk, length};
 ghost use Rattle.indexmap.specs.IndexMap.{spare};
 ghost use Rattle.rtc_plain_media.specs.SourceCounts.{
@@ -17,10 +17,10 @@ use rtc_part_media::MediaUpdate;
 use rtc_sdp_values::Ssrc;
 use std::alloc::AllocError;
 
-/// The counts by the numbers of the ssrcs. What no source has is not there.
+/// The counts by the numbers of the SSRCs. One that no line has is missing.
 pub type SourceCounts = IndexMap<u32, usize>;
 
-/// How often an ssrc stands there.
+/// How often an SSRC is there.
 pub fn count_of(counts: &SourceCounts, number: u32) -> usize
     ensures { result ≡ count_for counts.now number }
 {
@@ -58,7 +58,7 @@ fn drop_number(counts: &mut SourceCounts, number: u32)
     }
 }
 
-/// Counts a source and its retransmissions, in room that was made.
+/// Counts an SSRC and its RTX SSRC, in room that was made.
 fn add_source(counts: &mut SourceCounts, source: &(Ssrc, Option<Ssrc>))
     requires room { 2 ≤ spare counts.old }
     requires fits { (n : ℕ) → count_for counts.old n + 2 < 2 ^ 64 }
@@ -71,7 +71,7 @@ fn add_source(counts: &mut SourceCounts, source: &(Ssrc, Option<Ssrc>))
     }
 }
 
-/// Counts a source and its retransmissions no more.
+/// Counts an SSRC and its RTX SSRC no more.
 fn drop_source(counts: &mut SourceCounts, source: &(Ssrc, Option<Ssrc>))
     ensures counts { (n : ℕ) → count_for counts.new n ≡ count_for counts.old n - source_count n source.now }
     ensures room { spare counts.old ≤ spare counts.new }
@@ -102,7 +102,7 @@ fn drop_sources(counts: &mut SourceCounts, sources: &[(Ssrc, Option<Ssrc>)])
     }
 }
 
-/// Counts the sources of a line, in room that was made.
+/// Counts the SSRCs of a line, in room that was made.
 pub fn add_line(counts: &mut SourceCounts, line: &MediaUpdate)
     requires room { update_numbers line.now ≤ spare counts.old }
     requires fits { (n : ℕ) → count_for counts.old n + update_numbers line.now < 2 ^ 64 }
@@ -113,7 +113,7 @@ pub fn add_line(counts: &mut SourceCounts, line: &MediaUpdate)
     add_sources(counts, line.ssrcs_rx.as_slice());
 }
 
-/// Counts the sources of a line no more.
+/// Counts the SSRCs of a line no more.
 pub fn drop_line(counts: &mut SourceCounts, line: &MediaUpdate)
     ensures counts { (n : ℕ) → count_for counts.new n ≡ count_for counts.old n - update_count n line.now }
     ensures room { spare counts.old ≤ spare counts.new }
@@ -122,7 +122,7 @@ pub fn drop_line(counts: &mut SourceCounts, line: &MediaUpdate)
     drop_sources(counts, line.ssrcs_rx.as_slice());
 }
 
-/// A sum, or out of memory where it is beyond the range.
+/// A sum, or out of memory if it is beyond the range.
 pub fn add(count: usize, more: usize) -> Result<usize, AllocError>
     ensures sum { IfOk result (λ sum. sum ≡ count + more) }
     ensures fits { IfOk result (λ sum. sum < 2 ^ 64) }
@@ -133,7 +133,7 @@ pub fn add(count: usize, more: usize) -> Result<usize, AllocError>
     }
 }
 
-/// How many numbers an update can have at most, or out of memory where that is beyond the range.
+/// How many numbers an update can have at most, or out of memory if that is beyond the range.
 fn numbers_of(update: &MediaUpdate) -> Result<usize, AllocError>
     ensures { IfOk result (λ numbers. numbers ≡ update_numbers update.now) }
 {
@@ -145,7 +145,7 @@ fn numbers_of(update: &MediaUpdate) -> Result<usize, AllocError>
     Ok(numbers)
 }
 
-/// How many numbers some updates can have at most, or out of memory where that is beyond the range.
+/// How many numbers some updates can have at most, or out of memory if that is beyond the range.
 pub fn numbers_in(updates: &[MediaUpdate]) -> Result<usize, AllocError>
     ensures { IfOk result (λ numbers. numbers ≡ updates_numbers updates.now) }
 {

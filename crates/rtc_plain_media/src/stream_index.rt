@@ -1,4 +1,4 @@
-//! Where streams stand, by what they are looked for by.
+//! The places of streams, by what they are looked up by.
 ghost use Rattle.std.specs.Prelude.{
   ◌≡◌,
   ◌≤◌,
@@ -45,15 +45,15 @@ use indexmap::{IndexMap, IndexSet};
 use rtc_sdp_values::{Mid, Rid, Ssrc};
 use std::alloc::{AllocError, Global};
 
-/// The place of the first stream of each ssrc, that of the first of each line and layer, and the numbers that
-/// streams and their retransmissions have.
+/// The place of the first stream of each SSRC, that of the first of each line and layer, and the numbers that streams
+/// and their retransmissions have.
 pub struct StreamIndex {
     pub places: IndexMap<u32, usize>,
     pub names: IndexMap<StreamName, usize>,
     pub numbers: IndexSet<u32>,
 }
 
-/// Puts the place of an ssrc, where it has none, in room that was made.
+/// Puts the place of an SSRC, if it has none, in room that was made.
 fn put_place(places: &mut IndexMap<u32, usize>, number: u32, at: usize)
     requires { 0 < spare places.old }
     ensures put { PutsPlace nat_eq number at places.old places.new }
@@ -67,7 +67,7 @@ fn put_place(places: &mut IndexMap<u32, usize>, number: u32, at: usize)
     }
 }
 
-/// Puts the place of a line and a layer, where they have none, in room that was made.
+/// Puts the place of a line and a layer, if they have none, in room that was made.
 fn put_name(
     names: &mut IndexMap<StreamName, usize>,
     line: LineKey,
@@ -115,7 +115,7 @@ fn put_numbers(numbers: &mut IndexSet<u32>, row: &StreamRow)
     }
 }
 
-/// Makes room for so many ssrcs in all, and for one more than there are.
+/// Makes room for so many SSRCs in all, and for one more than there are.
 fn reserve_places(places: &mut IndexMap<u32, usize>, count: usize) -> Result<(), AllocError>
     ensures kept { KeepsEntries places.old places.new }
     ensures spare { OnOk result (1 ≤ spare places.new) }
@@ -169,7 +169,7 @@ impl StreamIndex {
         }
     }
 
-    /// The place of the first row of an ssrc.
+    /// The place of the first row of an SSRC.
     pub fn place_of(&self, ssrc: Ssrc) -> Option<usize>
         ensures { (rows : Streams) → FindsStreams self.now rows → result ≡ position (has_ssrc ssrc) rows }
     {
@@ -184,7 +184,7 @@ impl StreamIndex {
         self.names.get(&name).copied()
     }
 
-    /// Whether a row or its retransmissions have an ssrc.
+    /// Whether a row or its retransmissions have an SSRC.
     pub fn uses(&self, ssrc: Ssrc) -> bool
         ensures { (rows : Streams) → FindsStreams self.now rows → result ≡ list_any (row_uses ssrc) rows }
     {
@@ -239,7 +239,7 @@ impl StreamIndex {
         }
     }
 
-    /// Indexes rows some of which went. Nothing is done where none did.
+    /// Indexes rows some of which were removed. Nothing is done if none was.
     pub fn refresh(&mut self, rows: &[StreamRow], count: usize)
         requires fits { FitsStreams self.old count }
         requires fewer { length rows.now ≤ count }

@@ -16,7 +16,7 @@ pub struct StreamRow {
     pub mark: PlainMark,
 }
 
-/// Whether it is this ssrc.
+/// Whether it is this SSRC.
 fn is_ssrc(held: Option<Ssrc>, ssrc: Ssrc) -> bool
     ensures { result ≡ is_ssrc held ssrc }
 {

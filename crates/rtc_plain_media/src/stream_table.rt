@@ -76,7 +76,7 @@ impl Drop for StreamTable {
     }
 }
 
-/// Drops the rows of an ssrc.
+/// Drops the rows of an SSRC.
 fn drop_ssrc(rows: &mut Vec<StreamRow>, ssrc: Ssrc)
     ensures { rows.new.items ≡ filter (λ row. not (has_ssrc ssrc row)) rows.old.items }
 {
@@ -122,14 +122,14 @@ impl StreamTable {
         self.index.place_of_name(mid, rid)
     }
 
-    /// Whether a stream or its retransmissions have an ssrc.
+    /// Whether a stream or its retransmissions have an SSRC.
     pub fn uses(&self, ssrc: Ssrc) -> bool
         ensures { result ≡ list_any (row_uses ssrc) self.now }
     {
         self.index.uses(ssrc)
     }
 
-    /// Puts a row in the place of the first of its ssrc, or else as a last one, and answers its place.
+    /// Puts a row in the place of the first of its SSRC, or else as a last one, and returns its place.
     fn put(
         &mut self,
         ssrc: Ssrc,
@@ -161,7 +161,7 @@ impl StreamTable {
         }
     }
 
-    /// Puts a row behind the others, and answers its place.
+    /// Puts a row behind the others, and returns its place.
     fn push(
         &mut self,
         ssrc: Ssrc,
@@ -188,7 +188,7 @@ impl StreamTable {
         Ok(at)
     }
 
-    /// Makes or replaces the stream of an ssrc, and lends its mark.
+    /// Makes or replaces the stream of an SSRC, and lends its mark.
     pub fn make(
         &mut self,
         ssrc: Ssrc,
@@ -204,7 +204,7 @@ impl StreamTable {
         Ok(&mut self.rows[at].mark)
     }
 
-    /// Drops the streams of an ssrc.
+    /// Drops the streams of an SSRC.
     pub fn remove(&mut self, ssrc: Ssrc) -> bool
         ensures answer { result ≡ list_any (has_ssrc ssrc) self.old }
         ensures rest { self.new ≡ filter (λ row. not (has_ssrc ssrc row)) self.old }
@@ -225,7 +225,7 @@ impl StreamTable {
         self.index.refresh(self.rows.as_slice(), count);
     }
 
-    /// Drops the streams of lines that some updates remove. The streams are looked through only where one does.
+    /// Drops the streams of lines that some updates remove. The streams are looked through only if one does.
     pub fn drop_removed(&mut self, updates: &VecDeque<MediaUpdate>)
         ensures { self.new ≡ without_streams (removed_by updates.now.items) self.old }
     {
@@ -237,7 +237,7 @@ impl StreamTable {
         self.index.refresh(self.rows.as_slice(), count);
     }
 
-    /// The mark of the stream of an ssrc.
+    /// The mark of the stream of an SSRC.
     pub fn mark(&mut self, ssrc: Ssrc) -> Option<&mut PlainMark>
         ensures* leaves { sem 𝓛 (LendsSo the_row mark_row self.entry result (λ n x. IfSome result (λ lent.
             (Some lent.now ≡ held_mark (has_ssrc ssrc) self.old) × (n ≡ marked (has_ssrc ssrc) x self.old))) (λ n. n ≡ self.old)) }
@@ -261,7 +261,7 @@ impl StreamTable {
         }
     }
 
-    /// Gives the stream of a line and a layer a new ssrc and new retransmissions, and lends its mark.
+    /// Gives the stream of a line and a layer a new SSRC and new retransmissions, and lends its mark.
     pub fn reset(
         &mut self,
         mid: Mid,
