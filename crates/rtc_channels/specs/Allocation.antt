@@ -43,12 +43,13 @@ is_taken stream held = is_given stream held.rows || is_stream_held stream held.h
 abbrev pub free_streams : ℕ → Channels → List ℕ
 free_streams parity held = filter (λ stream. not (is_taken stream held)) (all_ids parity)
 
--- the stream for a channel, if there is one: that which both ends settled, where it is not taken; else the least of the parity that is not
+-- the stream for a channel, if there is one: its own if it was negotiated out-of-band, if that is not taken; else the least of the parity
+-- that is not
 abbrev pub stream_for : Option ℕ → ℕ → Channels → Option ℕ
 stream_for (Some stream) parity held = if is_taken stream held then None else Some stream
 stream_for None parity held = slice_get (free_streams parity held) 0
 
--- the channels where that of a number, if there is one, has a stream
+-- the channels once that of a number, if there is one, has a stream
 abbrev pub rows_given : ℕ → ℕ → List Channel → List Channel
 rows_given id stream [] = []
 rows_given id stream (channel ∷ rest) =
@@ -58,7 +59,7 @@ abbrev pub stream_given : ℕ → Option ℕ → Channels → Channels
 stream_given id None held = held
 stream_given id (Some stream) held = record held { rows = rows_given id stream held.rows }
 
--- the stream that a channel is to be given, if there is one: none where it has a stream
+-- the stream that a channel is to be given, if there is one: none if it has a stream
 abbrev pub stream_sought : Option ℕ → Option ℕ → ℕ → Channels → Option ℕ
 stream_sought (Some own) negotiated parity held = None
 stream_sought None negotiated parity held = stream_for negotiated parity held
@@ -71,7 +72,7 @@ abbrev pub all_allocated : ℕ → List Channel → Channels → Channels
 all_allocated parity [] held = held
 all_allocated parity (channel ∷ rest) held = all_allocated parity rest (stream_given channel.id (sought_by parity held channel) held)
 
--- The channels are given streams in order of their numbers. Where memory is wanting, the first of them were.
+-- The channels are given streams in order of their numbers. If memory runs out, the first of them were.
 abbrev pub Allocates : ℕ → Channels → Result (Unit {0}) AllocError → Channels → Type 0
 Allocates parity held (Ok done) held' = held' ≡ all_allocated parity held.rows held
 Allocates parity held (Err error) held' = (n : ℕ) × (held' ≡ all_allocated parity (take n held.rows) held)

@@ -36,7 +36,7 @@ pub record Channel : Type 0 where
   pub id : ℕ
   -- the SCTP stream that it was given
   pub stream : Option ℕ
-  -- the SCTP stream that both ends settled by other means, if they did
+  -- the SCTP stream, if the channel is negotiated out-of-band
   pub negotiated : Option ℕ
   -- what it is to be opened with, once it is confirmed
   pub config : Option ChannelConfig
@@ -64,7 +64,7 @@ abbrev pub is_of_stream : ℕ → Option ℕ → Bool
 is_of_stream stream None = false
 is_of_stream stream (Some own) = own == stream
 
--- whether a stream was given to a channel, or is settled for one
+-- whether a stream was given to a channel, or is negotiated out-of-band for one
 abbrev pub is_claimed : ℕ → List Channel → Bool
 is_claimed stream channels = list_any (λ channel. is_of_stream stream channel.stream || is_of_stream stream channel.negotiated) channels
 
@@ -98,7 +98,7 @@ MakesChannel held config (Ok id) held' =
 MakesChannel held config (Err BadChannel) held' = (is_bad_channel held config ≡ true) × (held' ≡ held)
 MakesChannel held config (Err Alloc) held' = held' ≡ held
 
--- the channels where that of a number, if there is one, is confirmed
+-- the channels once that of a number, if there is one, is confirmed
 abbrev pub rows_confirmed : ℕ → ChannelConfig → List Channel → List Channel
 rows_confirmed id config [] = []
 rows_confirmed id config (channel ∷ rest) =
@@ -107,7 +107,7 @@ rows_confirmed id config (channel ∷ rest) =
 abbrev pub confirmed : ℕ → ChannelConfig → Channels → Channels
 confirmed id config held = record held { rows = rows_confirmed id config held.rows }
 
--- the channels where each of these, if it is still there, is confirmed
+-- the channels once each of these, if it is still there, is confirmed
 abbrev pub all_confirmed : List (ℕ × ChannelConfig) → Channels → Channels
 all_confirmed [] held = held
 all_confirmed (channel ∷ rest) held = all_confirmed rest (confirmed channel.0 channel.1 held)

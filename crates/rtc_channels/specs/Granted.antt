@@ -49,7 +49,7 @@ holds_at grants stream = grant_holds (get nat_cmp grants stream)
 abbrev pub is_granted : BTreeMap ℕ Grant → ℕ → Bool
 is_granted grants stream = is_some (owner_at grants stream) || nat_lt 0 (holds_at grants stream)
 
--- the stream for a channel, of these free ones where it was not settled
+-- the stream for a channel, of these free ones unless it was negotiated out-of-band
 abbrev pub stream_of_free : Option ℕ → BTreeMap ℕ Grant → List ℕ → Option ℕ
 stream_of_free (Some stream) grants free = if is_granted grants stream then None else Some stream
 stream_of_free None grants free = slice_get free 0

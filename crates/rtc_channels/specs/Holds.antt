@@ -36,13 +36,13 @@ abbrev pub channels_without : ℕ → List Channel → List Channel
 channels_without id [] = []
 channels_without id (channel ∷ rest) = if has_id id channel then rest else channel ∷ channels_without id rest
 
--- a stream is held once more where its reset is pending
+-- a stream is held once more if its reset is pending
 abbrev pub held_pending : Bool → Option ℕ → List ℕ → List ℕ
 held_pending true (Some stream) holds = with_hold stream holds
 held_pending true None holds = holds
 held_pending false stream holds = holds
 
--- a channel goes, and its stream, if it has one, is held once more where a reset is pending
+-- a channel is removed, and its stream, if it has one, is held once more if a reset is pending
 abbrev pub removed_channel : ℕ → Bool → Channels → Channels
 removed_channel id pending held = record held {
   rows = channels_without id held.rows;

@@ -41,7 +41,7 @@ can_open channels = list_any can_be_opened channels
 abbrev pub can_progress : Bool → Channels → Bool
 can_progress client held = can_open held.rows || can_allocate (parity_of client) held
 
--- the channels where the config of that of a number was handed on
+-- the channels once the config of that of a number was passed on
 abbrev pub rows_opened : ℕ → List Channel → List Channel
 rows_opened id [] = []
 rows_opened id (channel ∷ rest) = if has_id id channel then record channel { config = None } ∷ rest else channel ∷ rows_opened id rest
@@ -49,13 +49,13 @@ rows_opened id (channel ∷ rest) = if has_id id channel then record channel { c
 abbrev pub config_handed : ℕ → Channels → Channels
 config_handed id held = record held { rows = rows_opened id held.rows }
 
--- what follows a call, or what is left where it found no memory
+-- what follows a call, or what is left if it ran out of memory
 abbrev pub Following : Result (Unit {0}) AllocError → Type 0 → Type 0 → Type 0
 Following (Ok done) next stopped = next
 Following (Err error) next stopped = stopped
 
 module _ {S : Type 0} (m : AssociationMeaning S) where
-  -- the stream of a channel is opened with its config, where it has both; the config is handed on, also where memory is wanting
+  -- the stream of a channel is opened with its config, if it has both; the config is passed on, also if memory runs out
   abbrev pub OpensChannel : Option ℕ → Option ChannelConfig → ℕ → Channels → SctpStreams S
       → Result (Unit {0}) AllocError → Channels → SctpStreams S → Type 0
   OpensChannel (Some stream) (Some config) id held p r held' p' = OpensStream m stream config p r p' × (held' ≡ config_handed id held)
@@ -84,13 +84,13 @@ module _ {S : Type 0} (m : AssociationMeaning S) where
       × Allocates (parity_of p.client) held did between
       × Following did (OpensAll between.rows between p r held' p') ((r ≡ did) × (held' ≡ between) × (p' ≡ p))
 
-  -- a moment comes: where nothing is due, nothing changes, no walk meets more than before, and no timer moved
+  -- a moment is given: if nothing is due, nothing changes, no walk meets more than before, and no timer moved
   abbrev pub MeetsMoment : Bool → Channels → SctpStreams S → Signals
       → Result (Unit {0}) AllocError → Channels → SctpStreams S → Signals → Type 0
   MeetsMoment false held p wake r held' p' wake' = (r ≡ Ok tt) × (held' ≡ held) × (p' ≡ p) × (wake' ≡ neither)
   MeetsMoment true held p wake r held' p' wake' = Progresses held p r held' p' × (wake' ≡ wake)
 
-  -- when a moment is wanted: at once where something is due
+  -- when a moment is wanted: at once if something is due
   abbrev pub channels_wake : Channels → SctpStreams S → Option ℕ
   channels_wake held p = if is_progress_due held p then Some 0 else None
 

@@ -47,7 +47,7 @@ fn collect_free(grants: &Grants, client: bool) -> FreeIds
     ids
 }
 
-// The stream for a channel, by what it was settled for.
+// The stream for a channel, by the one that it was negotiated for, if it was.
 fn stream_for(negotiated: Option<u16>, grants: &Grants, ids: &FreeIds) -> Option<u16>
     ensures sought { result ≡ stream_of_free negotiated grants.now ids.now.free }
     ensures fits { IfSome negotiated (λ stream. stream < 65536) }
@@ -120,8 +120,9 @@ impl ChannelHandler {
         Ok(())
     }
 
-    /// Gives streams to the channels that have none, in order of their numbers. One that was settled gets its own where no
-    /// channel has it and it is not held, another the least of its parity. The others stay without.
+    /// Gives streams to the channels that have none, in order of their numbers. A channel negotiated out-of-band gets
+    /// its own stream, if no channel has it and it is not held; another gets the least of its parity. The others stay
+    /// without.
     pub fn do_allocations(&mut self, client: bool) -> Result<(), AllocError>
         ensures allocates { Allocates (ParityOf client) self.old result self.new }
         ensures unheld { (s : _) → IsGiven s self.old.rows ≡ false → IsGiven s self.new.rows ≡ true → IsHeld s self.old.holds ≡ false }
@@ -158,8 +159,7 @@ impl ChannelHandler {
         owner_of(&self.grants, s).is_some() || self.given == u64::MAX
     }
 
-    /// Makes a channel of a stream that the other end opened, where no channel has it. None is made where no number is
-    /// left.
+    /// Makes a channel of a stream that the other end opened, if no channel has it. None is made if channel numbers are exhausted.
     pub fn ensure_channel_id_for(&mut self, s: u16) -> Result<(), AllocError>
         ensures ensured { OnOk result (self.new ≡ channel_ensured s self.old) }
         ensures refused { OnErr result (self.new ≡ self.old) }

@@ -1,4 +1,4 @@
-//! What a peer tells of a channel.
+//! What a peer reports of a channel.
 use rtc_wire::{ChannelId, TryCopy};
 use std::alloc::AllocError;
 
@@ -8,7 +8,7 @@ pub struct ChannelRow {
     pub id: ChannelId,
     /// The SCTP stream that it was given.
     pub stream: Option<u16>,
-    /// How often that stream was reset before; 0 where there is no stream.
+    /// How often that stream was reset before; 0 if there is no stream.
     pub generation: u64,
     pub is_open: bool,
 }

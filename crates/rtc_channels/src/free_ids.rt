@@ -75,7 +75,7 @@ impl FreeIds {
         Some(2 * place as u16 + self.parity)
     }
 
-    /// Takes an id. Answers whether it was free; nothing changes where it was not.
+    /// Takes an id. Returns whether it was free; nothing changes if it was not.
     pub fn take(&mut self, id: u16) -> bool
         ensures answer { result ≡ IsFree id self.old }
         ensures taken { self.new ≡ without_id id self.old }
@@ -88,7 +88,7 @@ impl FreeIds {
         true
     }
 
-    /// Gives an id back. Answers whether it was missing; nothing changes where it was free or has the other parity.
+    /// Gives an id back. Returns whether it was missing; nothing changes if it was free or has the other parity.
     pub fn put(&mut self, id: u16) -> bool
         ensures answer { result ≡ IsMissing id self.old }
         ensures returned { self.new ≡ with_id id self.old }

@@ -38,7 +38,7 @@ pub fn count_holds(grants: &Grants, stream: u16) -> u64
     }
 }
 
-/// Gives a stream to a channel. Its holds stay.
+/// Gives a stream to a channel. Its holds are unchanged.
 pub fn give(grants: &mut Grants, stream: u16, id: ChannelId) -> Result<(), AllocError>
     ensures owner { OnOk result ((q : _) → owner_at grants.new q ≡ (if q == stream then Some id else owner_at grants.old q)) }
     ensures holds { OnOk result ((q : _) → holds_at grants.new q ≡ holds_at grants.old q) }
@@ -50,7 +50,7 @@ pub fn give(grants: &mut Grants, stream: u16, id: ChannelId) -> Result<(), Alloc
     Ok(())
 }
 
-// Replaces an entry, or drops it where nothing has to be kept.
+// Replaces an entry, or drops it if nothing has to be kept.
 fn replace(grants: &mut Grants, stream: u16, grant: Grant)
     requires { IsSome (get nat_cmp grants.old stream) }
     ensures owner { (q : _) → owner_at grants.new q ≡ (if q == stream then grant.owner else owner_at grants.old q) }
@@ -65,7 +65,7 @@ fn replace(grants: &mut Grants, stream: u16, grant: Grant)
     }
 }
 
-/// Takes a stream from its channel. It is held once more where a reset is pending.
+/// Takes a stream from its channel. It is held once more if a reset is pending.
 pub fn release(grants: &mut Grants, stream: u16, pending: bool)
     requires owned { IsSome (owner_at grants.old stream) }
     requires few { holds_at grants.old stream < 2 ^ 64 - 1 }
@@ -119,7 +119,7 @@ fn drop_unowned(grants: &mut Grants)
     grants.retain(|_, grant| grant.owner.is_some());
 }
 
-/// Every hold goes.
+/// Drops every hold.
 pub fn drop_holds(grants: &mut Grants)
     ensures owner { (q : _) → owner_at grants.new q ≡ owner_at grants.old q }
     ensures holds { (q : _) → holds_at grants.new q ≡ 0 }

@@ -30,8 +30,7 @@ impl ChannelHandler {
         drop_holds(&mut self.grants);
     }
 
-    /// Removes a channel, if it is there. Where a reset of its stream is pending, the stream is held once more. Nothing is
-    /// allocated.
+    /// Removes a channel, if it is there. If a reset of its stream is pending, the stream is held once more. Nothing is allocated.
     pub fn remove_channel(&mut self, id: ChannelId, reset_pending: bool)
         ensures { self.new ≡ removed_channel id reset_pending self.old }
     {

@@ -40,7 +40,7 @@ impl Kept {
     }
 }
 
-/// Whether a stream was given to a channel, or is settled for one.
+/// Whether a stream was given to a channel, or is negotiated out-of-band for one.
 pub fn is_claimed(rows: &[(ChannelId, Option<u16>)], kept: &[Kept], stream: u16) -> bool
     requires { length rows.now ≡ length kept.now }
     ensures { result ≡ IsClaimed stream (channels_of rows.now kept.now) }

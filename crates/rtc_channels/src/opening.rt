@@ -14,7 +14,7 @@ use rtc_wire::{ChannelConfig, ChannelId, Moment};
 use std::alloc::AllocError;
 
 impl Kept {
-    // Hands on what the channel is to be opened with.
+    // Passes on what the channel is to be opened with.
     fn take_config(&mut self) -> Option<ChannelConfig>
         ensures config { result ≡ self.old.config }
         ensures taken { self.new ≡ config_taken self.old }
@@ -24,7 +24,7 @@ impl Kept {
 }
 
 impl ChannelHandler {
-    // Opens the stream of the channel at a place, where it has one and is confirmed.
+    // Opens the stream of the channel at a place, if it has one and is confirmed.
     fn open_at<S: Association>(
         &mut self,
         place: usize,
@@ -67,8 +67,8 @@ impl ChannelHandler {
         sctp.is_inited() && self.can_progress(sctp.is_client())
     }
 
-    /// Gives streams to channels, and opens the streams of those that are confirmed, where the association was started.
-    /// Where nothing of this can be done, both marks of the wake go.
+    /// Gives streams to channels, and opens the streams of confirmed ones, if the association was started. If nothing
+    /// of this can be done, both marks of the wake are cleared.
     pub fn handle_timeout<S: Association>(
         &mut self,
         _now: Moment,
@@ -89,7 +89,7 @@ impl ChannelHandler {
         }
     }
 
-    /// When `handle_timeout` is wanted: at once where it can give a stream to a channel or open one.
+    /// When `handle_timeout` is wanted: at once if it can give a stream to a channel or open one.
     pub fn poll_timeout<S: Association>(&self, sctp: &RtcSctp<S>) -> Option<Moment>
         ensures { result ≡ channels_wake S.association self.now sctp.now }
     {

@@ -30,7 +30,7 @@ fn any_ready(rows: &[(ChannelId, Option<u16>)], kept: &[Kept]) -> bool
 }
 
 impl ChannelHandler {
-    // Whether a channel can be given a stream, by a look at each. The free ids are set up here and not where no channel waits.
+    // Whether a channel can be given a stream, by a look at each. The free ids are set up here, and not if no channel waits.
     fn can_give(&self, client: bool) -> bool
         ensures { result ≡ CanAllocate (ParityOf client) self.now }
     {

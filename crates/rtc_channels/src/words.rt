@@ -37,7 +37,7 @@ pub fn put_bit(words: &mut [u64], place: usize, value: bool)
     }
 }
 
-/// Sets the bit at a place of the upper words where the lower word at that place has a bit, else clears it.
+/// Sets the bit at a place of the upper words if the lower word at that place has a bit, else clears it.
 pub fn summarize(upper: &mut [u64], lower: &[u64], at: usize)
     requires upper { at / 64 < length upper.old }
     requires lower { at < length lower.now }
@@ -50,7 +50,7 @@ pub fn summarize(upper: &mut [u64], lower: &[u64], at: usize)
     put_bit(upper, at, used);
 }
 
-/// The first place with a bit, where `at` is the first word with one.
+/// The first place with a bit; `at` is the first word with one.
 pub fn first_bit(words: &[u64], at: usize) -> usize
     requires few { length words.now ≤ 512 }
     requires word { IsFirstWord words.now at }

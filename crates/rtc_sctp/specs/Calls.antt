@@ -30,17 +30,17 @@ abbrev pub started_state : Bool → RtcSctpState
 started_state true = AwaitAssociationEstablished
 started_state false = AwaitRemoteAssociation
 
--- the state of an association that was started: by both halves it is established at once
+-- the state of an association that was started: by both SNAP INIT chunks it is established at once
 abbrev pub begun_state : Option InitHalves → Bool → RtcSctpState
 begun_state None client = started_state client
 begun_state (Some halves) client = Established
 
--- no halves are given, or both of them
+-- no chunks are given, or both of them
 abbrev pub are_whole : Option InitHalves → Bool
 are_whole None = true
 are_whole (Some halves) = is_whole halves
 
--- the limit of the other end, which is 65536 where it announced none (RFC 8841, section 6.1)
+-- the limit of the other end, which is 65536 if it announced none (RFC 8841, section 6.1)
 abbrev pub limit_or_default : Option ℕ → ℕ
 limit_or_default None = 65536
 limit_or_default (Some max) = max
@@ -56,7 +56,7 @@ abbrev pub is_nil : List ℕ → Bool
 is_nil [] = true
 is_nil (x ∷ xs) = false
 
--- why a write is refused, by what the association answers
+-- why a write is refused, by what the association returns
 abbrev pub write_refusal : (id len max : ℕ) → AssocError → SctpError
 write_refusal id len max assoc.NoStream = sctp.Proto (proto.NoStream id)
 write_refusal id len max assoc.TooLong = sctp.Proto (proto.TooLong len max)
@@ -70,13 +70,13 @@ abbrev pub write_answer : (id len max : ℕ) → Result ℕ AssocError → Resul
 write_answer id len max (Ok n) = Ok len
 write_answer id len max (Err e) = Err (write_refusal id len max e)
 
--- the earlier of two moments, where there are any
+-- the earlier of two moments, if there are any
 abbrev pub earlier_of : Option ℕ → Option ℕ → Option ℕ
 earlier_of None b = b
 earlier_of (Some a) None = Some a
 earlier_of (Some a) (Some b) = Some (min a b)
 
--- the state where a packet of the other end comes: a server's first one is what it waits for
+-- the state once a packet of the other end is received: a server's first one is what it waits for
 abbrev pub state_on_input : RtcSctpState → RtcSctpState
 state_on_input AwaitRemoteAssociation = AwaitAssociationEstablished
 state_on_input Uninited = Uninited
@@ -103,12 +103,12 @@ module _ {S : Type 0} (m : AssociationMeaning S) where
     pub called : m.connected_snap p now max_send (half_bytes halves.local) (half_bytes halves.remote) result q
     pub is : asked_of result ≡ answer
 
-  -- a start with both halves, where there are any, or else as the client or as the server
+  -- a start with both SNAP INIT chunks, if they are given, or else as the client or as the server
   abbrev pub AsksInit : Option InitHalves → Bool → S → (now max : ℕ) → Asked → S → Type 0
   AsksInit None client p now max answer q = AsksStart m client p now max answer q
   AsksInit (Some halves) client p now max answer q = (is_whole halves ≡ true) × AsksSnap halves p now max answer q
 
-  -- the association is started; a second start is refused, and so is one with a half alone, and a refusal leaves everything but the
+  -- the association is started; a second start is refused, and so is one with one chunk alone; a refusal leaves everything but the
   -- association
   abbrev pub Inits : Bool → (now max : ℕ) → Option InitHalves → SctpStreams S → Result (Unit {0}) SctpError → SctpStreams S → Type 0
   Inits client now max snap p (Ok x) q =
@@ -138,7 +138,7 @@ module _ {S : Type 0} (m : AssociationMeaning S) where
   abbrev pub is_ended : S → Bool
   is_ended p = not (m.started p) || (m.closing p || m.closed p)
 
-  -- the association is shut down, where it is not yet
+  -- the association is shut down, if it is not yet
   abbrev pub ShutBy : Bool → SctpStreams S → Result (Unit {0}) SctpError → SctpStreams S → Type 0
   ShutBy true p r q = (r ≡ Ok tt) × (q ≡ p)
   ShutBy false p (Ok x) q = AsksShutdown m p.association did.Done q.association × (q ≡ record p { association = q.association })
@@ -159,7 +159,7 @@ module _ {S : Type 0} (m : AssociationMeaning S) where
   abbrev pub is_current : ℕ → SctpStreams S → Bool
   is_current id p = fits_generation (stream_generation id p.entries) (m.generation p.association id)
 
-  -- a message is written, to the generation of the channel alone: not to one that the stream came to since
+  -- a message is written, to the generation of the channel alone: not to a later one of the stream
   abbrev pub WrittenIf : (can current : Bool) → (id : ℕ) → Bool → List ℕ → SctpStreams S → Result ℕ SctpError → SctpStreams S → Type 0
   WrittenIf false current id binary bytes p r q = (r ≡ Err sctp.WriteBeforeEstablished) × (q ≡ p)
   WrittenIf true false id binary bytes p r q = (r ≡ Err (sctp.Proto (proto.NoStream id))) × (q ≡ p)
@@ -177,7 +177,7 @@ module _ {S : Type 0} (m : AssociationMeaning S) where
   buffered_sum p [] = 0
   buffered_sum p (own ∷ entries) = m.buffered p own.id + buffered_sum p entries
 
-  -- a packet of the other end comes; before a start it changes nothing
+  -- a packet of the other end is received; before a start it changes nothing
   abbrev pub InputIf : Bool → ℕ → List ℕ → SctpStreams S → Result (Unit {0}) AllocError → SctpStreams S → Type 0
   InputIf false now bytes p r q = (r ≡ Ok tt) × (q ≡ p)
   InputIf true now bytes p r q =
@@ -187,7 +187,7 @@ module _ {S : Type 0} (m : AssociationMeaning S) where
   abbrev pub TakesInput : ℕ → List ℕ → SctpStreams S → Result (Unit {0}) AllocError → SctpStreams S → Type 0
   TakesInput now bytes p r q = InputIf (m.started p.association) now bytes p r q
 
-  -- a moment comes: where the association has had a packet or was to send one, it is handed the moment
+  -- a moment is given: if the association has had a packet or was to send one, it is given the moment
   abbrev pub TimedBy : RtcSctpState → ℕ → SctpStreams S → Signals → Result (Unit {0}) AllocError → SctpStreams S → Signals → Type 0
   TimedBy Uninited now p wake r q wake' =
       (r ≡ Ok tt) × (q ≡ p) × (wake' ≡ record { events = false; timeout = false })
@@ -203,7 +203,7 @@ module _ {S : Type 0} (m : AssociationMeaning S) where
   abbrev pub TakesTimeout : ℕ → SctpStreams S → Signals → Result (Unit {0}) AllocError → SctpStreams S → Signals → Type 0
   TakesTimeout now p wake r q wake' = TimedBy p.state now p wake r q wake'
 
-  -- when the association wants a moment, where its wake is read
+  -- when the association wants a moment, if its wake is read
   abbrev pub attached_wake : Bool → S → Option ℕ
   attached_wake true p = m.wake p
   attached_wake false p = None

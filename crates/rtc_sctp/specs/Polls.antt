@@ -24,7 +24,7 @@ abbrev pub with_expected : ℕ → List StreamEntry → List StreamEntry
 with_expected id entries =
     if is_some (entry_place id entries) then entries else with_entry (new_entry id AwaitConfig None) entries
 
--- an entry past its opening is marked where the other end closed its stream
+-- an entry past its opening is marked if the other end closed its stream
 abbrev pub finished_entry : StreamEntry → StreamEntry
 finished_entry entry = if is_open_awaited entry.state then entry else marked_entry entry
 
@@ -33,7 +33,7 @@ FinishesAt None entries entries' = entries' ≡ entries
 FinishesAt (Some place) entries entries' =
     (e : StreamEntry) × (slice_get entries place ≡ Some e) × (entries' ≡ slice_set entries place (finished_entry e))
 
--- what is met where an event is taken
+-- what is met if an event is taken
 abbrev pub event_met : AssocEvent → Met
 event_met assoc.Connected = Again
 event_met assoc.Lost = Output event.AssociationLost
@@ -73,14 +73,14 @@ AfterEvent (assoc.ResetComplete id) b b' =
     b' ≡ record b { resets = without_reset id b.resets; completed = b.completed ++ id ∷ [] }
 AfterEvent (assoc.BufferedAmountLow id) b b' = b' ≡ b
 
--- what follows where nothing was met
+-- what follows if nothing was met
 abbrev pub ThenBy : {S : Type 0} → (SctpStreams S → Met → SctpStreams S → Type 0) → Met → SctpStreams S → Met → SctpStreams S → Type 0
 ThenBy next Nothing p met q = next p met q
 ThenBy next Again p met q = (met ≡ Again) × (q ≡ p)
 ThenBy next (Output e) p met q = (met ≡ Output e) × (q ≡ p)
 ThenBy next OutOfMemory p met q = (met ≡ OutOfMemory) × (q ≡ p)
 
--- one step, and where it meets nothing the next
+-- one step, and if it meets nothing the next
 abbrev pub Else : {S : Type 0} → (SctpStreams S → Met → SctpStreams S → Type 0) → (SctpStreams S → Met → SctpStreams S → Type 0)
     → SctpStreams S → Met → SctpStreams S → Type 0
 Else {S} first next p met q = (own : Met) × ((between : SctpStreams S) × (first p own between × ThenBy next own between met q))
@@ -89,7 +89,7 @@ Else {S} first next p met q = (own : Met) × ((between : SctpStreams S) × (firs
 abbrev pub unclosed_streams : {S : Type 0} → SctpStreams S → SctpStreams S
 unclosed_streams p = record p { entries = unclosed p.entries }
 
--- last step: one completion is answered
+-- last step: one completion is returned
 abbrev pub CompletionOf : {S : Type 0} → List ℕ → SctpStreams S → Met → SctpStreams S → Type 0
 CompletionOf [] p met q = (met ≡ Nothing) × (q ≡ p)
 CompletionOf (id ∷ rest) p met q = (met ≡ Output (event.StreamResetComplete id)) × (q ≡ record p { completed = rest })
@@ -104,14 +104,14 @@ abbrev pub pushed_count : Option (List (List ℕ)) → ℕ
 pushed_count None = 0
 pushed_count (Some packets) = 1
 
--- what a poll answers by the last pass
+-- what a poll returns by the last pass
 abbrev pub Answers : Result (Option SctpEvent) AllocError → Met → Type 0
 Answers (Ok None) met = met ≡ Nothing
 Answers (Ok (Some e)) met = met ≡ Output e
 Answers (Err x) met = met ≡ OutOfMemory
 
 module _ {S : Type 0} (m : AssociationMeaning S) where
-  -- a packet of the association is answered
+  -- a packet of the association is returned
   abbrev pub TakesPacket : S → Met → S → Type 0
   TakesPacket p Nothing q = m.gave p None q
   TakesPacket p (Output (event.Transmit packets)) q = (packet : List ℕ) × m.gave p (Some packet) q × (packets ≡ packet ∷ [])
@@ -123,7 +123,7 @@ module _ {S : Type 0} (m : AssociationMeaning S) where
   TransmitIf false p met q = (met ≡ Nothing) × (q ≡ p)
   TransmitIf true p met q = TakesPacket p.association met q.association × (q ≡ record p { association = q.association })
 
-  -- second and third step: packets that came back are answered, else one of an association that was started
+  -- second and third step: packets that were pushed back are returned, else one of an association that was started
   abbrev pub TransmitOf : Option (List (List ℕ)) → SctpStreams S → Met → SctpStreams S → Type 0
   TransmitOf (Some packets) p met q = (met ≡ Output (event.Transmit packets)) × (q ≡ record p { pushed = None })
   TransmitOf None p met q = TransmitIf (m.started p.association) p met q
@@ -194,6 +194,6 @@ module _ {S : Type 0} (m : AssociationMeaning S) where
     pub last : MakesPass between met q
     pub answers : Answers r met
 
-  -- the work that is left: each answer takes some away, and so does each pass that made work
+  -- the work that is left: each output takes some away, and so does each pass that made work
   abbrev pub streams_work : SctpStreams S → ℕ
   streams_work p = m.units p.association + credits p.entries + length p.completed + pushed_count p.pushed

@@ -9,13 +9,13 @@ use Rattle.rtc_sctp.specs.Streams.{SctpStreams}
 use Rattle.rtc_sctp_values.specs.InitHalves.{InitHalves}
 use Rattle.rtc_sctp.specs.Calls.{can_write, is_current, are_whole}
 
--- a refusal, where its cause holds, and else what follows
+-- a refusal, if its cause holds, and else what follows
 abbrev pub refusal_if : Bool → SctpError → Option SctpError → Option SctpError
 refusal_if true why next = Some why
 refusal_if false why next = next
 
--- an answer where a call is to be refused so, and the count of faults of the device went from one number to another: out of memory
--- may come at any time, and a fault where the count rose
+-- a result if a call is to be refused so, and the count of faults of the device went from one number to another: out of memory may be
+-- returned at any time, and a fault if the count rose
 abbrev pub IsRefusedAs : {T : Type 0} → Option SctpError → (before after : ℕ) → Result T SctpError → Type 0
 IsRefusedAs due before after (Ok x) = due ≡ None
 IsRefusedAs due before after (Err (sctp.Proto proto.Fault)) = Rose before after
@@ -23,14 +23,14 @@ IsRefusedAs due before after (Err sctp.Alloc) = Unit {0}
 IsRefusedAs due before after (Err why) = due ≡ Some why
 
 module _ {S : Type 0} (m : AssociationMeaning S) where
-  -- how a start is refused: where the association was started; where one of the halves that are given is not there
+  -- how a start is refused: if the association was started; if one of the chunks that are given is missing
   abbrev pub refusal_of_start : Option InitHalves → SctpStreams S → Option SctpError
   refusal_of_start snap p =
       refusal_if (m.started p.association) (sctp.Proto proto.Started)
       (refusal_if (not (are_whole snap)) (sctp.Proto proto.SnapHalf) None)
 
-  -- how a message is refused: where its stream takes none; where the stream came to another generation since its channel was opened;
-  -- where the association has no such stream, or this end closed it; where it is longer than the other end takes
+  -- how a message is refused: if its stream takes none; if the stream has another generation since its channel was opened; if the
+  -- association has no such stream, or this end closed it; if it is longer than the other end takes
   abbrev pub refusal_of_message : (id : ℕ) → List ℕ → SctpStreams S → Option SctpError
   refusal_of_message id bytes p =
       refusal_if (not (can_write m id p)) sctp.WriteBeforeEstablished

@@ -13,7 +13,7 @@ use Rattle.rtc_sctp_entries.specs.Part.{AsksEnd, AsksReliability}
 use Rattle.rtc_sctp_entries.specs.Entries.{entry_place, with_entry, new_entry, marked_entry, with_reset, threshold_set}
 use Rattle.rtc_sctp.specs.Streams.{SctpStreams}
 
--- by the answer of the association, the entry of a stream that the other end opened is open with a config, or marked
+-- by the result of the association, the entry of a stream that the other end opened is open with a config, or marked
 abbrev pub ConfigBy : Asked → ChannelConfig → StreamEntry → Result (Unit {0}) AllocError → StreamEntry → Type 0
 ConfigBy did.Done config e (Ok x) e' = e' ≡ record e { config = Some config; state = Open }
 ConfigBy did.Done config e (Err x) e' = ⊥
@@ -55,7 +55,7 @@ abbrev pub MarksAt : ℕ → List StreamEntry → List StreamEntry → Type 0
 MarksAt place es es' = (e : StreamEntry) × (slice_get es place ≡ Some e) × (es' ≡ slice_set es place (marked_entry e))
 
 module _ {S : Type 0} (m : AssociationMeaning S) where
-  -- whether a stream that the other end opened can be open by a config: out-of-band, where the stream is there
+  -- whether a stream that the other end opened can be open by a config: out-of-band, if the stream is there
   abbrev pub can_take : S → ℕ → ChannelConfig → Bool
   can_take p id config = is_some config.negotiated && (m.started p && m.has_stream p id)
 

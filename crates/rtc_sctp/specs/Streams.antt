@@ -21,16 +21,16 @@ pub record SctpStreams (S : Type 0) : Type 0 where
   pub last : ℕ
   -- what is kept of starts by session descriptions
   pub snap : KeptHalves
-  -- packets that were given out and came back
+  -- packets that were given out and pushed back
   pub pushed : Option (List (List ℕ))
   -- the streams in use, in order of their numbers
   pub entries : List StreamEntry
   -- the streams whose reset is outstanding
   pub resets : List ℕ
-  -- the streams whose completed reset is to be told
+  -- the streams whose completed reset is to be reported
   pub completed : List ℕ
 
--- each packet that came back is short enough to be sent as application data of DTLS
+-- each packet that was pushed back is short enough to be sent as application data of DTLS
 abbrev pub ArePushedShort : Option (List (List ℕ)) → Type 0
 ArePushedShort None = Unit {0}
 ArePushedShort (Some packets) = All (λ packet. length packet ≤ 1900) packets
@@ -53,7 +53,7 @@ no_streams mtu local_max start association = record {
   completed = [];
 }
 
--- whether timeouts are handed to the association, and its wake is read
+-- whether timeouts are given to the association, and its wake is read
 abbrev pub is_attached : RtcSctpState → Bool
 is_attached Uninited = false
 is_attached AwaitRemoteAssociation = false

@@ -76,7 +76,7 @@ pub fn make_room(
     entries.reserve(1).is_ok() && (resets.reserve(1).is_ok() && completed.reserve(1).is_ok())
 }
 
-// The reset of a stream is outstanding no longer, and is to be told as completed.
+// The reset of a stream is no longer outstanding, and its completion is to be reported.
 fn complete_reset(id: u16, resets: &mut Vec<u16>, completed: &mut Vec<u16>) -> Met
     requires { vec_len completed.old < vec_capacity completed.old }
     ensures again { result ≡ Again }
@@ -88,7 +88,7 @@ fn complete_reset(id: u16, resets: &mut Vec<u16>, completed: &mut Vec<u16>) -> M
     Met::Again
 }
 
-/// Does what an event does, where there is room for what it adds.
+/// Does what an event does, if there is room for what it adds.
 pub fn apply_event(
     event: AssocEvent,
     state: &mut RtcSctpState,

@@ -1,11 +1,11 @@
-//! Packets that came back.
+//! Packets that were pushed back.
 ghost use Rattle.std.specs.Prelude.{◌≡◌, ◌≤◌, All, None, Some, length};
 ghost use Rattle.rtc_sctp.specs.Streams.{ArePushedShort};
 
 use rtc_wire::{Bytes, Seq};
 use std::marker::Model;
 
-/// Packets that a poll gave and that came back, each short enough for a datagram of DTLS.
+/// Packets that a poll gave and that were pushed back, each short enough for a datagram of DTLS.
 #[derive(Drop)]
 pub(crate) struct PushedBack {
     packets: Option<Seq<Bytes>>,
@@ -23,14 +23,14 @@ impl Model for PushedBack {
 }
 
 impl PushedBack {
-    /// None came back.
+    /// No packet was pushed back.
     pub(crate) fn none() -> PushedBack
         ensures { result ≡ None }
     {
         PushedBack { packets: None }
     }
 
-    /// These came back.
+    /// These packets were pushed back.
     pub(crate) fn of(packets: Seq<Bytes>) -> PushedBack
         requires { All (λ packet. length packet ≤ 1900) packets }
         ensures { result ≡ Some packets }
@@ -40,7 +40,7 @@ impl PushedBack {
         }
     }
 
-    /// Hands them on.
+    /// Passes them on.
     pub(crate) fn take(&mut self) -> Option<Seq<Bytes>>
         ensures given { result ≡ self.old }
         ensures taken { self.new ≡ None }

@@ -1,8 +1,8 @@
-//! How far an association has come.
+//! The progress of an association.
 ghost use Rattle.std.specs.Prelude.{◌≡◌};
 ghost use Rattle.rtc_sctp.specs.Streams.{is_attached, is_established as IsEstablished};
 
-/// How far the association of a peer has come.
+/// The progress of the association of a peer.
 ///
 /// ```text
 /// as client   Uninited -> AwaitAssociationEstablished -> Established
@@ -18,7 +18,7 @@ pub enum RtcSctpState {
 }
 
 impl RtcSctpState {
-    /// Whether timeouts are handed to the association.
+    /// Whether timeouts are given to the association.
     pub fn propagate_endpoint_to_assoc(&self) -> bool
         ensures { result ≡ is_attached self.now }
     {

@@ -41,7 +41,7 @@ fn begun_state(snap: &Option<SctpInitData>, client: bool) -> RtcSctpState
     }
 }
 
-// Whether no halves are given, or both of them.
+// Whether no chunks are given, or both of them.
 fn are_whole(snap: &Option<SctpInitData>) -> bool
     ensures { result ≡ AreWhole snap.now }
 {
@@ -64,7 +64,7 @@ fn start_by_snap<S: Association>(
     Asked::of(association.connect_snap(now, max_send, halves.local_bytes(), halves.remote_bytes()))
 }
 
-// Starts an association with both halves, where there are any, or else as the client or as the server.
+// Starts an association with both SNAP INIT chunks, if they are given, or else as the client or as the server.
 fn ask_start<S: Association>(
     association: &mut S,
     snap: &Option<SctpInitData>,
@@ -83,7 +83,7 @@ fn ask_start<S: Association>(
 }
 
 impl<S: Association> RtcSctp<S> {
-    // Starts the association alone. The halves are lent, so that no way out drops them.
+    // Starts the association alone. The chunks are lent, so that no exit drops them.
     fn start(
         &mut self,
         client: bool,
@@ -124,8 +124,8 @@ impl<S: Association> RtcSctp<S> {
         self.snap.begin(snap);
     }
 
-    /// Starts the association. `snap` has the halves of a start by session descriptions: with both it is established at once.
-    /// `remote_max` is the longest message that the other end takes, in bytes, where its session description says it.
+    /// Starts the association. `snap` has the SNAP INIT chunks: with both it is established at once. `remote_max` is
+    /// the longest message that the other end takes, in bytes, if its session description carries it.
     pub fn init(
         &mut self,
         client: bool,
@@ -169,7 +169,7 @@ impl<S: Association> RtcSctp<S> {
         }
     }
 
-    /// Shuts the association down, where it was started and is neither closing nor closed.
+    /// Shuts the association down, if it was started and is neither closing nor closed.
     pub fn close(&mut self) -> Result<(), SctpError>
         ensures shuts { Shuts S.association self.old result self.new }
         ensures refused { IsRefusedAs None (S.association.faults self.old.association)

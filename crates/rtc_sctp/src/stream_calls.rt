@@ -44,7 +44,7 @@ fn open_by_config(entry: &mut StreamEntry, config: ChannelConfig)
     entry.state = StreamEntryState::Open;
 }
 
-// The config of a stream that the other end opened comes from here.
+// This end gave the config of a stream that the other end opened.
 fn take_config<S: Association>(
     association: &mut S,
     entry: &mut StreamEntry,
@@ -224,7 +224,7 @@ impl<S: Association> RtcSctp<S> {
         )
     }
 
-    /// Asks for `BufferedAmountLow` where the stream has at most `n` bytes that are not acknowledged.
+    /// Asks for `BufferedAmountLow` once at most `n` bytes of the stream are not acknowledged.
     pub fn set_buffered_amount_low_threshold(&mut self, id: u16, n: usize)
         requires { IsSome (entry_place id self.old.entries) }
         ensures { SetsThreshold S n (entry_place id self.old.entries) self.old self.new }

@@ -17,7 +17,7 @@ use std::marker::Model;
 
 /// The streams of the data channels of a peer, over an association.
 ///
-/// Packets and moments are handed in, and events are polled.
+/// Packets and moments are given, and events are polled.
 pub struct RtcSctp<S> {
     pub(crate) alloc: Global,
     pub(crate) association: S,
@@ -126,7 +126,7 @@ impl<S: Association> RtcSctp<S> {
         self.max_payload
     }
 
-    /// Whether an `init` answered Ok.
+    /// Whether an `init` returned Ok.
     pub fn is_inited(&self) -> bool
         ensures { result ≡ S.association.started self.now.association }
     {
@@ -200,7 +200,7 @@ impl<S: Association> RtcSctp<S> {
         self.pushed = PushedBack::of(packets);
     }
 
-    /// Hands on packets that came back, before a poll gives them again. Each is short enough to be sent over DTLS.
+    /// Passes on packets that were pushed back, before a poll gives them again. Each is short enough to be sent over DTLS.
     pub fn take_pushed_back(&mut self) -> Option<Seq<Bytes>>
         ensures given { result ≡ self.old.pushed }
         ensures taken { self.new ≡ record self.old { pushed = None } }
@@ -209,7 +209,7 @@ impl<S: Association> RtcSctp<S> {
         self.pushed.take()
     }
 
-    /// Each packet that came back is short enough to be sent over DTLS.
+    /// Each packet that was pushed back is short enough to be sent over DTLS.
     pub fn pushed_back_is_short(&self)
         ensures { ArePushedShort self.now.pushed }
     {

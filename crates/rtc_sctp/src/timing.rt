@@ -1,4 +1,4 @@
-//! Packets and moments that are handed in.
+//! Packets and moments that are given.
 ghost use Rattle.std.specs.Prelude.{◌≡◌};
 ghost use Rattle.rtc_sctp.specs.Streams.{is_attached};
 ghost use Rattle.rtc_sctp.specs.Calls.{TakesInput, TakesTimeout, timed_streams, streams_wake};
@@ -24,7 +24,7 @@ fn state_on_input(state: RtcSctpState) -> RtcSctpState
     }
 }
 
-// The earlier of two moments, where there are any.
+// The earlier of two moments, if there are any.
 fn earlier_of(a: Option<Moment>, b: Option<Moment>) -> Option<Moment>
     ensures { result ≡ EarlierOf a b }
 {
@@ -56,7 +56,7 @@ fn retry_wake(entries: &[StreamEntry], last: Moment) -> Option<Moment>
 }
 
 impl<S: Association> RtcSctp<S> {
-    /// Hands the association a packet of the other end. Before an `init` that is Ok nothing happens.
+    /// Gives the association a packet of the other end. Before an `init` that is Ok nothing happens.
     pub fn handle_input(&mut self, now: Moment, bytes: &[u8]) -> Result<(), AllocError>
         ensures { TakesInput S.association now bytes.now self.old result self.new }
     {
@@ -67,7 +67,7 @@ impl<S: Association> RtcSctp<S> {
         Ok(())
     }
 
-    /// Hands the association a moment, and says which signals stay as they were.
+    /// Gives the association a moment, and says which signals are unchanged.
     pub fn handle_timeout(&mut self, now: Moment, wake: &mut Wake) -> Result<(), AllocError>
         ensures { TakesTimeout S.association now self.old wake.old result self.new wake.new }
     {
@@ -88,7 +88,7 @@ impl<S: Association> RtcSctp<S> {
         }
     }
 
-    // Keeps a moment, and hands it to the association.
+    // Keeps a moment, and gives it to the association.
     fn hand_moment(&mut self, now: Moment) -> Result<(), AllocError>
         ensures timed { S.association.timed self.old.association now result self.new.association }
         ensures kept { self.new ≡ record (timed_streams now self.old) { association = self.new.association } }

@@ -97,7 +97,7 @@ impl<S: Association> RtcSctp<S> {
         }
     }
 
-    /// Writes a message, and answers the number of its bytes.
+    /// Writes a message, and returns the number of its bytes.
     pub fn write(&mut self, id: u16, binary: bool, buf: &[u8]) -> Result<usize, SctpError>
         ensures writes { WritesStream S.association id binary buf.now self.old result self.new }
         ensures refused { IsRefusedAs (refusal_of_message S.association id buf.now self.old)

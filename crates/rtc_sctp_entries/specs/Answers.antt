@@ -1,4 +1,4 @@
--- Answers of an association, as far as streams tell them apart.
+-- Results of an association, as streams distinguish them.
 use Rattle.std.specs.Prelude.{ℕ, List, Option, Some, None, Result, Ok, Err}
 use Rattle.rtc_part_association.specs.declared.assoc_error.AssocError.{AssocError}
 use Rattle.rtc_part_association.specs.declared.assoc_error.AssocError.TheVariants.{StreamExists, ResetPending, Alloc}

@@ -35,13 +35,13 @@ use Rattle.rtc_sctp_entries.specs.declared.stream_entry_state.StreamEntryState.T
 use Rattle.rtc_sctp_entries.specs.declared.stream_entry_state.StreamEntryState.TheVariants.{AwaitDcepAck, Open, Closed}
 use Rattle.rtc_sctp_entries.specs.declared.stream_entry.StreamEntry.{StreamEntry}
 
--- a threshold where a number of bytes is asked for
+-- a threshold once a number of bytes is asked for
 abbrev pub threshold_set : ℕ → BufferedThresholdConfig → BufferedThresholdConfig
 threshold_set v Unconfigured = Desired v
 threshold_set v (Desired own) = Desired v
 threshold_set v (Configured own) = if own == v then Configured own else Desired v
 
--- the config of an entry; the fresh one where there is none yet
+-- the config of an entry; the fresh one if there is none yet
 abbrev pub config_or_fresh : Option ChannelConfig → ChannelConfig
 config_or_fresh None = fresh
 config_or_fresh (Some config) = config
@@ -107,14 +107,14 @@ is_entry_of id entry = entry.id == id
 abbrev pub entry_place : ℕ → List StreamEntry → Option ℕ
 entry_place id entries = position (is_entry_of id) entries
 
--- where an entry of a stream is put: before the first with a greater number
+-- the place at which an entry of a stream is put: before the first with a greater number
 abbrev pub new_place : ℕ → List StreamEntry → ℕ
 new_place id entries = unwrap_or (position (λ entry. nat_lt id entry.id) entries) (length entries)
 
 abbrev pub with_entry : StreamEntry → List StreamEntry → List StreamEntry
 with_entry entry entries = insert entries (new_place entry.id entries) entry
 
--- the entries from a number on stand in order of their numbers, each of another stream
+-- the entries from a number on are in order of their numbers, each of another stream
 abbrev pub AscendFrom : ℕ → List StreamEntry → Type 0
 AscendFrom low [] = Unit {0}
 AscendFrom low (entry ∷ entries) = (low ≤ entry.id) × AscendFrom (entry.id + 1) entries
@@ -148,17 +148,17 @@ unclosed entries = filter (λ own. not (is_closed_state own.state)) entries
 abbrev pub has_open : ℕ → List StreamEntry → Bool
 has_open id entries = list_any (λ entry. entry.id == id && is_open_state entry.state) entries
 
--- the config of a stream's entry, where there is one
+-- the config of a stream's entry, if there is one
 abbrev pub stream_config : ℕ → List StreamEntry → Option ChannelConfig
 stream_config id [] = None
 stream_config id (entry ∷ entries) = if entry.id == id then entry.config else stream_config id entries
 
--- the generation that a stream's entry keeps, where there is one
+-- the generation that a stream's entry keeps, if there is one
 abbrev pub stream_generation : ℕ → List StreamEntry → Option ℕ
 stream_generation id [] = None
 stream_generation id (entry ∷ entries) = if entry.id == id then entry.generation else stream_generation id entries
 
--- whether a generation is the one that is kept, where one is
+-- whether a generation is the kept one, if one is kept
 abbrev pub fits_generation : Option ℕ → ℕ → Bool
 fits_generation None generation = true
 fits_generation (Some own) generation = own == generation

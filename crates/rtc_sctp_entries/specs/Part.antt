@@ -1,4 +1,4 @@
--- What the calls of an association do, by the answers that streams tell apart.
+-- What the calls of an association do, by the results that streams distinguish.
 use Rattle.std.specs.Prelude.{ℕ, ◌≡◌, ◌+◌, ◌≤◌, not, Bool, true, false, List, Option, Result}
 use Rattle.rtc_wire.specs.declared.channel_config.ChannelConfig.{ChannelConfig}
 use Rattle.rtc_wire.specs.Reliability.{parts_of}

@@ -1,4 +1,4 @@
--- What is told of visits by the laws of streams.
+-- What the laws of streams say of visits.
 use Rattle.std.specs.Prelude.{ℕ, Bool, true, false, Option, Some, None}
 use Rattle.rtc_sctp_entries.specs.declared.sctp_event.SctpEvent.{SctpEvent}
 use Rattle.rtc_sctp_entries.specs.declared.sctp_event.SctpEvent.TheVariants as event
@@ -20,7 +20,7 @@ is_data_event (event.Data id binary bytes) = true
 is_data_event (event.BufferedAmountLow id) = false
 is_data_event event.AssociationLost = false
 
--- whether a message of the other end is answered
+-- whether a message of the other end is returned
 abbrev pub is_data_met : Met → Bool
 is_data_met Nothing = false
 is_data_met Again = false

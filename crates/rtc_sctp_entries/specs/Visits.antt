@@ -43,8 +43,8 @@ turn association entry resets = record { association = association; entry = entr
 abbrev pub opening_ends : ℕ → ℕ
 opening_ends first = min (first + 10_000_000_000) (2 ^ 64 - 1)
 
--- Whether an opening that was refused first at a moment is given up by now. It is not at the moment of that refusal itself, also where this
--- is the last moment of all.
+-- Whether an opening that was refused first at a moment is given up by now. It is not at the moment of that refusal itself, even if this is
+-- the last moment of all.
 abbrev pub is_opening_over : (first now : ℕ) → Bool
 is_opening_over first now = nat_lt first now && nat_le (opening_ends first) now
 
@@ -56,11 +56,11 @@ turn_work m t = m.units t.association + entry_credit t.entry
 abbrev pub Marks : {S : Type 0} → Turn S → Met → Turn S → Type 0
 Marks t met t' = (met ≡ Again) × (t' ≡ record t { entry = marked_entry t.entry })
 
--- a message is answered
+-- a message is returned
 abbrev pub GivesEvent : {S : Type 0} → SctpEvent → Turn S → Met → Turn S → Type 0
 GivesEvent e t met t' = (met ≡ Output e) × (t' ≡ t)
 
--- want of memory
+-- running out of memory
 abbrev pub Starves : {S : Type 0} → Turn S → Met → Turn S → Type 0
 Starves t met t' = (met ≡ OutOfMemory) × (t' ≡ t)
 
@@ -68,7 +68,7 @@ Starves t met t' = (met ≡ OutOfMemory) × (t' ≡ t)
 abbrev pub TellsOpen : {S : Type 0} → List ℕ → Turn S → Met → Turn S → Type 0
 TellsOpen label t met t' = (met ≡ Output (event.Open t.entry.id label)) × (t' ≡ record t { entry = open_entry t.entry })
 
--- what is told where an entry is closed
+-- what is reported if an entry is closed
 abbrev pub close_event : StreamEntry → List ℕ → SctpEvent
 close_event entry resets = event.Close entry.id (has_reset entry.id resets)
 
@@ -97,7 +97,7 @@ ReadsOpen bytes (read.Open label config) =
 ReadsOpen bytes read.Malformed = refusal_of bytes ≢ None
 ReadsOpen bytes read.OutOfMemory = Unit {0}
 
--- the open message of the other end gives an entry its config, where it has none
+-- the open message of the other end gives an entry its config, if it has none
 abbrev pub given_config : Option ChannelConfig → ChannelConfig → Option ChannelConfig
 given_config None config = Some config
 given_config (Some own) config = Some own
@@ -107,8 +107,8 @@ abbrev pub ForEntry : {S : Type 0} → (StreamEntry → Met → StreamEntry → 
 ForEntry R t met t' = R t.entry met t'.entry × (t' ≡ record t { entry = t'.entry })
 
 module _ {S : Type 0} (m : AssociationMeaning S) where
-  -- The stream of an entry is closed. A close that is Ok notes a reset outstanding, and the entry is Closed also where
-  -- the association refuses.
+  -- The stream of an entry is closed. A close that is Ok notes a reset outstanding, and the entry is Closed also if the association
+  -- refuses.
   abbrev pub ClosedBy : Asked → Turn S → Met → Turn S → Type 0
   ClosedBy did.Done t met t' = TellsClose (record t { resets = with_reset t.entry.id t.resets }) met t'
   ClosedBy did.Refused t met t' = TellsClose t met t'
@@ -169,7 +169,7 @@ module _ {S : Type 0} (m : AssociationMeaning S) where
   abbrev pub Retries : ℕ → Turn S → Met → Turn S → Type 0
   Retries now t met t' = RetriedAt now t.entry.refused t met t'
 
-  -- a stream that is there is adopted where it is out-of-band and live: not stale, and with no reset outstanding
+  -- a stream that is there is adopted if it is out-of-band and live: not stale, and with no reset outstanding
   abbrev pub is_adopted : Turn S → Bool
   is_adopted t = is_out_of_band t.entry && (not (m.stale t.association t.entry.id) && not (has_reset t.entry.id t.resets))
 
@@ -215,7 +215,7 @@ module _ {S : Type 0} (m : AssociationMeaning S) where
     pub asks : AsksReliability m t.association t.entry.id (config_or_fresh t.entry.config) answer between
     pub then : TakenUpBy answer label (record t { association = between }) met t'
 
-  -- an open message is taken: the config of the entry, given by it where there was none, is taken up; a malformed one marks the entry
+  -- an open message is taken: the config of the entry, given by it if there was none, is taken up; a malformed one marks the entry
   abbrev pub TakenAs : ReadMessage → Turn S → Met → Turn S → Type 0
   TakenAs (read.Open label config) t met t' =
       TakesUp label (record t { entry = record t.entry { config = given_config t.entry.config config } }) met t'
@@ -257,7 +257,7 @@ module _ {S : Type 0} (m : AssociationMeaning S) where
     pub asks : AsksRead m t.association t.entry.id answer between
     pub then : ReadBy answer (record t { association = between }) met t'
 
-  -- a threshold that is asked for is handed over once, refused or not
+  -- a threshold that is asked for is passed on once, refused or not
   abbrev pub HandedBy : Asked → ℕ → Turn S → Met → Turn S → Type 0
   HandedBy did.Done n t met t' = (met ≡ Again) × (t' ≡ record t { entry = record t.entry { threshold = Configured n } })
   HandedBy did.Refused n t met t' = (met ≡ Again) × (t' ≡ record t { entry = record t.entry { threshold = Configured n } })
@@ -283,8 +283,8 @@ module _ {S : Type 0} (m : AssociationMeaning S) where
   abbrev pub is_entry_there : S → StreamEntry → Bool
   is_entry_there a entry = m.has_stream a entry.id && fits_generation entry.generation (m.generation a entry.id)
 
-  -- an entry past its opening is closed where it is marked, marked where its stream is not there, and else has its
-  -- threshold handed over or a message read
+  -- an entry past its opening is closed if it is marked, marked if its stream is missing, and else has its threshold passed on or a message
+  -- read
   abbrev pub Attends : Turn S → Met → Turn S → Type 0
   Attends t met t' = AttendsIf t.entry.marked (is_entry_there t.association t.entry) t met t'
 

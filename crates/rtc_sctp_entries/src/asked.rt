@@ -1,4 +1,4 @@
-//! What an association answers, as far as streams tell answers apart.
+//! What an association returns, as streams distinguish it.
 ghost use Rattle.std.specs.Prelude.{◌≡◌};
 ghost use Rattle.rtc_sctp_entries.specs.Answers.{asked_of};
 
@@ -13,7 +13,7 @@ pub enum Asked {
 }
 
 impl Asked {
-    /// What an answer is to streams.
+    /// What a result is to streams.
     pub fn of<T: Drop>(answer: Result<T, AssocError>) -> Asked
         ensures { result ≡ asked_of answer }
     {

@@ -2,7 +2,7 @@
 ghost use Rattle.std.specs.Prelude.{◌≡◌};
 ghost use Rattle.rtc_sctp_entries.specs.Entries.{threshold_set};
 
-/// Below how many unacknowledged bytes a stream tells `BufferedAmountLow`, as far as the association has it.
+/// Below how many unacknowledged bytes a stream reports `BufferedAmountLow`, and whether the association has that threshold.
 #[derive(Clone, Copy, Debug, PartialEq, Eq)]
 pub enum BufferedThresholdConfig {
     Unconfigured,
@@ -13,7 +13,7 @@ pub enum BufferedThresholdConfig {
 }
 
 impl BufferedThresholdConfig {
-    /// Asks for a threshold of `v` bytes, where it is not asked for already.
+    /// Asks for a threshold of `v` bytes, unless it is asked for already.
     pub fn set(&mut self, v: usize)
         ensures { self.new ≡ threshold_set v self.old }
     {

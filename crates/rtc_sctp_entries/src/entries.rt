@@ -60,7 +60,7 @@ fn place_from(entries: &[StreamEntry], id: u16) -> usize
     entries.partition_point(|own| own.id < id)
 }
 
-/// Where the entry of a stream is, if there is one.
+/// The place of a stream's entry, if there is one.
 pub fn place_of(entries: &[StreamEntry], id: u16) -> Option<usize>
     requires { Ascend entries.now }
     ensures { result ≡ entry_place id entries.now }
@@ -75,7 +75,7 @@ pub fn place_of(entries: &[StreamEntry], id: u16) -> Option<usize>
     None
 }
 
-// Where the entry of a stream is put in.
+// The place at which the entry of a stream is inserted.
 fn place_for(entries: &[StreamEntry], id: u16) -> usize
     requires { Ascend entries.now }
     ensures place { result ≡ new_place id entries.now }
@@ -155,7 +155,7 @@ pub fn generation_of(entries: &[StreamEntry], id: u16) -> Option<u64>
     None
 }
 
-/// Whether a generation is the one that is kept, where one is.
+/// Whether a generation is the kept one, if one is kept.
 pub fn fits_generation(own: Option<u64>, generation: u64) -> bool
     ensures { result ≡ FitsGeneration own generation }
 {

@@ -1,4 +1,4 @@
-//! What an association answers to a reading.
+//! What an association returns for a reading.
 ghost use Rattle.std.specs.Prelude.{◌≡◌};
 ghost use Rattle.rtc_sctp_entries.specs.Answers.{heard_of};
 
@@ -15,7 +15,7 @@ pub enum Heard {
 }
 
 impl Heard {
-    /// What an answer is to streams.
+    /// What a result is to streams.
     pub fn of(answer: Result<Option<(Ppi, Bytes)>, AssocError>) -> Heard
         ensures { result ≡ heard_of answer }
     {

@@ -42,7 +42,7 @@ fn acknowledge<S: Association>(
     }
 }
 
-// The config of the entry came from the other end: the stream gets its reliability.
+// The entry takes its config from the other end: the stream gets its reliability.
 fn take_up<S: Association>(
     alloc: Global,
     label: Text,
@@ -76,7 +76,7 @@ fn read_open(alloc: Global, bytes: &[u8]) -> ReadMessage
     }
 }
 
-// The open message of the other end gives an entry its config, where it has none.
+// The open message of the other end gives an entry its config, if it has none.
 fn give_config(entry: &mut StreamEntry, config: ChannelConfig)
     ensures { entry.new ≡ record entry.old { config = given_config entry.old.config config } }
 {

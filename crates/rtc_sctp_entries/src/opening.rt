@@ -1,4 +1,4 @@
-//! What an association answers to an opening.
+//! What an association returns for an opening.
 ghost use Rattle.std.specs.Prelude.{◌≡◌};
 ghost use Rattle.rtc_sctp_entries.specs.Answers.{opening_of};
 
@@ -17,7 +17,7 @@ pub enum Opening {
 }
 
 impl Opening {
-    /// What an answer is to streams.
+    /// What a result is to streams.
     pub fn of(answer: Result<(), AssocError>) -> Opening
         ensures { result ≡ opening_of answer }
     {

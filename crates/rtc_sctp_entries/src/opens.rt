@@ -19,7 +19,7 @@ use rtc_wire::{
 };
 use std::alloc::{AllocError, Global};
 
-/// Whether both ends settled the stream by other means.
+/// Whether the stream was negotiated out-of-band.
 pub fn is_out_of_band(entry: &StreamEntry) -> bool
     ensures { result ≡ IsOutOfBand entry.now }
 {

@@ -8,7 +8,7 @@ pub enum SctpEvent {
     Transmit { packets: Seq<Bytes> },
     /// The stream is open, with the label of its channel.
     Open { id: u16, label: Text },
-    /// The stream is closed. Where a reset is pending, its `StreamResetComplete` is to come.
+    /// The stream is closed. If a reset is pending, its `StreamResetComplete` follows.
     Close { id: u16, reset_pending: bool },
     /// The stream was reset at both ends: its number can be used again.
     StreamResetComplete { id: u16 },

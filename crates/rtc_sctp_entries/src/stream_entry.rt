@@ -7,14 +7,14 @@ use rtc_wire::{ChannelConfig, Moment};
 pub struct StreamEntry {
     pub id: u16,
     pub state: StreamEntryState,
-    /// What its channel is opened with; None until the open message of the other end came.
+    /// What its channel is opened with; None until the open message of the other end was received.
     pub config: Option<ChannelConfig>,
     /// Whether it is to be closed.
     pub marked: bool,
     pub threshold: BufferedThresholdConfig,
-    /// When its opening was refused first, where it is tried again.
+    /// When its opening was first refused, if it is tried again.
     pub refused: Option<Moment>,
-    /// The generation of the stream that its channel was announced or acknowledged in; None before, and where both ends
-    /// settled the channel by other means.
+    /// The generation of the stream in which its channel was announced or acknowledged; None before, and if the channel
+    /// was negotiated out-of-band.
     pub generation: Option<u64>,
 }

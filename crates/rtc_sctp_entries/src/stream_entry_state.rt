@@ -1,6 +1,6 @@
-//! How far a stream has come.
+//! The progress of a stream.
 
-/// How far the opening of a stream has come (RFC 8832, section 6).
+/// The progress of the opening of a stream (RFC 8832, section 6).
 ///
 /// ```text
 /// opened here, in-band         AwaitOpen -> AwaitDcepAck -> Open

@@ -52,7 +52,7 @@ fn read_entry<S: Association>(
     take_heard(alloc, heard, association, entry, resets)
 }
 
-// Hands a threshold over once, refused or not.
+// Passes a threshold on once, refused or not.
 fn hand_threshold<S: Association>(
     n: usize,
     association: &mut S,

@@ -28,7 +28,7 @@ pub record KeepsGeneration {S : Type 0} (m : AssociationMeaning S) (s : ℕ) (a 
   pub closed : m.closed_here a s ≡ true → m.closed_here b s ≡ true
   pub ending : (m.closing a || m.closed a) ≡ true → (m.closing b || m.closed b) ≡ true
 
--- What holds further of an association whose streams come to another generation by packets alone.
+-- What further holds of an association whose streams get another generation only by packets.
 pub record GenerationLaws {S : Type 0} (m : AssociationMeaning S) : Type 0 where
   -- no other act changes a generation
   pub acts_keep : (s : ℕ) (a b : S) (act : AssociationAct) → gives_packet act ≡ false → Acted m a act b → KeepsGeneration m s a b

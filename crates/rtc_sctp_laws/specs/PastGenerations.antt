@@ -5,7 +5,7 @@ use Rattle.rtc_part_association.specs.AssociationActs.{AssociationAct}
 use Rattle.rtc_part_association.specs.AssociationWords.{written}
 use Rattle.rtc_sctp_laws.specs.StreamUses.{is_spent_stream}
 
--- the stream came to a later generation, or it has this one and takes no message any more
+-- the stream has a later generation, or it has this one and takes no message any more
 abbrev pub IsPast : {S : Type 0} → AssociationMeaning S → (stream generation : ℕ) → S → Type 0
 IsPast m s g a = (g < m.generation a s) ⊎ ((m.generation a s ≡ g) × (is_spent_stream m s a ≡ true))
 

@@ -1,4 +1,4 @@
--- Messages of streams, as acts of the association and as events that are answered.
+-- Messages of streams, as acts of the association and as events that are returned.
 use Rattle.std.specs.Prelude.{ℕ, ◌≡◌, ◌++◌, Bool, true, false, List, [], ◌∷◌, Option, Some, None, Result, Ok, Err}
 use Rattle.std.specs.List.{list_all}
 use Rattle.std.specs.declared.alloc.AllocError.{AllocError}
@@ -22,7 +22,7 @@ pub record StreamMessage : Type 0 where
 abbrev pub stream_message : (stream generation : ℕ) → Ppi → List ℕ → StreamMessage
 stream_message stream generation ppi bytes = record { stream = stream; generation = generation; ppi = ppi; bytes = bytes }
 
--- an identifier has its name, where its number has one (RFC 8831, section 8)
+-- an identifier has its name, if its number has one (RFC 8831, section 8)
 abbrev pub IsNamedPpi : Ppi → Type 0
 IsNamedPpi i = ppi_of (ppi_number i) ≡ i
 
@@ -31,7 +31,7 @@ abbrev pub HaveNamedPpis : List StreamMessage → Type 0
 HaveNamedPpis [] = Unit {0}
 HaveNamedPpis (x ∷ messages) = IsNamedPpi x.ppi × HaveNamedPpis messages
 
--- What holds of an association whose readings answer identifiers by their names.
+-- What holds of an association whose readings name identifiers.
 abbrev pub NamesReadings : {S : Type 0} → AssociationMeaning S → Type 0
 NamesReadings {S} m = (a b : S) (id : ℕ) (i : Ppi) (bytes : List ℕ) → m.read a id (Ok (Some (i, bytes))) b → IsNamedPpi i
 
@@ -68,7 +68,7 @@ is_dcep_message x = is_dcep x.ppi
 abbrev pub are_dcep : List StreamMessage → Bool
 are_dcep messages = list_all is_dcep_message messages
 
--- what is answered of a message: text and binary are data, the empty ones without bytes (RFC 8831, section 6.6)
+-- what is returned of a message: text and binary are data, the empty ones without bytes (RFC 8831, section 6.6)
 abbrev pub shown_message : ℕ → Ppi → List ℕ → List SctpEvent
 shown_message id ppi.Dcep bytes = []
 shown_message id ppi.Text bytes = event.Data id false bytes ∷ []
@@ -113,7 +113,7 @@ packets_met Again = []
 packets_met (Output e) = packets_event e
 packets_met OutOfMemory = []
 
--- the stream whose completed reset is told by an event
+-- the stream whose completed reset an event reports
 abbrev pub resets_event : SctpEvent → List ℕ
 resets_event (event.Transmit packets) = []
 resets_event (event.Open id label) = []
@@ -129,13 +129,13 @@ resets_met Again = []
 resets_met (Output e) = resets_event e
 resets_met OutOfMemory = []
 
--- what the last pass of a poll met, by the answer of the poll
+-- what the last pass of a poll met, by the result of the poll
 abbrev pub met_of : Result (Option SctpEvent) AllocError → Met
 met_of (Ok None) = Nothing
 met_of (Ok (Some e)) = Output e
 met_of (Err x) = OutOfMemory
 
--- packets that came back and stand to be given again
+-- packets that were pushed back and wait to be given again
 abbrev pub pushed_packets : Option (List (List ℕ)) → List (List ℕ)
 pushed_packets None = []
 pushed_packets (Some packets) = packets

@@ -1,4 +1,4 @@
--- Calls on streams in turn, with what their polls answer, and the order of a Close and the completed resets.
+-- Calls on streams in turn, with what their polls return, and the order of a Close and the completed resets.
 use Rattle.std.specs.Prelude.{ℕ, ◌≡◌, ◌++◌, ◌==◌, ◌&&◌, ◌||◌, Bool, true, false, List, [], ◌∷◌, Option, Some, None, Result, Ok, Err}
 use Rattle.std.specs.List.{list_any}
 use Rattle.std.specs.declared.alloc.AllocError.{AllocError}
@@ -19,13 +19,13 @@ use Rattle.rtc_sctp.specs.Calls.{Inits, Shuts, WritesStream, TakesInput, TakesTi
 use Rattle.rtc_sctp.specs.StreamCalls.{OpensStream, ClosesDataStream, SetsThreshold}
 use Rattle.rtc_sctp.specs.Polls.{PollsStreams}
 
--- the event of a poll, where there is one
+-- the event of a poll, if there is one
 abbrev pub event_of : Result (Option SctpEvent) AllocError → List SctpEvent
 event_of (Ok None) = []
 event_of (Ok (Some e)) = e ∷ []
 event_of (Err x) = []
 
--- one call on streams, and the events that it answers
+-- one call on streams, and the events that it returns
 pub data CallsStreams {S : Type 0} (m : AssociationMeaning S) (p : SctpStreams S) (events : List SctpEvent) (q : SctpStreams S)
     : Type 0 where
   Inited : (client : Bool) (now max : ℕ) (snap : Option InitHalves) (r : Result (Unit {0}) SctpError) → Inits m client now max snap p r q
@@ -47,12 +47,12 @@ pub data CallsStreams {S : Type 0} (m : AssociationMeaning S) (p : SctpStreams S
   PushedBack : (packets : List (List ℕ)) → q ≡ record p { pushed = Some packets } → events ≡ [] → CallsStreams m p events q
   Polled : (r : Result (Option SctpEvent) AllocError) → PollsStreams m p r q → events ≡ event_of r → CallsStreams m p events q
 
--- calls in turn, by what each answers
+-- calls in turn, by what each returns
 abbrev pub CallsInTurn : {S : Type 0} → AssociationMeaning S → List (List SctpEvent) → SctpStreams S → SctpStreams S → Type 0
 CallsInTurn m [] p q = q ≡ p
 CallsInTurn {S} m (events ∷ more) p q = (r : SctpStreams S) × CallsStreams m p events r × CallsInTurn m more r q
 
--- what calls answer, in order
+-- what calls return, in order
 abbrev pub all_events : List (List SctpEvent) → List SctpEvent
 all_events [] = []
 all_events (events ∷ more) = events ++ all_events more
@@ -72,7 +72,7 @@ is_closing_entry id entry = (entry.id == id) && (entry.marked && is_past_opening
 abbrev pub has_closing_entry : ℕ → List StreamEntry → Bool
 has_closing_entry id entries = list_any (is_closing_entry id) entries
 
--- of these events the Close of a stream comes before any completed reset
+-- of these events the Close of a stream is before any completed reset
 abbrev pub closes_first : ℕ → List SctpEvent → Bool
 closes_first id [] = true
 closes_first id (event.Close other pending ∷ events) = (other == id) || closes_first id events

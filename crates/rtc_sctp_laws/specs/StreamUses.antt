@@ -67,8 +67,8 @@ pub record IsOpened (written heard : List StreamMessage) : Type 0 where
 abbrev pub IsLiveIn : ℕ → StreamEntry → Type 0
 IsLiveIn g entry = (entry.state ≡ Open) × (entry.generation ≡ Some g)
 
--- where a stream is told to be open in a generation it was opened in-band, and its entry is open and keeps that generation; or both ends
--- settled it by other means
+-- if a stream is reported as open in a generation, it was opened in-band, and its entry is open and keeps that generation; or it was
+-- negotiated out-of-band
 abbrev pub IsOpenedIn : StreamEntry → (generation : ℕ) → (written heard : List StreamMessage) → Type 0
 IsOpenedIn entry g written heard = (is_out_of_band entry ≡ true) ⊎ (IsOpened written heard × IsLiveIn g entry)
 
@@ -76,8 +76,7 @@ abbrev pub WereOpened : List StreamEntry → (generation : ℕ) → (written hea
 WereOpened [] g written heard = ⊥
 WereOpened (entry ∷ entries) g written heard = IsOpenedIn entry g written heard
 
--- the generation that an entry speaks of: the one that it keeps, where it waits for an acknowledgement, and else the one that its stream
--- has
+-- the generation that an entry speaks of: the one that it keeps, if it waits for an acknowledgement, and else the one that its stream has
 abbrev pub spoken_generation : StreamEntryState → (own : Option ℕ) → ℕ → ℕ
 spoken_generation AwaitOpen own g = g
 spoken_generation AwaitConfig own g = g
@@ -93,8 +92,8 @@ IsLive s g entries = OneAtMost ⊥ (IsLiveIn g) (entries_of s entries)
 abbrev pub IsShutDown : ℕ → List StreamEntry → Type 0
 IsShutDown s entries = OneAtMost (Unit {0}) (λ entry. entry.state ≡ Closed) (entries_of s entries)
 
--- A step leaves a stream live unless it tells that it is closed, and does not tell it to be open again; of one that found no memory nothing
--- is said.
+-- A step leaves a stream live unless it reports its close, and does not report it as open again; of one that ran out of memory nothing is
+-- said.
 abbrev pub LeavesLive : Met → (stream generation : ℕ) → List StreamEntry → Type 0
 LeavesLive OutOfMemory s g entries = Unit {0}
 LeavesLive Nothing s g entries = IsLive s g entries
@@ -113,7 +112,7 @@ abbrev pub HasOpenInBand : (stream : ℕ) → (own : Option ℕ) → List Stream
 HasOpenInBand s own [] = ⊥
 HasOpenInBand s own (entry ∷ entries) = ((entry.id ≡ s) × IsOpenInBand own entry) ⊎ HasOpenInBand s own entries
 
--- a step tells that a stream is open
+-- a step reports that a stream is open
 abbrev pub TellsStreamOpen : Met → ℕ → Type 0
 TellsStreamOpen (Output (event.Open id label)) s = id ≡ s
 TellsStreamOpen met s = ⊥
@@ -164,14 +163,14 @@ module _ {S : Type 0} (m : AssociationMeaning S) where
   abbrev pub AreUsedIn : List StreamEntry → ℕ → S → (written heard : List StreamMessage) → Type 0
   AreUsedIn entries s a written heard = OneAtMost (NoneUsed s a written heard) (EntryUsed s a written heard) entries
 
-  -- What was written and read of a stream until now. Nothing was of a generation that it has not come to, nor of its own one where it is
-  -- not there.
+  -- What was written and read of a stream until now. Nothing was of a generation that it does not have yet, nor of its own one if it is not
+  -- there.
   pub record IsReached (s : ℕ) (written heard : List StreamMessage) (a : S) : Type 0 where
     pub ahead : (g : ℕ) → m.generation a s < g → (messages_of s g written ≡ []) × (messages_of s g heard ≡ [])
     pub absent : m.has_stream a s ≡ false
         → (messages_of s (m.generation a s) written ≡ []) × (messages_of s (m.generation a s) heard ≡ [])
 
-  -- the use of a stream: that, and of the generation that it has, or that its entry keeps, what this tells
+  -- the use of a stream: that, and of the generation that it has, or that its entry keeps, what this says
   pub record IsUsed (s : ℕ) (written heard : List StreamMessage) (a : S) (entries : List StreamEntry) : Type 0 where
     pub reached : IsReached s written heard a
     pub used : AreUsedIn (entries_of s entries) s a written heard

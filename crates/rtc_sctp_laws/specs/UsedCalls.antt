@@ -13,10 +13,10 @@ use Rattle.rtc_sctp_laws.specs.StreamUses.{HasOpenInBand, IsLive, LeavesLive, Te
 abbrev pub IsUsedOver : {S : Type 0} → AssociationMeaning S → ℕ → (written heard : List StreamMessage) → SctpStreams S → Type 0
 IsUsedOver m s written heard p = IsUsed m s written heard p.association p.entries
 
--- A poll, or a step of one: it gave no packet, took these and was told these events, wrote messages that open channels alone, and what it
--- answered of data is what it read. What it sent, and what stands pushed back behind it, is what stood pushed back before and what it
--- took. Each use goes on by what it wrote and read, and a stream that it told to be open was opened. A live stream stays so unless it is
--- told to be closed, and what was read of it is of its generation. A stream that is open in-band was so before, or is told to be open.
+-- A poll, or a step of one: it gave no packet, took these and polled these events, and wrote only messages that open channels. The data
+-- that it returned is what it read. What it sent, with what is pushed back afterwards, is what was pushed back before and what it took.
+-- Each use continues by what it wrote and read, and a stream that it reported as open was opened. A live stream stays so unless its close
+-- is reported, and what was read of it is of its generation. A stream that is open in-band was so before, or is reported as open.
 pub record PollUses {S : Type 0} (m : AssociationMeaning S) (p : SctpStreams S) (met : Met) (q : SctpStreams S) : Type 0 where
   pub outs : List (List ℕ)
   pub tells : List AssocEvent

@@ -17,10 +17,10 @@ use rtc_part_association::Association;
 
 /// What each call on streams did to the association, as acts in order.
 ///
-/// A poll gives the association no packet. What it sends, and what stands pushed back behind it, is what stood pushed
-/// back before and what it took; the data that it answers is what it read, in order; and it writes open messages and
-/// their acknowledgements alone. A write that is Ok writes one message, and `handle_input` gives one packet. Every other
-/// call gives, takes, writes and reads nothing.
+/// A poll gives the association no packet. What it sends, with what is pushed back afterwards, is what was pushed back
+/// before and what it took. The data that it returns is what it read, in order. It writes only open messages and their
+/// acknowledgements. A write that is Ok writes one message, and `handle_input` gives one packet. Every other call
+/// gives, takes, writes and reads nothing.
 pub fn calls_did<S: Association>()
     ensures polls { (p q : SctpStreams S) (r : Result (Option SctpEvent) AllocError) → PollsStreams S.association p r q
         → PollDid S.association p (met_of r) q }

@@ -12,9 +12,9 @@ ghost use Rattle.rtc_sctp_laws.specs.StreamRuns.{CallsInTurn, all_events, is_pas
 
 use rtc_part_association::Association;
 
-/// The entry of a stream that is past its opening is to be closed where its stream is closed from here, and where the
-/// close of the other end is told. Over an established association, of the events that calls in turn answer from then
-/// on, its Close comes before any completed reset.
+/// The entry of a stream that is past its opening is to be closed if the stream is closed from here, and if the close
+/// of the other end is reported. Over an established association, its Close is before any completed reset among the
+/// events that later calls return.
 pub fn close_comes_before_completion<S: Association>()
     ensures closed { (p q : SctpStreams S) (id place : ℕ) (e : StreamEntry) (r : Result (Unit {0}) AllocError)
         → entry_place id p.entries ≡ Some place → slice_get p.entries place ≡ Some e → is_past_opening e.state ≡ true

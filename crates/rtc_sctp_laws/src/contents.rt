@@ -21,11 +21,12 @@ ghost use Rattle.rtc_sctp_laws.specs.PastGenerations.{IsPast, StaysPast};
 
 use rtc_part_association::Association;
 
-/// A stream whose entry is open in a generation stays so by every call but a poll that tells that it is closed; a message that is written
-/// to it is written to this generation; and what of it is answered as data is what the messages of this generation carry.
+/// A stream whose entry is open in a generation stays so by every call but a poll that reports its close. A message
+/// that is written to it is written to this generation. What is returned of it as data is what the messages of this
+/// generation carry.
 ///
-/// Where a stream came to a later generation, or was closed by this end in the one that it has, no act writes to the earlier one any more.
-/// So it is where the stream has no entry but a closed one, and a channel was opened or acknowledged in that generation.
+/// No act writes to an earlier generation once the stream has a later one, or once this end closed it in its own. So it
+/// is if the stream has no entry but a closed one, and a channel was opened or acknowledged in that generation.
 pub fn live_streams_carry<S: Association>()
     ensures writes_own { (p q : SctpStreams S) (id n g : ℕ) (binary : Bool) (bytes : List ℕ)
         → WritesStream S.association id binary bytes p (Ok n) q → IsLive id g p.entries → S.association.generation p.association id ≡ g }

@@ -1,5 +1,4 @@
-//! Laws of streams: what their calls do to the association, in which order their events come,
-//! and what is written and read of each generation.
+//! Laws of streams: what their calls do to the association, the order of their events, and what is written and read of each generation.
 #![tactic(auto)]
 
 mod acts;

@@ -3,9 +3,9 @@ ghost use Rattle.rtc_assoc_state.specs.PlainMeaning.{plain_meaning};
 ghost use Rattle.rtc_sctp_laws.specs.StreamMessages.{NamesReadings};
 ghost use Rattle.rtc_sctp_laws.specs.GenerationLaws.{GenerationLaws};
 
-/// Streams of the plain association come to another generation by packets alone. Within a generation a stream that is there stays
-/// there, one that this end closed stays closed, and an association that is closing or closed stays so. A reading answers an identifier
-/// by its name, where its number has one (RFC 8831, section 8).
+/// Streams of the plain association get another generation only by packets. Within a generation a stream that is there
+/// stays there, and one that this end closed stays closed; an association that is closing or closed stays so. A reading
+/// names an identifier if its number has one (RFC 8831, section 8).
 pub fn plain_streams_keep_laws()
     ensures generations { GenerationLaws plain_meaning }
     ensures named { NamesReadings plain_meaning }

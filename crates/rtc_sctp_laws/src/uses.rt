@@ -19,14 +19,14 @@ ghost use Rattle.rtc_sctp_laws.specs.UsedCalls.{IsUsedOver, PollUses};
 
 use rtc_part_association::Association;
 
-/// Each call on streams keeps the use of every stream, over an association whose streams come to another generation by packets
-/// alone.
+/// Each call on streams keeps the use of every stream, over an association whose streams get another generation only by packets.
 ///
-/// A poll also says of each stream that it tells to be open in-band that no data was written of its generation before, and that the
-/// last message that was read of it opens a channel or acknowledges that, and none before; and a stream whose entry is open in a
-/// generation stays so, is not told to be open again, and is read in that generation alone, until it is told to be closed; and none
-/// is open in-band that was not before, unless this is told. A write that is Ok adds its message. A poll that found no memory leaves
-/// nothing known.
+/// For each stream that a poll reports as open in-band, no data was written of its generation before. The last message
+/// that was read of it opens a channel or acknowledges one, and none before does.
+///
+/// A stream whose entry is open in a generation stays so, and is not reported as open again, until its close is
+/// reported; until then it is read in that generation alone. None becomes open in-band unless this is reported. A write
+/// that is Ok adds its message. After a poll that is out of memory nothing is known.
 pub fn calls_keep_uses<S: Association>()
     ensures begins { (s : ℕ) (a : S) → IsUsed S.association s [] [] a [] }
     ensures polls { (p q : SctpStreams S) (r : Result (Option SctpEvent) AllocError)

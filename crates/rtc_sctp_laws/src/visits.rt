@@ -7,8 +7,7 @@ ghost use Rattle.rtc_sctp_entries.specs.Visits.{Turn, Visits};
 
 use rtc_part_association::Association;
 
-/// Data is answered only of an entry that is not marked. An opening that was refused first ten seconds ago or earlier is
-/// not left waiting.
+/// Data is returned only of an entry that is not marked. An opening that was first refused ten seconds ago or earlier is not left waiting.
 pub fn visits_keep_marks_and_deadlines<S: Association>()
     ensures data { (now : ℕ) (t t' : Turn S) (met : Met) → Visits S.association now t met t' → is_data_met met ≡ true
         → t.entry.marked ≡ false }

@@ -24,7 +24,7 @@ init_chunk tag budget first =
 unfoldable pub chunk_text : List ℕ → List ℕ
 chunk_text chunk = encode_of standard chunk
 
--- the chunk of a text, where it is base64 with the padding that belongs there and no bit left over
+-- the chunk of a text, if it is base64 with the padding that belongs there and no bit left over
 unfoldable pub chunk_of_text : List ℕ → Option (List ℕ)
 chunk_of_text text = decoded_of standard text
 

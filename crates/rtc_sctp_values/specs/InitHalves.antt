@@ -1,4 +1,4 @@
--- The two halves of a start by session descriptions: the chunk of each end, and what the calls on them do.
+-- The SNAP INIT chunks of both ends, and what the calls on them do.
 use Rattle.std.specs.Prelude.{ℕ, ◌≡◌, ◌&&◌, Bool, List, [], Option, Some, None, is_some, option_map, Result, Ok, Err}
 use Rattle.std.specs.declared.alloc.AllocError.{AllocError}
 use Rattle.rtc_part_values.specs.Draws.{Draws}
@@ -16,26 +16,26 @@ pub record InitHalves : Type 0 where
 abbrev pub no_halves : (limit : ℕ) → InitHalves
 no_halves limit = record { local = None; remote = None; limit = limit }
 
--- both halves are there
+-- both chunks are there
 abbrev pub is_whole : InitHalves → Bool
 is_whole halves = is_some halves.local && is_some halves.remote
 
 abbrev pub with_remote : List ℕ → InitHalves → InitHalves
 with_remote chunk halves = record halves { remote = Some chunk }
 
--- the bytes of a half, of which there are none where it is not there
+-- the bytes of a chunk, of which there are none if it is missing
 abbrev pub half_bytes : Option (List ℕ) → List ℕ
 half_bytes None = []
 half_bytes (Some chunk) = chunk
 
--- the texts of the halves that are there
+-- the texts of the chunks that are there
 abbrev pub local_text : InitHalves → Option (List ℕ)
 local_text halves = option_map chunk_text halves.local
 
 abbrev pub remote_text : InitHalves → Option (List ℕ)
 remote_text halves = option_map chunk_text halves.remote
 
--- a text is set as the other end's half; one that is no base64 is refused, and then nothing changes
+-- a text is set as the other end's chunk; one that is no base64 is refused, and then nothing changes
 abbrev pub TakesText : Option (List ℕ) → InitHalves → Result (Unit {0}) SctpError → InitHalves → Type 0
 TakesText chunk halves (Ok x) halves' = (bytes : List ℕ) × (chunk ≡ Some bytes) × (halves' ≡ with_remote bytes halves)
 TakesText chunk halves (Err sctp.InvalidSnap) halves' = (chunk ≡ None) × (halves' ≡ halves)
@@ -46,7 +46,7 @@ abbrev pub SetsRemoteText : List ℕ → InitHalves → Result (Unit {0}) SctpEr
 SetsRemoteText text halves r halves' = TakesText (chunk_of_text text) halves r halves'
 
 module _ {N : Type 0} (draws : Draws N) where
-  -- the half of this end: the one that is there, or else a drawn one
+  -- this end's chunk: the one that is there, or else a drawn one
   abbrev pub local_half : Option (List ℕ) → (limit : ℕ) → N → List ℕ
   local_half None limit ids = drawn_chunk draws limit ids
   local_half (Some chunk) limit ids = chunk
@@ -58,11 +58,11 @@ module _ {N : Type 0} (draws : Draws N) where
   abbrev pub with_local : InitHalves → N → InitHalves
   with_local halves ids = record halves { local = Some (local_half halves.local halves.limit ids) }
 
-  -- this end's half is there afterwards; where memory runs out, nothing changes and nothing is drawn
+  -- this end's chunk is there afterwards; if memory runs out, nothing changes and nothing is drawn
   abbrev pub DrawsLocal : InitHalves → N → Result (Unit {0}) AllocError → InitHalves → N → Type 0
   DrawsLocal halves ids (Ok x) halves' ids' = (halves' ≡ with_local halves ids) × (ids' ≡ after_half halves.local ids)
   DrawsLocal halves ids (Err e) halves' ids' = (halves' ≡ halves) × (ids' ≡ ids)
 
-  -- what is left where memory runs out while this end's half is asked for: it may be there
+  -- what is left if memory runs out while this end's chunk is asked for: it may be there
   abbrev pub MayDrawLocal : InitHalves → N → InitHalves → N → Type 0
   MayDrawLocal halves ids halves' ids' = (answer : Result (Unit {0}) AllocError) × DrawsLocal halves ids answer halves' ids'

@@ -24,7 +24,7 @@ use rtc_wire::{Bytes, LOCAL_MAX_MESSAGE_SIZE, TryCopy};
 use std::alloc::{AllocError, Global};
 use std::marker::Model;
 
-/// The two halves of a start by session descriptions: the INIT chunk of each end (draft-hancke-tsvwg-snap).
+/// The SNAP INIT chunks of both ends (draft-hancke-tsvwg-snap).
 #[derive(Debug, Drop)]
 pub struct SctpInitData {
     alloc: Global,
@@ -51,7 +51,7 @@ fn encode(alloc: Global, chunk: &[u8]) -> Result<String, AllocError>
     STANDARD.encode(alloc, chunk)
 }
 
-// The text of a half, where it is there.
+// The text of a chunk, if it is there.
 fn encode_half(alloc: Global, half: &Option<Bytes>) -> Result<Option<String>, AllocError>
     ensures { IfOk result (λ text. option_map (λ t. string_bytes t) text ≡ option_map chunk_text half.now) }
 {
@@ -64,7 +64,7 @@ fn encode_half(alloc: Global, half: &Option<Bytes>) -> Result<Option<String>, Al
     }
 }
 
-// The bytes of a half; none where it is not there.
+// The bytes of a chunk; none if it is missing.
 fn bytes_of(half: &Option<Bytes>) -> &[u8]
     ensures { result.now ≡ half_bytes half.now }
 {
@@ -74,7 +74,7 @@ fn bytes_of(half: &Option<Bytes>) -> &[u8]
     }
 }
 
-/// The chunk of a text; None where it is no base64 with its padding (RFC 4648, section 4), or has bits left over.
+/// The chunk of a text; None if it is no padded base64 (RFC 4648, section 4), or has bits left over.
 pub(crate) fn read_chunk(alloc: Global, text: &str) -> Result<Option<Vec<u8>>, AllocError>
     ensures chunk { IfOk result (λ chunk. option_map (λ bytes. bytes.items) chunk ≡ chunk_of_text text.now) }
     ensures text { IfOk result (λ chunk. IfSome chunk (λ bytes. chunk_text bytes.items ≡ text.now)) }
@@ -87,14 +87,14 @@ pub(crate) fn read_chunk(alloc: Global, text: &str) -> Result<Option<Vec<u8>>, A
 }
 
 impl SctpInitData {
-    /// No halves, of an end that takes messages of `LOCAL_MAX_MESSAGE_SIZE`.
+    /// No chunks, of an end that takes messages of `LOCAL_MAX_MESSAGE_SIZE`.
     pub fn new(alloc: Global) -> SctpInitData
         ensures { result ≡ no_halves 262_144 }
     {
         SctpInitData::with_limit(alloc, LOCAL_MAX_MESSAGE_SIZE)
     }
 
-    /// No halves, of an end that takes messages of at most `limit` bytes; 0 means any.
+    /// No chunks, of an end that takes messages of at most `limit` bytes; 0 means any.
     pub fn with_limit(alloc: Global, limit: u32) -> SctpInitData
         ensures { result ≡ no_halves limit }
     {
@@ -106,7 +106,7 @@ impl SctpInitData {
         }
     }
 
-    /// Draws this end's half where it is not there. Where memory runs out, nothing changes and nothing is drawn.
+    /// Draws this end's chunk if it is missing. If memory runs out, nothing changes and nothing is drawn.
     pub fn ensure_local_init_chunk<N: Ids>(&mut self, ids: &mut N) -> Result<(), AllocError>
         ensures { DrawsLocal N.ids self.old ids.old result self.new ids.new }
     {
@@ -120,7 +120,7 @@ impl SctpInitData {
         Ok(())
     }
 
-    // A copy of this end's half.
+    // A copy of this end's chunk.
     fn copy_local(&self) -> Result<Vec<u8>, AllocError>
         requires { IsSome self.now.local }
         ensures { IfOk result (λ chunk. self.now.local ≡ Some chunk.items) }
@@ -131,7 +131,7 @@ impl SctpInitData {
         }
     }
 
-    /// This end's half, which is drawn at the first call.
+    /// This end's chunk, which is drawn at the first call.
     pub fn local_init_chunk<N: Ids>(&mut self, ids: &mut N) -> Result<Vec<u8>, SctpError>
         ensures half { IfOk result (λ chunk. chunk.items ≡ local_half N.ids self.old.local self.old.limit ids.old) }
         ensures drawn { OnOk result (DrawsLocal N.ids self.old ids.old (Ok tt) self.new ids.new) }
@@ -143,7 +143,7 @@ impl SctpInitData {
         Ok(chunk)
     }
 
-    /// The text of this end's half, which is drawn at the first call.
+    /// The text of this end's chunk, which is drawn at the first call.
     pub fn local_init_string<N: Ids>(&mut self, ids: &mut N) -> Result<String, SctpError>
         ensures half { IfOk result (λ text. string_bytes text
             ≡ chunk_text (local_half N.ids self.old.local self.old.limit ids.old)) }
@@ -157,35 +157,35 @@ impl SctpInitData {
         Ok(text)
     }
 
-    /// The text of this end's half, where it is there.
+    /// The text of this end's chunk, if it is there.
     pub fn local_text(&self) -> Result<Option<String>, AllocError>
         ensures { IfOk result (λ text. option_map (λ t. string_bytes t) text ≡ LocalText self.now) }
     {
         encode_half(self.alloc, &self.local)
     }
 
-    /// Whether the other end's half is there.
+    /// Whether the other end's chunk is there.
     pub fn has_remote_init_chunk(&self) -> bool
         ensures { result ≡ is_some self.now.remote }
     {
         self.remote.is_some()
     }
 
-    /// The text of the other end's half, where it is there.
+    /// The text of the other end's chunk, if it is there.
     pub fn remote_init_string(&self) -> Result<Option<String>, AllocError>
         ensures { IfOk result (λ text. option_map (λ t. string_bytes t) text ≡ RemoteText self.now) }
     {
         encode_half(self.alloc, &self.remote)
     }
 
-    /// Sets the other end's half.
+    /// Sets the other end's chunk.
     pub fn set_remote_init_chunk(&mut self, value: Vec<u8>)
         ensures { self.new ≡ with_remote value.items self.old }
     {
         self.remote = Some(Bytes::new(value));
     }
 
-    /// Sets the other end's half by its text. One that is no base64 with its padding (RFC 4648, section 4), or that has bits
+    /// Sets the other end's chunk by its text. One that is no padded base64 (RFC 4648, section 4), or that has bits
     /// left over, is InvalidSnap.
     pub fn set_remote_init_string(&mut self, value: &str) -> Result<(), SctpError>
         ensures sets { SetsRemoteText value.now self.old result self.new }
@@ -200,21 +200,21 @@ impl SctpInitData {
         }
     }
 
-    /// Whether both halves are there.
+    /// Whether both chunks are there.
     pub fn is_whole(&self) -> bool
         ensures { result ≡ IsWhole self.now }
     {
         self.local.is_some() && self.remote.is_some()
     }
 
-    /// The bytes of this end's half; none where it is not there.
+    /// The bytes of this end's chunk; none if it is missing.
     pub fn local_bytes(&self) -> &[u8]
         ensures { result.now ≡ half_bytes self.now.local }
     {
         bytes_of(&self.local)
     }
 
-    /// The bytes of the other end's half; none where it is not there.
+    /// The bytes of the other end's chunk; none if it is missing.
     pub fn remote_bytes(&self) -> &[u8]
         ensures { result.now ≡ half_bytes self.now.remote }
     {

@@ -28,8 +28,7 @@ use rtc_wire::TryCopy;
 use std::alloc::{AllocError, Global};
 use std::marker::Model;
 
-/// What an end keeps of starts by session descriptions: whether it may be started so, the pending halves, and those that the
-/// association was started with.
+/// What an end keeps of SNAP: whether it is enabled, the pending INIT chunks, and those that the association was started with.
 #[derive(Debug, Drop)]
 pub struct SnapHalves {
     alloc: Global,
@@ -69,15 +68,15 @@ impl SnapHalves {
         self.enabled
     }
 
-    /// Whether the association was started with both halves.
+    /// Whether the association was started with both chunks.
     pub fn is_begun(&self) -> bool
         ensures { result ≡ is_some self.now.started }
     {
         self.started.is_some()
     }
 
-    /// Enables a start by session descriptions for good, with pending halves until the association is started. `limit` is the
-    /// longest message that this end takes, in bytes.
+    /// Enables SNAP for good, with pending chunks until the association is started. `limit` is the longest message that
+    /// this end takes, in bytes.
     pub fn enable(&mut self, is_started: bool, limit: u32)
         ensures { self.new ≡ enabled_halves is_started limit self.old }
     {
@@ -87,14 +86,14 @@ impl SnapHalves {
         }
     }
 
-    /// Lets the pending halves go.
+    /// Drops the pending chunks.
     pub fn disable_pending(&mut self)
         ensures { self.new ≡ without_pending self.old }
     {
         self.pending = None;
     }
 
-    /// Keeps the halves that the association was started with, if any, and lets the pending ones go.
+    /// Keeps the chunks that the association was started with, if any, and drops the pending ones.
     pub fn begin(&mut self, halves: Option<SctpInitData>)
         ensures { self.new ≡ begun_halves halves self.old }
     {
@@ -102,7 +101,7 @@ impl SnapHalves {
         self.started = halves;
     }
 
-    // Draws the pending half of this end, where it is not there.
+    // Draws the pending chunk of this end, if it is missing.
     fn draw_pending<N: Ids>(&mut self, limit: u32, ids: &mut N) -> Result<(), AllocError>
         ensures { DrawsPending N.ids limit self.old ids.old result self.new ids.new }
     {
@@ -117,7 +116,7 @@ impl SnapHalves {
         }
     }
 
-    /// Draws this end's half, where it is not there. Where memory runs out, nothing changes and nothing is drawn.
+    /// Draws this end's chunk, if it is missing. If memory runs out, nothing changes and nothing is drawn.
     pub fn ensure_local<N: Ids>(&mut self, limit: u32, ids: &mut N) -> Result<(), AllocError>
         ensures { EnsuresLocal N.ids limit self.old ids.old result self.new ids.new }
     {
@@ -127,7 +126,7 @@ impl SnapHalves {
         self.draw_pending(limit, ids)
     }
 
-    // Sets the pending half of the other end.
+    // Sets the pending chunk of the other end.
     fn put_remote(&mut self, limit: u32, chunk: Vec<u8>)
         ensures { self.new ≡ record self.old { pending = Some (with_remote chunk.items (halves_or_none limit self.old.pending)) } }
     {
@@ -141,8 +140,7 @@ impl SnapHalves {
         }
     }
 
-    /// Takes the text of the other end's half. One that is no base64 with its padding lets the pending halves go, and is answered
-    /// false.
+    /// Takes the other end's chunk from its text. If that is no padded base64, the pending chunks are dropped, and it returns false.
     pub fn set_remote_text(&mut self, limit: u32, value: &str) -> Result<bool, AllocError>
         ensures keeps { KeepsRemote value.now limit self.old result self.new }
         ensures text { result ≡ Ok true → text_in remote_text self.new.pending ≡ Some value.now }
@@ -159,7 +157,7 @@ impl SnapHalves {
         }
     }
 
-    // A copy of the pending halves, or else empty ones.
+    // A copy of the pending chunks, or else empty ones.
     fn copy_pending(&self, limit: u32) -> Result<SctpInitData, AllocError>
         ensures { IfOk result (λ halves. halves ≡ halves_or_none limit self.now.pending) }
     {
@@ -169,8 +167,7 @@ impl SnapHalves {
         }
     }
 
-    /// The halves of an end that tells its own: the pending ones, with its half, which is drawn where it is not there. Where memory
-    /// runs out, nothing is drawn.
+    /// The pending chunks with this end's, which is drawn if it is missing. If memory runs out, nothing is drawn.
     pub fn draw<N: Ids>(&self, limit: u32, ids: &mut N) -> Result<SctpInitData, AllocError>
         ensures halves { IfOk result (λ halves. halves ≡ with_local N.ids (halves_or_none limit self.now.pending) ids.old) }
         ensures after { OnOk result (ids.new ≡ after_half N.ids (halves_or_none limit self.now.pending).local ids.old) }
@@ -181,22 +178,22 @@ impl SnapHalves {
         Ok(halves)
     }
 
-    /// Keeps halves as the pending ones.
+    /// Keeps chunks as the pending ones.
     pub fn keep(&mut self, halves: SctpInitData)
         ensures { self.new ≡ record self.old { pending = Some halves } }
     {
         self.pending = Some(halves);
     }
 
-    /// The halves that the association was started with.
+    /// The chunks that the association was started with.
     pub fn begun(&self) -> Option<&SctpInitData>
         ensures { option_copied result ≡ self.now.started }
     {
         self.started.as_ref()
     }
 
-    /// The halves of a start with the text of the other end's half: the pending ones, with a half of this end that is drawn where it
-    /// is not there. None where the text is no base64 with its padding. Where memory runs out, nothing is drawn.
+    /// The pending chunks with the other end's from its text; this end's is drawn if it is missing. None if the text is
+    /// no padded base64. If memory runs out, nothing is drawn.
     pub fn join<N: Ids>(
         &self,
         limit: u32,
@@ -215,7 +212,7 @@ impl SnapHalves {
         Ok(Some(halves))
     }
 
-    /// The text of this end's half: of those that the association was started with, or else of the pending ones.
+    /// The text of this end's chunk: of those that the association was started with, or else of the pending ones.
     pub fn local_text(&self) -> Result<Option<String>, AllocError>
         ensures { IfOk result (λ text. option_map (λ t. string_bytes t) text ≡ shown_local self.now) }
     {
@@ -225,7 +222,7 @@ impl SnapHalves {
         }
     }
 
-    /// The text of the other end's half: of those that the association was started with, or else of the pending ones.
+    /// The text of the other end's chunk: of those that the association was started with, or else of the pending ones.
     pub fn remote_text(&self) -> Result<Option<String>, AllocError>
         ensures { IfOk result (λ text. option_map (λ t. string_bytes t) text ≡ shown_remote self.now) }
     {
@@ -244,7 +241,7 @@ impl SnapHalves {
         }
     }
 
-    /// A copy of the pending halves, where both are there.
+    /// A copy of the pending chunks, if both are there.
     pub fn build(&self) -> Result<Option<SctpInitData>, AllocError>
         ensures { IfOk result (λ halves. halves ≡ whole_halves self.now.pending) }
     {
