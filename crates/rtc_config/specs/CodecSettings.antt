@@ -5,7 +5,7 @@ use Rattle.rtc_sdp_codecs.specs.CodecRows.{codecs_with, repeated_distances}
 use Rattle.rtc_sdp_codecs.specs.declared.codec.Codec.{Codec}
 use Rattle.rtc_config.specs.RtcConfig.{PeerConfig}
 
--- a codec that is enabled goes last, with redundant packets or without, and one that is disabled goes
+-- an enabled codec becomes the last one, with redundant packets or without; a disabled one is removed
 abbrev pub codec_set : Codec → (enabled red : Bool) → PeerConfig → PeerConfig
 codec_set codec enabled red config = record config { codecs = codecs_with (codec_row_with red codec) enabled config.codecs }
 

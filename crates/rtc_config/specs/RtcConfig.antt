@@ -21,7 +21,7 @@ pub record PeerConfig : Type 0 where
   pub media : MediaSettings
   pub sctp : SctpSettings
   pub mtu : ℕ × ℕ
-  -- whether it gives way where two offers cross; None where no role is set
+  -- whether it gives way on glare; None if no role is set
   pub polite : Option Bool
 
 -- a certificate that is set has at most 1900 bytes
@@ -71,14 +71,14 @@ default_media = record {
 abbrev pub default_sctp : SctpSettings
 default_sctp = record { max_buffered_amount = 131_072; max_message_size = 262_144; snap_enabled = false }
 
--- the codecs and the header extensions where none are set
+-- the default codecs and header extensions
 unfoldable pub unset_codecs : CodecConfig
 unset_codecs = default_codecs
 
 unfoldable pub unset_extensions : ExtensionMap
 unset_extensions = record { rows = standard_rows }
 
--- what a peer is built from where nothing is set
+-- what a peer is built from if nothing is set
 abbrev pub default_config : PeerConfig
 default_config = record {
   ice = default_ice;

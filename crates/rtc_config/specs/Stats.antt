@@ -1,4 +1,4 @@
--- The statistics of a peer: when they are due, and the order in which they are told.
+-- The statistics of a peer: when they are due, and the order in which they are reported.
 use Rattle.std.specs.Prelude.{ℕ, ◌+◌, ◌-◌, ◌^◌, min, nat_le, Bool, false, List, ◌∷◌, ◌++◌, map, Option, Some, None, option_map}
 use Rattle.std.specs.BTreeMap.{values}
 use Rattle.rtc_part_media.specs.declared.peer_stats.PeerStats.{PeerStats}
@@ -16,12 +16,12 @@ pub record Reporting : Type 0 where
 abbrev pub round_after : ℕ → ℕ → ℕ
 round_after interval last = min (last + interval) (2 ^ 64 - 1)
 
--- whether a round is due at a moment: that of the round after the last one has come
+-- whether a round is due at a moment: an interval after the last one
 abbrev pub is_round_due : ℕ → Option ℕ → ℕ → Bool
 is_round_due interval None now = false
 is_round_due interval (Some last) now = nat_le (round_after interval last) now
 
--- the last moment, or this one where there was none
+-- the last moment, or this one if there was none
 abbrev pub since : Option ℕ → ℕ → ℕ
 since None now = now
 since (Some last) now = last
@@ -47,6 +47,6 @@ abbrev pub reports_of : StatsSnapshot → List StatsEvent
 reports_of snapshot =
     Peer (peer_report snapshot) ∷ map MediaIngress (values snapshot.ingress) ++ map MediaEgress (values snapshot.egress)
 
--- a round was told at the moment of its snapshot
+-- a round was reported at the moment of its snapshot
 abbrev pub reported : Reporting → StatsSnapshot → Reporting
 reported stats snapshot = record stats { last = Some snapshot.timestamp; events = stats.events ++ reports_of snapshot }

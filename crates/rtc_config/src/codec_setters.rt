@@ -21,7 +21,7 @@ fn no_codecs(alloc: Global) -> CodecConfig
     }
 }
 
-// A codec that is enabled goes last, and one that is disabled goes.
+// An enabled codec becomes the last one; a disabled one is removed.
 fn change_codecs(
     alloc: Global,
     codecs: &mut CodecConfig,
@@ -66,28 +66,28 @@ impl RtcConfig {
         self
     }
 
-    /// Enables or disables Opus (RFC 7587), with redundant packets (RFC 2198) where `red` is true.
+    /// Enables or disables Opus (RFC 7587), with redundant packets (RFC 2198) if `red` is true.
     pub fn enable_opus(self, enabled: bool, red: bool) -> Result<RtcConfig, AllocError>
         ensures { IfOk result (λ config. config ≡ spec.codec_set Codec.Opus enabled red self) }
     {
         self.set_codec(Codec::Opus, enabled, red)
     }
 
-    /// Enables or disables PCMU (RFC 3551, section 4.5.14), with redundant packets (RFC 2198) where `red` is true.
+    /// Enables or disables PCMU (RFC 3551, section 4.5.14), with redundant packets (RFC 2198) if `red` is true.
     pub fn enable_pcmu(self, enabled: bool, red: bool) -> Result<RtcConfig, AllocError>
         ensures { IfOk result (λ config. config ≡ spec.codec_set Codec.Pcmu enabled red self) }
     {
         self.set_codec(Codec::Pcmu, enabled, red)
     }
 
-    /// Enables or disables PCMA (RFC 3551, section 4.5.14), with redundant packets (RFC 2198) where `red` is true.
+    /// Enables or disables PCMA (RFC 3551, section 4.5.14), with redundant packets (RFC 2198) if `red` is true.
     pub fn enable_pcma(self, enabled: bool, red: bool) -> Result<RtcConfig, AllocError>
         ensures { IfOk result (λ config. config ≡ spec.codec_set Codec.Pcma enabled red self) }
     {
         self.set_codec(Codec::Pcma, enabled, red)
     }
 
-    /// Enables or disables G722 (RFC 3551, section 4.5.2), with redundant packets (RFC 2198) where `red` is true.
+    /// Enables or disables G722 (RFC 3551, section 4.5.2), with redundant packets (RFC 2198) if `red` is true.
     pub fn enable_g722(self, enabled: bool, red: bool) -> Result<RtcConfig, AllocError>
         ensures { IfOk result (λ config. config ≡ spec.codec_set Codec.G722 enabled red self) }
     {

@@ -6,7 +6,7 @@ use std::alloc::AllocError;
 /// What the configuration of a peer says to its DTLS part.
 #[derive(Debug, PartialEq, Eq, Drop)]
 pub struct DtlsSettings {
-    /// Drawn where it is not set.
+    /// Drawn if not set.
     pub cert: Option<Bytes>,
     pub version: DtlsVersion,
     /// Whether the other side's certificate has to match its announced fingerprint (RFC 8122, section 6.2).

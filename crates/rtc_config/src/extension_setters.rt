@@ -49,7 +49,7 @@ impl RtcConfig {
         self
     }
 
-    /// Gives a header extension a number from 1 to 14 (RFC 8285, section 4.2). The extension that had it goes.
+    /// Gives a header extension a number from 1 to 14 (RFC 8285, section 4.2). The extension that had it is removed.
     pub fn set_extension(mut self, id: u8, extension: Extension) -> Result<RtcConfig, AllocError>
         requires least { 1 ≤ id }
         requires most { id ≤ 14 }

@@ -161,7 +161,7 @@ impl RtcConfig {
         self.media.rtp_mode
     }
 
-    /// Whether packets are told as events, too.
+    /// Whether raw packets are reported as events, too.
     pub fn raw_packets(&self) -> bool
         ensures { result ≡ self.now.media.raw_packets }
     {
@@ -197,7 +197,7 @@ impl RtcConfig {
         self.mtu.1
     }
 
-    /// The role of the peer where two offers cross, if one is set: whether it is the polite one.
+    /// The role of the peer on glare, if one is set: whether it is the polite one.
     pub fn polite(&self) -> Option<bool>
         ensures { result ≡ self.now.polite }
     {

@@ -6,7 +6,7 @@ use std::alloc::AllocError;
 /// What the configuration of a peer says to its ICE agent (RFC 8445).
 #[derive(Debug, PartialEq, Eq, Drop)]
 pub struct IceSettings {
-    /// Drawn where they are not set.
+    /// Drawn if not set.
     pub credentials: Option<IceCreds>,
     /// Whether the agent is a lite one (RFC 8445, section 2.5).
     pub lite: bool,

@@ -82,7 +82,7 @@ impl RtcConfig {
         self
     }
 
-    /// Whether packets are told as events, too.
+    /// Whether raw packets are reported as events, too.
     pub fn enable_raw_packets(mut self, enabled: bool) -> RtcConfig
         ensures { result ≡ record self { media = record self.media { raw_packets = enabled } } }
     {

@@ -68,7 +68,7 @@ impl Drop for RtcConfig {
     }
 }
 
-// The settings of the ICE part where none are set.
+// The default settings of the ICE part.
 fn default_ice() -> IceSettings
     ensures { result ≡ spec.default_ice }
 {
@@ -81,7 +81,7 @@ fn default_ice() -> IceSettings
     }
 }
 
-// The settings of the media part where none are set.
+// The default settings of the media part.
 fn default_media() -> MediaSettings
     ensures { result ≡ spec.default_media }
 {
@@ -100,7 +100,7 @@ fn default_media() -> MediaSettings
     }
 }
 
-// The settings of the association where none are set.
+// The default settings of the association.
 fn default_sctp() -> SctpSettings
     ensures { result ≡ spec.default_sctp }
 {
@@ -126,9 +126,8 @@ fn default_extensions(alloc: Global) -> Result<ExtensionMap, AllocError>
 }
 
 impl RtcConfig {
-    /// The default: an agent that makes checks, a peer that draws its credentials and its certificate, DTLS 1.2 and certificates that are
-    /// verified, the codecs and header extensions that are enabled by default, no statistics, and no start of the association by session
-    /// descriptions.
+    /// The default: an agent that makes checks; drawn credentials and certificate; DTLS 1.2 with verification; the
+    /// default codecs and header extensions; no statistics; no SNAP.
     pub fn new(alloc: Global) -> Result<RtcConfig, AllocError>
         ensures value { IfOk result (λ config. config ≡ spec.default_config) }
         ensures codecs { IfOk result (λ config. AreFormedRows config.codecs.rows) }

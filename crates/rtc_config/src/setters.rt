@@ -101,8 +101,8 @@ impl RtcConfig {
         self
     }
 
-    /// The role of the peer where two offers cross (RFC 3264, section 4): a polite one may roll its own offer back, an impolite one
-    /// refuses the other. None accepts any offer, and its own is superseded.
+    /// The role of the peer on glare (RFC 3264, section 4): a polite one may roll its own offer back, an impolite one
+    /// refuses the other. With None any offer is accepted, and the peer's own one is invalidated.
     pub fn set_polite(mut self, role: Option<bool>) -> RtcConfig
         ensures { result ≡ record self { polite = role } }
     {

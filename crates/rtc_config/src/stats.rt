@@ -92,7 +92,7 @@ fn reports_of(alloc: Global, snapshot: &StatsSnapshot) -> Result<Vec<StatsEvent>
     Ok(reports)
 }
 
-// Whether the moment an interval after the last one, at most the last of all moments, has come.
+// Whether the next round is due: an interval after the last one, at most at the last of all moments.
 fn is_past(interval: Span, last: Moment, now: Moment) -> bool
     ensures { result ≡ spec.is_round_due interval (Some last) now }
 {
@@ -125,7 +125,7 @@ impl Stats {
         }
     }
 
-    /// Queues the reports of a snapshot, whose moment is the last one from then on. Where memory lacks, nothing changes.
+    /// Queues the reports of a snapshot, whose moment is the last one from then on. If memory runs out, nothing changes.
     pub fn do_handle_timeout(&mut self, s: &mut StatsSnapshot) -> Result<(), AllocError>
         ensures ok { OnOk result (self.new ≡ spec.reported self.old s.old) }
         ensures err { OnErr result (self.new ≡ self.old) }
