@@ -6,8 +6,7 @@ use Rattle.rtc_sdp_reader.specs.Reading.{ReadsSdp}
 use Rattle.rtc_lines.specs.declared.sdp_offer.SdpOffer.{SdpOffer}
 use Rattle.rtc_lines.specs.declared.sdp_answer.SdpAnswer.{SdpAnswer}
 
--- the offer is the reading of the text, or the error is the number of its first refused line; any call that allocates may answer
--- `Alloc`
+-- the offer is the reading of the text, or the error is the number of its first refused line; any call that allocates may return `Alloc`
 abbrev pub ReadsOffer : Result SdpOffer SdpError → Result Sdp ℕ → Type 0
 ReadsOffer (Ok offer) read = ReadsSdp (Ok offer.0) read
 ReadsOffer (Err error) read = ReadsSdp (Err error) read

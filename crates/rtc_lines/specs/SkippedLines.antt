@@ -13,7 +13,7 @@ use Rattle.rtc_sdp_reader.specs.FirstRefused.{place_after}
 abbrev pub IsSkippedLine : List ℕ → Type 0
 IsSkippedLine line = item_of line ≡ Skipped
 
--- the lines hold the `v=` and the `o=` line, so that what follows stands in the session part or in a line part
+-- the lines hold the `v=` and the `o=` line, so that what follows is in the session part or in a line part
 abbrev pub IsBegun : List (List ℕ) → Type 0
 IsBegun front = is_short (place_after First (map item_of front)) ≡ false
 
@@ -26,7 +26,7 @@ pub record HasSkippedLine (text other : List ℕ) (front : List (List ℕ)) : Ty
   pub skipped : IsSkippedLine line
   pub begun : IsBegun front
 
--- the number of line n, where one more line stands behind the first `before`
+-- the number of line n, with one more line behind the first `before`
 abbrev pub number_behind : ℕ → ℕ → ℕ
 number_behind before n = if nat_le n before then n else next_number n
 

@@ -18,7 +18,7 @@ use std::alloc::{AllocError, Global};
 pub struct SdpAnswer(pub Sdp);
 
 impl SdpAnswer {
-    /// The answer that a text says (RFC 8829, section 5.8, in our profile), or the number of the first line that refuses it.
+    /// The answer in a text (RFC 8829, section 5.8, in our profile), or the number of the first refused line.
     pub fn from_sdp_string(alloc: Global, text: &str) -> Result<SdpAnswer, SdpError>
         ensures { ReadsAnswer result (reading text.now) }
     {
@@ -28,7 +28,7 @@ impl SdpAnswer {
         }
     }
 
-    /// The answer as text. Every answer has one; that of a legible one reads as it, with the sources that its lines give.
+    /// The answer as text. Every answer has one; that of a legible one reads as it, with the SSRCs that its lines give.
     pub fn to_sdp_string(&self) -> Result<Text, AllocError>
         ensures text { IfOk result (λ text. text ≡ written_sdp self.now.0) }
         ensures read_again { IsLegible self.now.0 → IfOk result (λ text. reading text ≡ Ok (as_read self.now.0)) }
@@ -37,8 +37,8 @@ impl SdpAnswer {
         sdp_text(&self.0)
     }
 
-    /// Whether the mids and the BUNDLE group of the answer fit together (RFC 8843, section 7.1). Where there is no memory for
-    /// sets of mids, it takes time in the square of the lines.
+    /// Whether the mids and the BUNDLE group of the answer fit together (RFC 8843, section 7.1). If there is no memory
+    /// for sets of mids, it takes time in the square of the lines.
     pub fn assert_consistency(&self) -> Result<(), SdpError>
         ensures { result ≡ refusal (inconsistency self.now.0) }
     {

@@ -28,7 +28,7 @@ impl SdpOffer {
         }
     }
 
-    /// The offer as text. Every offer has one; that of a legible one reads as it, with the sources that its lines give.
+    /// The offer as text. Every offer has one; that of a legible one reads as it, with the SSRCs that its lines give.
     pub fn to_sdp_string(&self) -> Result<Text, AllocError>
         ensures text { IfOk result (λ text. text ≡ written_sdp self.now.0) }
         ensures read_again { IsLegible self.now.0 → IfOk result (λ text. reading text ≡ Ok (as_read self.now.0)) }
@@ -37,8 +37,8 @@ impl SdpOffer {
         sdp_text(&self.0)
     }
 
-    /// Whether the mids and the BUNDLE group of the offer fit together (RFC 8843, section 7.1). Where there is no memory for
-    /// sets of mids, it takes time in the square of the lines.
+    /// Whether the mids and the BUNDLE group of the offer fit together (RFC 8843, section 7.1). If there is no memory
+    /// for sets of mids, it takes time in the square of the lines.
     pub fn assert_consistency(&self) -> Result<(), SdpError>
         ensures { result ≡ refusal (inconsistency self.now.0) }
     {

@@ -10,7 +10,7 @@ use rtc_sdp_writer::{write, written_text_reads_again, written_text_reads_back};
 use rtc_wire::Text;
 use std::alloc::AllocError;
 
-/// A session description as text; that of a legible one reads as it, with the sources that its lines give.
+/// A session description as text; that of a legible one reads as it, with the SSRCs that its lines give.
 pub(crate) fn sdp_text(sdp: &Sdp) -> Result<Text, AllocError>
     ensures text { IfOk result (λ text. text ≡ written_sdp sdp.now) }
     ensures read_again { IsLegible sdp.now → IfOk result (λ text. reading text ≡ Ok (as_read sdp.now)) }

@@ -124,7 +124,7 @@ candidate_transport =
 abbrev pub candidate : Form Candidate
 candidate = saying candidate_made (split_fields SPACE token (split_fields SPACE (number_up_to 65535) candidate_transport))
 
--- ---- PT NAME/CLOCK and PT NAME/CLOCK/CHANNELS (RFC 8866, section 6.6): one channel where none are named
+-- ---- PT NAME/CLOCK and PT NAME/CLOCK/CHANNELS (RFC 8866, section 6.6): one channel if none are named
 abbrev pub rtpmap_made : ℕ × (List ℕ × (ℕ × ℕ)) → Rtpmap
 rtpmap_made fields = record { pt = record { 0 = fields.0 }; codec = fields.1.0; clock = fields.1.1.0; channels = fields.1.1.1 }
 
@@ -214,7 +214,7 @@ simulcast_words _ = None
 abbrev pub simulcast : Form SimulcastLine
 simulcast value = simulcast_words (words value)
 
--- ---- N cname:C (RFC 5576, section 6.1); other attributes of a source are not read
+-- ---- N cname:C (RFC 5576, section 6.1); other attributes of an SSRC are not read
 abbrev pub ssrc_number : Form ℕ
 ssrc_number = number_up_to 4294967295
 
@@ -224,7 +224,7 @@ source_made fields = record { ssrc = record { 0 = fields.0 }; cname = fields.1 }
 abbrev pub source : Form SsrcName
 source = saying source_made (split_fields SPACE ssrc_number (labelled (codes "cname") COLON filled))
 
--- ---- FID N M (RFC 5576, section 4.2): M is the source of the retransmissions of N; other groups are not read
+-- ---- FID N M (RFC 5576, section 4.2): M is the RTX SSRC of N; other groups are not read
 abbrev pub source_pair_made : ℕ × ℕ → Ssrc × Ssrc
 source_pair_made fields = (record { 0 = fields.0 }, record { 0 = fields.1 })
 

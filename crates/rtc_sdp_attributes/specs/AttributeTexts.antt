@@ -103,11 +103,11 @@ rids_in layers = map (λ layer. layer.rid) layers
 unfoldable pub simulcast_text : Simulcast → List ℕ
 simulcast_text simulcast = ways_text (rids_in simulcast.send) (rids_in simulcast.recv)
 
--- ---- sources
+-- ---- SSRCs
 unfoldable pub ssrc_name_text : ℕ → List ℕ → List ℕ
 ssrc_name_text ssrc cname = decimal ssrc ++ (codes " cname:" ++ cname)
 
--- the stream of a source, which is written and not read
+-- the stream of an SSRC, which is written and not read
 unfoldable pub ssrc_msid_text : ℕ → List ℕ → List ℕ → List ℕ
 ssrc_msid_text ssrc stream track = decimal ssrc ++ (codes " msid:" ++ (stream ++ (32 ∷ track)))
 

@@ -1,4 +1,4 @@
--- Forms of values (RFC 8866, section 9): a form reads bytes, and gives what they say, or None where they are malformed.
+-- Forms of values (RFC 8866, section 9): a form reads bytes, and gives what they say, or None if they are malformed.
 use Rattle.std.specs.Prelude.{ℕ, ◌==◌, Bool, not, ◌&&◌, is_none, nat_lt, nat_le, List, [], ◌∷◌, length, Option, Some, None}
 use Rattle.std.specs.Prelude.{option_map, if◌then◌else◌}
 use Rattle.std.specs.List.{list_all}
@@ -122,7 +122,7 @@ abbrev pub with_default : {A B : Type 0} → Form A → B → Form B → List �
 with_default front default back value None = fields_together (front value) (Some default)
 with_default front default back value (Some halves) = fields_together (front halves.0) (back halves.1)
 
--- one form, and maybe such a byte and another form behind it; a default stands for what is missing
+-- one form, and maybe such a byte and another form behind it; a default replaces what is missing
 abbrev pub tailed : {A B : Type 0} → ℕ → Form A → B → Form B → Form (A × B)
 tailed byte front default back value = with_default front default back value (cut byte value)
 
@@ -130,7 +130,7 @@ abbrev pub front_of : List ℕ → Option (List ℕ × List ℕ) → List ℕ
 front_of value None = value
 front_of value (Some halves) = halves.0
 
--- a form of what stands in front of the first such byte, or else of all; the rest does not count
+-- a form of what is in front of the first such byte, or else of all; the rest does not count
 abbrev pub up_to : {A : Type 0} → ℕ → Form A → Form A
 up_to byte form value = form (front_of value (cut byte value))
 

@@ -56,7 +56,7 @@ pub record IsPlainRid (rid : List ℕ) (attributes : List (List ℕ × List ℕ)
   pub token : is_short_token rid ≡ true
   pub pairs : AllByRecursion IsPlainPair attributes
 
--- a rid that stands in a list as itself
+-- a rid that is in a list as itself
 abbrev pub is_listed : List ℕ → Bool
 is_listed [] = false
 is_listed (b ∷ bs) = if b == 126 then false else is_short_token (b ∷ bs)

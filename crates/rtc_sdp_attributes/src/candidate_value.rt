@@ -103,7 +103,7 @@ fn addr_of(text: &str) -> Option<(Addr, CandidateKind)>
     Some((Addr { ip, port }, kind))
 }
 
-/// The candidate that a value writes, where its address is of IPv4 (RFC 8839, section 5.1). What follows the kind is ignored.
+/// The candidate that a value writes, if its address is of IPv4 (RFC 8839, section 5.1). What follows the kind is ignored.
 pub fn read_candidate(alloc: Global, value: &str) -> Result<Option<Candidate>, AllocError>
     ensures { IfOk result (λ read. read ≡ form.candidate value.now) }
 {

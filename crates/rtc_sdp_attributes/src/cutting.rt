@@ -12,7 +12,7 @@ fn first_place(text: &str, at: u8) -> Option<usize>
     memchr(at, text.as_bytes())
 }
 
-/// What stands before the first `at`, an ASCII byte, and what behind it. Many bytes are looked at together.
+/// What is before the first `at`, an ASCII byte, and what is behind it. Many bytes are looked at together.
 pub fn cut(text: &str, at: u8) -> Option<(&str, &str)>
     requires { at < 128 }
     ensures { option_map (λ parts. (parts.0.now, parts.1.now)) result ≡ spec.cut at text.now }

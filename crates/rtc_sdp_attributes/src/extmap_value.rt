@@ -47,7 +47,7 @@ fn id_of(word: &str) -> Option<u64>
     }
 }
 
-/// The header extension that a value maps, with its number (RFC 8285, section 8); None also where its URI is not known.
+/// The header extension that a value maps, with its number (RFC 8285, section 8); None also if its URI is not known.
 pub fn read_extmap(value: &str) -> Option<(u8, Extension)>
     ensures { result ≡ form.extmap value.now }
 {

@@ -67,7 +67,7 @@ pub fn simulcasts_read_back()
         → IsPlainList (rids_in simulcast.recv) → Lacks byte (simulcast_text simulcast) }
 {}
 
-/// Names and pairs of sources are read back, and the stream of a source is not taken for a name.
+/// Names and pairs of SSRCs are read back, and the stream of an SSRC is not taken for a name.
 pub fn ssrcs_read_back()
     ensures name { (ssrc : ℕ) (cname : List ℕ) → ssrc ≤ 4294967295 → 0 < length cname → form.source (ssrc_name_text ssrc cname)
         ≡ Some (record { ssrc = record { 0 = ssrc }; cname = cname }) }

@@ -9,7 +9,7 @@ use rtc_wire::Text;
 use rtc_wire_text::{is_token, number_up_to};
 use std::alloc::{AllocError, Global};
 
-/// The clock and the channels, one where none are named.
+/// The clock and the channels, one if none are named.
 fn rate_of(text: &str) -> Option<(u64, u64)>
     ensures { result ≡ form.rtpmap_rate text.now }
 {

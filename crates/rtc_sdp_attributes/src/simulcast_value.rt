@@ -47,7 +47,7 @@ fn layer_rids(alloc: Global, parts: &[&str]) -> Result<Option<Vec<Rid>>, AllocEr
     Ok(Some(rids))
 }
 
-/// Each rid once. A set keeps those that came, so that the time is not in the square of the rids.
+/// Each rid once. A set keeps those that were seen, so that the time is not in the square of the rids.
 fn each_once(alloc: Global, rids: &[Rid]) -> Result<Vec<Rid>, AllocError>
     ensures { IfOk result (λ once. once.items ≡ spec_each_once bytes_eq rids.now) }
 {

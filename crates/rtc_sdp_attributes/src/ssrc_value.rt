@@ -15,7 +15,7 @@ fn ssrc_number(word: &str) -> Option<u64>
     number_up_to(4_294_967_295, word)
 }
 
-/// The canonical name that a value of `ssrc` gives to a source (RFC 5576, section 6.1); None for its other attributes.
+/// The canonical name that a value of `ssrc` gives an SSRC (RFC 5576, section 6.1); None for its other attributes.
 pub fn read_ssrc_name(alloc: Global, value: &str) -> Result<Option<SsrcName>, AllocError>
     ensures { IfOk result (λ read. read ≡ form.source value.now) }
 {
@@ -38,7 +38,7 @@ pub fn read_ssrc_name(alloc: Global, value: &str) -> Result<Option<SsrcName>, Al
     }))
 }
 
-/// Appends the value that gives a canonical name to a source.
+/// Appends the value that gives an SSRC a canonical name.
 #[tactic(auto, unfolding(crate::specs::AttributeTexts::ssrc_name_text))]
 pub fn put_ssrc_name(out: &mut String, ssrc: Ssrc, cname: &str) -> Result<(), AllocError>
     ensures { OnOk result (string_bytes out.new ≡ string_bytes out.old ++ written.ssrc_name_text ssrc.0 cname.now) }
@@ -48,7 +48,7 @@ pub fn put_ssrc_name(out: &mut String, ssrc: Ssrc, cname: &str) -> Result<(), Al
     out.push_str(cname)
 }
 
-/// Appends the value that names the stream and the track of a source.
+/// Appends the value that names the stream and the track of an SSRC.
 #[tactic(auto, unfolding(crate::specs::AttributeTexts::ssrc_msid_text))]
 pub fn put_ssrc_msid(out: &mut String, ssrc: Ssrc, msid: &Msid) -> Result<(), AllocError>
     ensures { OnOk result (string_bytes out.new
@@ -61,7 +61,7 @@ pub fn put_ssrc_msid(out: &mut String, ssrc: Ssrc, msid: &Msid) -> Result<(), Al
     out.push_str(msid.track_id.as_str())
 }
 
-/// The source and that of its retransmissions that a value of `ssrc-group` names (RFC 5576, section 4.2); None for other groups.
+/// The SSRC and the RTX SSRC that a value of `ssrc-group` names (RFC 5576, section 4.2); None for other groups.
 pub fn read_ssrc_pair(value: &str) -> Option<(Ssrc, Ssrc)>
     ensures { result ≡ form.source_pair_form value.now }
 {
@@ -75,7 +75,7 @@ pub fn read_ssrc_pair(value: &str) -> Option<(Ssrc, Ssrc)>
     Some((Ssrc(ssrc as u32), Ssrc(rtx as u32)))
 }
 
-/// Appends the value that pairs a source with that of its retransmissions.
+/// Appends the value that pairs an SSRC with its RTX SSRC.
 #[tactic(auto, unfolding(crate::specs::AttributeTexts::ssrc_pair_text))]
 pub fn put_ssrc_pair(out: &mut String, ssrc: Ssrc, rtx: Ssrc) -> Result<(), AllocError>
     ensures { OnOk result (string_bytes out.new ≡ string_bytes out.old ++ written.ssrc_pair_text ssrc.0 rtx.0) }

@@ -49,7 +49,7 @@ abbrev pub all_codecs : List Codec
 all_codecs =
     Opus ∷ Pcmu ∷ Pcma ∷ G722 ∷ ComfortNoise ∷ AmrWb ∷ Vp8 ∷ H264 ∷ H265 ∷ H266 ∷ Vp9 ∷ Av1 ∷ []
 
--- whether a codec is enabled where nothing is set
+-- whether a codec is enabled if nothing is set
 abbrev pub is_on : Codec → Bool
 is_on Opus = true
 is_on Pcmu = false
@@ -68,6 +68,6 @@ is_on Av1 = true
 abbrev pub codec_row_with : Bool → Codec → PayloadRow
 codec_row_with red codec = record (full_row codec) { red = if red then (full_row codec).red else None }
 
--- the rows that are there where nothing is set, none of them with redundant packets
+-- the rows that are there if nothing is set, none of them with redundant packets
 abbrev pub default_rows : List PayloadRow
 default_rows = map (codec_row_with false) (filter is_on all_codecs)

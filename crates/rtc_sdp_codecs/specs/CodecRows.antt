@@ -17,14 +17,14 @@ is_of_codec codec row = bytes_eq (lower row.codec) (lower codec)
 abbrev pub without_codec : List ℕ → List PayloadRow → List PayloadRow
 without_codec codec = filter (λ row. not (is_of_codec codec row))
 
--- a row that is enabled goes last, in place of those of its codec; where it is disabled, those of its codec go
+-- an enabled row becomes the last one, in place of those of its codec; if it is disabled, those of its codec are removed
 abbrev pub rows_with : PayloadRow → Bool → List PayloadRow → List PayloadRow
 rows_with row on rows = without_codec row.codec rows ++ (if on then row ∷ [] else [])
 
 abbrev pub codecs_with : PayloadRow → Bool → CodecConfig → CodecConfig
 codecs_with row on codecs = record codecs { rows = rows_with row on codecs.rows }
 
--- the codecs where nothing is set; redundant packets repeat the packet before them
+-- the codecs if nothing is set; redundant packets repeat the packet before them
 abbrev pub default_codecs : CodecConfig
 default_codecs = record { rows = default_rows; red_distances = 1 ∷ [] }
 
@@ -36,6 +36,6 @@ listed_distances listed = filter (λ distance. list_any (λ other. other == dist
 abbrev pub repeated_distances : List ℕ → List ℕ
 repeated_distances listed = 1 ∷ listed_distances listed (2 ∷ 3 ∷ 4 ∷ 5 ∷ 6 ∷ 7 ∷ 8 ∷ 9 ∷ 10 ∷ [])
 
--- an extension goes last, in place of that of its number (RFC 8285, section 4.2)
+-- an extension becomes the last one, in place of that of its number (RFC 8285, section 4.2)
 abbrev pub extensions_with : ℕ → Extension → ExtensionMap → ExtensionMap
 extensions_with id extension map = record { rows = filter (λ row. not (row.0 == id)) map.rows ++ (id, extension) ∷ [] }

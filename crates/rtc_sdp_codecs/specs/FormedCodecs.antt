@@ -24,7 +24,7 @@ abbrev pub all_payload_numbers : List PayloadRow → List ℕ
 all_payload_numbers [] = []
 all_payload_numbers (row ∷ rest) = payload_numbers row ++ all_payload_numbers rest
 
--- payload types have seven bits (RFC 3550, section 5.1), and none stands twice
+-- payload types have seven bits (RFC 3550, section 5.1), and none is repeated
 pub record AreDistinctNumbers (rows : List PayloadRow) : Type 0 where
   pub small : AllByRecursion (λ number. number ≤ 127) (all_payload_numbers rows)
   pub apart : IsApart (λ x y. x == y) (all_payload_numbers rows)

@@ -41,7 +41,7 @@ extensions_of_kind kind = filter (λ row. suits_kind kind row.1)
 abbrev pub is_same_format : PayloadRow → PayloadRow → Bool
 is_same_format row theirs = bytes_eq (lower row.codec) (lower theirs.codec) && row.clock == theirs.clock && row.channels == theirs.channels
 
--- the other side's number of a repair, where this side has such a repair too
+-- the other side's number of a repair, if this side has such a repair too
 abbrev pub number_of_both : Option Pt → Option Pt → Option Pt
 number_of_both None theirs = None
 number_of_both (Some ours) theirs = theirs

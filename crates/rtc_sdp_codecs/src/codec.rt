@@ -169,7 +169,7 @@ impl Codec {
         }
     }
 
-    /// The row of the codec, with redundant packets (RFC 2198) where `red` is true and the codec has them.
+    /// The row of the codec, with redundant packets (RFC 2198) if `red` is true and the codec has them.
     pub fn row(self, alloc: Global, red: bool) -> Result<PayloadRow, AllocError>
         ensures { IfOk result (λ row. row ≡ spec.codec_row_with red self) }
     {

@@ -23,7 +23,7 @@ fn make_default_rows(alloc: Global) -> Result<Vec<PayloadRow>, AllocError>
     Ok(rows)
 }
 
-/// The codecs that a peer has where none are set.
+/// The default codecs of a peer.
 pub fn make_default_codecs(alloc: Global) -> Result<CodecConfig, AllocError>
     ensures { IfOk result (λ codecs. codecs ≡ spec.default_codecs) }
 {
@@ -41,7 +41,7 @@ fn drop_codec(rows: &mut Vec<PayloadRow>, codec: &str)
     rows.retain(|row| !same_letters(row.codec.as_str(), codec));
 }
 
-/// Enables a row, which then goes last in place of those of its codec, or disables its codec.
+/// Enables a row, which then is the last in place of those of its codec, or disables its codec.
 pub fn set_row(codecs: CodecConfig, row: PayloadRow, on: bool) -> Result<CodecConfig, AllocError>
     ensures { IfOk result (λ changed. changed ≡ spec.codecs_with row on codecs) }
 {

@@ -17,7 +17,7 @@ fn suits_kind(kind: MediaKind, extension: Extension) -> bool
     }
 }
 
-/// The header extensions that a line of a kind has where this side adds it (RFC 8285, section 5).
+/// The header extensions of a line of a kind that this side adds (RFC 8285, section 5).
 pub fn extensions_of_kind(
     alloc: Global,
     kind: MediaKind,
@@ -46,8 +46,7 @@ fn has_extension(rows: &[(u8, Extension)], extension: Extension) -> bool
     false
 }
 
-/// The header extensions that a line has where the other side sent it: those that both have, with the other side's numbers (RFC 8285,
-/// section 6).
+/// The header extensions of a line that the other side sent: those that both have, with the other side's numbers (RFC 8285, section 6).
 pub fn share_extensions(
     alloc: Global,
     rows: &[(u8, Extension)],

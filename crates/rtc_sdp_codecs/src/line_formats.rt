@@ -30,7 +30,7 @@ pub fn payload_kind(row: &PayloadRow) -> MediaKind
     }
 }
 
-/// The rows that a line of a kind has where this side adds it (RFC 3264, section 5.1).
+/// The rows of a line of a kind that this side adds (RFC 3264, section 5.1).
 pub fn rows_of_kind(
     alloc: Global,
     kind: MediaKind,
@@ -89,8 +89,8 @@ fn match_row(remote: &[PayloadRow], row: &PayloadRow) -> Result<Option<PayloadRo
     Ok(None)
 }
 
-/// The rows that a line of a kind has where the other side sent it: those that both have, in this side's order, with the other side's
-/// payload types (RFC 3264, section 6.1).
+/// The rows of a line of a kind that the other side sent: those that both have, in this side's order, with the other
+/// side's payload types (RFC 3264, section 6.1).
 pub fn match_rows(
     alloc: Global,
     kind: MediaKind,

@@ -40,7 +40,7 @@ direction_word Inactive = codes "inactive"
 unfoldable pub direction_line : Direction → List ℕ
 direction_line dir = codes "a=" ++ direction_word dir
 
--- port 9 stands for any, and port 0 for a line that is disabled (RFC 8829, section 5.2.1)
+-- port 9 denotes any, and port 0 a line that is disabled (RFC 8829, section 5.2.1)
 abbrev pub port_word : Bool → List ℕ
 port_word disabled = if disabled then codes "0" else codes "9"
 

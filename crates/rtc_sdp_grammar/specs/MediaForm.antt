@@ -38,7 +38,7 @@ abbrev pub with_numbers : LineKind → Bool → Option (List ℕ) → Item
 with_numbers kind disabled None = BadMedia
 with_numbers kind disabled (Some numbers) = head kind disabled (each_once eqb numbers)
 
--- audio and video: each format is a number up to 127, and one that comes again is skipped
+-- audio and video: each format is a number up to 127, and one that is repeated is skipped
 abbrev pub media_of : LineKind → Bool → List ℕ → List (List ℕ) → Item
 media_of kind disabled protocol formats =
     if bytes_eq protocol (codes "UDP/TLS/RTP/SAVPF") then with_numbers kind disabled (each (number_up_to 127) formats) else BadMedia
@@ -47,7 +47,7 @@ abbrev pub is_channel_protocol : List ℕ → Bool
 is_channel_protocol protocol =
     bytes_eq protocol (codes "UDP/DTLS/SCTP") || bytes_eq protocol (codes "TCP/DTLS/SCTP") || bytes_eq protocol (codes "DTLS/SCTP")
 
--- the line of the data channels: the formats are any tokens
+-- the m-line of data channels: the formats are any tokens
 abbrev pub application_of : Bool → List ℕ → List (List ℕ) → Item
 application_of disabled protocol formats =
     if is_channel_protocol protocol && list_all is_token formats then head Application disabled [] else BadMedia

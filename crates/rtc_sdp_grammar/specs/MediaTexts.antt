@@ -54,7 +54,7 @@ layer_list_line simulcast = codes "a=simulcast:" ++ simulcast_text simulcast
 unfoldable pub source_line : SsrcName → List ℕ
 source_line source = codes "a=ssrc:" ++ ssrc_name_text source.ssrc.0 source.cname
 
--- a=ssrc:N msid:S T (the stream of a source, for ends that read it there)
+-- a=ssrc:N msid:S T (the stream of an SSRC, for ends that read it there)
 unfoldable pub source_stream_line : ℕ → Msid → List ℕ
 source_stream_line ssrc msid = codes "a=ssrc:" ++ ssrc_msid_text ssrc msid.stream_id msid.track_id
 

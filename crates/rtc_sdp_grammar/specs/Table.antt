@@ -1,5 +1,5 @@
--- The table of attributes: each that is known, by its name; all others are skipped. A row has its name, where it counts, what becomes of
--- a malformed value, and its form.
+-- The table of attributes: each that is known, by its name; all others are skipped. A row has its name, its level, what becomes of a
+-- malformed value, and its form.
 use Rattle.std.specs.Prelude.{ℕ, List, [], ◌∷◌, Option, Some, None, option_map, if◌then◌else◌, codes}
 use Rattle.std.specs.Str.{bytes_eq}
 use Rattle.rtc_wire_text.specs.Fields.{each}

@@ -1,4 +1,4 @@
-//! Attributes by their names, which are told apart by length first.
+//! Attributes by their names, which are distinguished by length first.
 ghost use Rattle.std.specs.Prelude.{◌≡◌, IfOk, IsOk, OnOk};
 ghost use Rattle.rtc_sdp_attributes.specs.Forms as forms;
 ghost use Rattle.rtc_sdp_grammar.specs.declared.attribute.Attribute.TheVariants.{DirectionLine, LiteLine};

@@ -34,7 +34,7 @@ fn bundle(alloc: Global, mids: &[&str]) -> Result<Option<Attribute>, AllocError>
     }
 }
 
-/// What a `group` attribute says (RFC 8843, section 7.1); None where a mid of its BUNDLE is malformed.
+/// What a `group` attribute says (RFC 8843, section 7.1); None if a mid of its BUNDLE is malformed.
 pub(crate) fn group(alloc: Global, value: Option<&str>) -> Result<Option<Attribute>, AllocError>
     ensures { IfOk result (λ read. read ≡ spec.group (bytes_shown value.entry)) }
 {

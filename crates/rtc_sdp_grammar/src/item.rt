@@ -6,9 +6,9 @@ use crate::{Attribute, Level, MediaHead, Strict};
 pub enum Item {
     /// Nothing: the line is empty.
     Blank,
-    /// Nothing: the line has no form, and is refused wherever it stands.
+    /// Nothing: the line has no form, and is refused at every place.
     Bad,
-    /// An `m=` line that has not its form: it is refused wherever it stands, and begins a line part like any other.
+    /// An `m=` line that has not its form: it is refused at every place, and begins a line part like any other.
     BadMedia,
     /// Nothing that counts here.
     Skipped,
@@ -18,8 +18,8 @@ pub enum Item {
     Origin(u64),
     /// What an `m=` line says.
     Media(MediaHead),
-    /// What an `a=` line says, where it counts.
+    /// What an `a=` line says, if it counts.
     Says(Level, Attribute),
-    /// A malformed `a=` line, which refuses the text where it counts.
+    /// A malformed `a=` line, which refuses the text if it counts.
     Malformed(Level, Strict),
 }

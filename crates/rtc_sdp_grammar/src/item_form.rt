@@ -79,7 +79,7 @@ fn lettered(alloc: Global, name: &str, value: &str) -> Result<Item, AllocError>
     }
 }
 
-/// What stands behind `a=`; None where the line begins otherwise.
+/// What is behind `a=`; None if the line begins otherwise.
 #[inline(always)]
 fn attribute_value(line: &str) -> Option<&str>
     ensures { IfSome result (λ value. line.now ≡ 97 ∷ 61 ∷ value.now) }

@@ -1,6 +1,6 @@
-//! Where attributes count.
+//! The levels of attributes.
 
-/// Where an attribute counts (RFC 8866, section 5.13).
+/// The level at which an attribute counts (RFC 8866, section 5.13).
 #[derive(Clone, Copy, Debug, PartialEq, Eq)]
 pub enum Level {
     /// In front of the first `m=` line.

@@ -1,6 +1,6 @@
 //! Attributes that refuse a text.
 
-/// An attribute that refuses the text where its value is malformed.
+/// An attribute that refuses the text if its value is malformed.
 #[derive(Clone, Copy, Debug, PartialEq, Eq)]
 pub enum Strict {
     Mid,

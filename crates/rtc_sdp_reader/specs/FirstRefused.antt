@@ -1,21 +1,21 @@
--- The law above the reading: the number told is that of the first line, in order, that is refused where it stands.
+-- The law above the reading: the number that it returns is that of the first refused line.
 use Rattle.std.specs.Prelude.{◌≡◌, ℕ, ◌+◌, ◌-◌, ◌^◌, min, true, false, List, [], ◌∷◌, ◌++◌, length}
 use Rattle.rtc_sdp_grammar.specs.declared.item.Item.{Item}
 use Rattle.rtc_sdp_reader.specs.declared.place.Place.{Place}
 use Rattle.rtc_sdp_reader.specs.declared.place.Place.TheVariants.{First}
 use Rattle.rtc_sdp_reader.specs.Refusal.{is_refused, next, is_short}
 
--- none of the lines in front is refused where it stands, with the lines `rest` behind them
+-- none of the lines in front is refused at its place, with the lines `rest` behind them
 abbrev pub Passes : Place → List Item → List Item → Type 0
 Passes place [] rest = Unit {0}
 Passes place (item ∷ front) rest = (is_refused place item (front ++ rest) ≡ false) × Passes (next place item) front rest
 
--- where the line behind them stands
+-- the place of the line behind them
 abbrev pub place_after : Place → List Item → Place
 place_after place [] = place
 place_after place (item ∷ front) = place_after (next place item) front
 
--- the next line is refused where it stands, or the text ends too early
+-- the next line is refused at its place, or the text ends too early
 abbrev pub IsRefusedNext : Place → List Item → Type 0
 IsRefusedNext place [] = is_short place ≡ true
 IsRefusedNext place (item ∷ rest) = is_refused place item rest ≡ true

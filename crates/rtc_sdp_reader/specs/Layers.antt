@@ -29,7 +29,7 @@ abbrev pub or_no_pairs : Option Pairs → Pairs
 or_no_pairs None = []
 or_no_pairs (Some pairs) = pairs
 
--- a layer has the pairs of the first `rid` attribute of its name and direction, and none where there is no such attribute
+-- a layer has the pairs of the first `rid` attribute of its name and direction, and none if there is no such attribute
 abbrev pub pairs_for : List RidLine → RidDirection → List ℕ → Pairs
 pairs_for lines direction rid = or_no_pairs (first (pairs_in direction rid) lines)
 

@@ -14,7 +14,7 @@ use Rattle.rtc_sdp_reader.specs.Sources.{sources as source_rows}
 use Rattle.rtc_sdp_reader.specs.Parting.{attributes}
 use Rattle.rtc_sdp_reader.specs.Said.{value_or, part_said}
 
--- credentials are there where both of them are (RFC 8839, section 5.4)
+-- credentials are there if both of them are (RFC 8839, section 5.4)
 abbrev pub creds_made : Option (List ℕ) → Option (List ℕ) → Option IceCreds
 creds_made (Some ufrag) (Some pass) = Some (record { ufrag = ufrag; pass = pass })
 creds_made _ _ = None

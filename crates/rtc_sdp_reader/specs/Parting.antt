@@ -28,7 +28,7 @@ abbrev pub attribute_here : Bool → Item → Option Attribute
 attribute_here in_line (Says level attribute) = if counts level in_line then Some attribute else None
 attribute_here in_line _ = None
 
--- the attributes that count in the part that goes on with these lines
+-- the attributes that count in the part that continues with these lines
 abbrev pub attributes : Bool → List Item → List Attribute
 attributes in_line items = filter_map (attribute_here in_line) (inner items)
 
@@ -46,7 +46,7 @@ is_mid_line (Says level attribute) = names_line attribute
 is_mid_line (Malformed level what) = is_mid_fault what
 is_mid_line _ = false
 
--- how many stand in front of the next `m=` line
+-- how many are in front of the next `m=` line
 abbrev pub mid_lines : List Item → ℕ
 mid_lines after = length (filter is_mid_line (inner after))
 

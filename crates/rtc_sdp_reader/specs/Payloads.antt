@@ -76,7 +76,7 @@ rtx_among pt = first (λ l. served_by (serves pt l.rtx_of) l.pt)
 abbrev pub red_among : ℕ → List Link → Option Pt
 red_among pt = first (λ l. served_by (serves pt l.red_of) l.pt)
 
--- ---- the rows: rtx and red stand in the fields of their primary, and have no row of their own
+-- ---- the rows: rtx and red are in the fields of their primary, and have no row of their own
 
 abbrev pub is_primary : List ℕ → Bool
 is_primary codec = not (is_rtx_codec codec || is_red codec)

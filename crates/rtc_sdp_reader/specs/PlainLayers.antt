@@ -21,7 +21,7 @@ rid_lines simulcast = map (rid_line Recv) simulcast.recv ++ map (rid_line Send) 
 abbrev pub listed : Simulcast → SimulcastLine
 listed simulcast = record { send = rids_in simulcast.send; recv = rids_in simulcast.recv }
 
--- no name stands twice in a direction
+-- no name is repeated in a direction
 pub record AreNamesApart (simulcast : Simulcast) : Type 0 where
   pub send : IsApart bytes_eq (rids_in simulcast.send)
   pub recv : IsApart bytes_eq (rids_in simulcast.recv)

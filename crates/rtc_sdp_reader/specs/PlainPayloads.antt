@@ -26,7 +26,7 @@ rtx_row row pt = record { pt = record { 0 = pt }; codec = codes "rtx"; clock = r
 abbrev pub fmtp_row : List ℕ → ℕ → Fmtp
 fmtp_row text pt = record { pt = record { 0 = pt }; text = text }
 
--- no line where the text is empty
+-- no line if the text is empty
 abbrev pub own_fmtp : ℕ → List ℕ → List Fmtp
 own_fmtp pt [] = []
 own_fmtp pt (b ∷ bs) = fmtp_row (b ∷ bs) pt ∷ []
@@ -69,6 +69,6 @@ pub record IsPlainPayload (row : PayloadRow) : Type 0 where
   pub not_rtx : is_rtx_codec row.codec ≡ false
   pub not_red : is_red row.codec ≡ false
 
--- no number stands twice, over pt, rtx and red
+-- no number is repeated, over pt, rtx and red
 abbrev pub AreApart : List PayloadRow → Type 0
 AreApart rows = IsApart (λ x y. x == y) (formats_of rows)

@@ -1,4 +1,4 @@
--- The names and pairs that are written for sources, and the sources that are read back.
+-- The names and pairs that are written for SSRCs, and the SSRCs that are read back.
 use Rattle.std.specs.Prelude.{ℕ, eqb, List, [], ◌∷◌, ◌++◌, Option, Some, None}
 use Rattle.rtc_wire_text.specs.Once.{IsApart}
 use Rattle.rtc_sdp_values.specs.declared.ssrc.Ssrc.{Ssrc}
@@ -7,7 +7,7 @@ abbrev pub rtx_number : Option Ssrc → List ℕ
 rtx_number None = []
 rtx_number (Some rtx) = rtx.0 ∷ []
 
--- the numbers that get a name, in the order of their lines: a source, then its retransmissions
+-- the numbers that get a name, in the order of their lines: an SSRC, then its RTX SSRC
 abbrev pub numbers_of : List (Ssrc × Option Ssrc) → List ℕ
 numbers_of [] = []
 numbers_of (source ∷ rest) = source.0.0 ∷ (rtx_number source.1 ++ numbers_of rest)
@@ -21,6 +21,6 @@ abbrev pub source_pairs : List (Ssrc × Option Ssrc) → List (Ssrc × Ssrc)
 source_pairs [] = []
 source_pairs (source ∷ rest) = source_pair source.0 source.1 ++ source_pairs rest
 
--- no number stands twice, over both of each pair
+-- no number is repeated, over both of each pair
 abbrev pub AreNumbersApart : List (Ssrc × Option Ssrc) → Type 0
 AreNumbersApart sources = IsApart eqb (numbers_of sources)

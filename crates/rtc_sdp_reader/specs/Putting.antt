@@ -204,7 +204,7 @@ finish_at Line reader = unless (part_refusal reader) (made (part_ended reader))
 abbrev pub finish : Reader → Result Sdp ℕ
 finish reader = finish_at (place_of reader.stage) reader
 
--- what a call on the reader's state leaves, where this is what the step gives
+-- what a call on the reader's state leaves, if this is what the step gives
 abbrev pub StepsTo : Result (Unit {0}) SdpError → Reader → Result Reader ℕ → Type 0
 StepsTo (Ok done) after given = given ≡ Ok after
 StepsTo (Err (Parse n)) after given = given ≡ Err n

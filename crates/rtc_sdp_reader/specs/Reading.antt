@@ -18,7 +18,7 @@ items_reading items = judged (refused items) (sdp_of items)
 abbrev pub reading : List ℕ → Result Sdp ℕ
 reading text = items_reading (items_of text)
 
--- the answer is what is given, Parse with the number where there is none; or memory ran out
+-- the result is what is given, Parse with the number if there is none; or memory ran out
 abbrev pub GivesReading : {A : Type 0} → Result A SdpError → Result A ℕ → Type 0
 GivesReading (Ok value) given = given ≡ Ok value
 GivesReading (Err (Parse n)) given = given ≡ Err n

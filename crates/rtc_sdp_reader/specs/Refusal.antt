@@ -1,4 +1,4 @@
--- Which line refuses a text: a function of where the line stands, what it says, and the lines behind it.
+-- Which line refuses a text: a function of the place of the line, what it says, and the lines behind it.
 use Rattle.std.specs.Prelude.{ℕ, ◌+◌, ◌-◌, ◌^◌, min, Bool, true, false, not, List, [], ◌∷◌, Option, Some, None, if◌then◌else◌}
 use Rattle.rtc_sdp_grammar.specs.declared.item.Item.{Item}
 use Rattle.rtc_sdp_grammar.specs.declared.item.Item.TheVariants.{Blank, Bad, BadMedia, Version, Origin, Media, Malformed}
@@ -27,14 +27,14 @@ is_refused_later in_line (Media head) after = not (has_one_mid after)
 is_refused_later in_line (Malformed level what) after = counts level in_line
 is_refused_later in_line _ after = false
 
--- whether a line is refused where it stands, with the lines `after` behind it
+-- whether a line is refused at its place, with the lines `after` behind it
 abbrev pub is_refused : Place → Item → List Item → Bool
 is_refused First item after = is_refused_first item
 is_refused Second item after = is_refused_second item
 is_refused Session item after = is_refused_later false item after
 is_refused Line item after = is_refused_later true item after
 
--- where the line behind it stands
+-- the place of the line behind it
 abbrev pub next : Place → Item → Place
 next First Version = Second
 next Second (Origin id) = Session
@@ -54,7 +54,7 @@ is_short Line = false
 abbrev pub next_number : ℕ → ℕ
 next_number n = min (n + 1) (2 ^ 32 - 1)
 
--- the number of the first refused line, where the line in front has number `n`
+-- the number of the first refused line, if the line in front has number `n`
 abbrev pub refused_from : Place → ℕ → List Item → Option ℕ
 refused_from place n [] = if is_short place then Some (next_number n) else None
 refused_from place n (item ∷ rest) =

@@ -20,7 +20,7 @@ fn without_return(line: &str) -> &str
     }
 }
 
-/// The first line of a text, without its end, and what stands behind it.
+/// The first line of a text, without its end, and what is behind it.
 #[tactic(auto, using(crate::proofs::FirstLine::line_cut, crate::proofs::FirstLine::last_line, crate::proofs::FirstLine::is_shorter))]
 fn first_line(text: &str) -> (&str, &str)
     requires { 0 < length text.now }
@@ -33,7 +33,7 @@ fn first_line(text: &str) -> (&str, &str)
     }
 }
 
-/// What a reader that has read nothing answers for a text.
+/// What a reader that has read nothing returns for a text.
 fn read_by(reader: &mut Reader, alloc: Global, text: &str) -> Result<Sdp, SdpError>
     requires { reader.old ≡ start }
     ensures { ReadsSdp result (reading text.now) }

@@ -65,7 +65,7 @@ fn line_named(
     })
 }
 
-/// The line part of an `m=` line; None where it has no mid. What it says is taken out of its part.
+/// The line part of an `m=` line; None if it has no mid. What it says is taken out of its part.
 pub(crate) fn line_of(
     alloc: Global,
     head: &MediaHead,

@@ -22,7 +22,7 @@ pub fn layers_read_back()
     ensures { (simulcast : Simulcast) → AreNamesApart simulcast → layers_with_pairs (rid_lines simulcast) (listed simulcast) ≡ simulcast }
 {}
 
-/// Sources are read back from the names and pairs that are written for them.
+/// SSRCs are read back from the names and pairs that are written for them.
 pub fn sources_read_back()
     ensures { (sources : List (Ssrc × Option Ssrc)) → AreNumbersApart sources
         → sources_with_pairs (numbers_of sources) (source_pairs sources) ≡ sources }

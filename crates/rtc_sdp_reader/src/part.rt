@@ -29,9 +29,9 @@ pub struct Part {
     pub msid: Option<Msid>,
     pub layers: Seq<RidLine>,
     pub layer_list: Option<SimulcastLine>,
-    /// The name of the first source that has one.
+    /// The name of the first SSRC that has one.
     pub cname: Option<Text>,
-    /// The sources that have a name.
+    /// The SSRCs that have a name.
     pub sources: Seq<u32>,
     pub pairs: Seq<(Ssrc, Ssrc)>,
 }
@@ -126,14 +126,14 @@ impl Part {
     }
 }
 
-/// Lets go what a field has.
+/// Drops what a field has.
 fn let_go<T: Drop>(field: &mut Option<T>)
     ensures { field.new ≡ None }
 {
     *field = None;
 }
 
-/// Of an attribute that counts once, the first counts. It answers as the push of one that counts each time does.
+/// Of an attribute that counts once, the first counts. It returns what the push of one that counts each time does.
 fn keep_first<T: Drop>(field: &mut Option<T>, value: T) -> Result<(), AllocError>
     ensures { OnOk result (field.new ≡ option_or field.old (Some value)) }
 {
@@ -143,7 +143,7 @@ fn keep_first<T: Drop>(field: &mut Option<T>, value: T) -> Result<(), AllocError
     Ok(())
 }
 
-/// Puts a source that has a name, and the name where it is the first.
+/// Puts an SSRC that has a name, and the name if it is the first.
 fn put_source(
     sources: &mut Seq<u32>,
     cname: &mut Option<Text>,

@@ -130,7 +130,7 @@ fn is_primary(codec: &str) -> bool
     !(is_rtx(codec) || is_red(codec))
 }
 
-/// A text, which goes along where it is not read again, and is copied else.
+/// A text, which is moved if it is not read again, and else copied.
 fn given(alloc: Global, text: &mut Text, goes: bool) -> Result<Text, AllocError>
     ensures given { IfOk result (λ given. given ≡ text.old) }
     ensures kept { goes ≡ false → text.new ≡ text.old }

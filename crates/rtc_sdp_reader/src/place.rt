@@ -1,13 +1,13 @@
-//! Where lines stand.
+//! Places of lines.
 
-/// Where a line of a session description stands; empty lines leave the place.
+/// The place of a line of a session description; empty lines leave it unchanged.
 ///
 /// First --`v=0`--> Second --`o=`--> Session --`m=`--> Line --`m=`--> Line
 #[derive(Clone, Copy, Debug, PartialEq, Eq)]
 pub enum Place {
-    /// Where the `v=` line is to stand.
+    /// The `v=` line is expected.
     First,
-    /// Where the `o=` line is to stand.
+    /// The `o=` line is expected.
     Second,
     /// In the session part.
     Session,

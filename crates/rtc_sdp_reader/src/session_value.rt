@@ -9,7 +9,7 @@ use rtc_wire::{Seq, Text};
 use std::alloc::Global;
 use std::mem;
 
-/// The credentials, where both of them are.
+/// The credentials, if both of them are.
 pub(crate) fn creds_made(ufrag: Option<Text>, pass: Option<Text>) -> Option<IceCreds>
     ensures { result ≡ line.creds_made ufrag pass }
 {

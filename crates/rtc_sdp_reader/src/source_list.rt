@@ -1,4 +1,4 @@
-//! The sources of a media line.
+//! The SSRCs of a media line.
 ghost use Rattle.std.specs.Prelude.{◌≡◌, ℕ, eqb, IfOk};
 ghost use Rattle.std.specs.Ordering.{nat_cmp};
 ghost use Rattle.std.specs.BTreeMap as map;
@@ -11,7 +11,7 @@ use rtc_wire::Seq;
 use std::alloc::{AllocError, Global};
 use std::collections::{BTreeMap, BTreeSet};
 
-/// The source of retransmissions of each source. A map keeps them, so that the time is not in the square of the sources.
+/// The RTX SSRC of each SSRC. A map keeps them, so that the time is not in the square of the SSRCs.
 fn first_rtxs(alloc: Global, pairs: &[(Ssrc, Ssrc)]) -> Result<BTreeMap<u32, Ssrc>, AllocError>
     ensures { IfOk result (λ found. (ssrc : ℕ) → map.get nat_cmp found ssrc ≡ spec.rtx_of pairs.now ssrc) }
 {
@@ -37,7 +37,7 @@ fn rtx_numbers(alloc: Global, pairs: &[(Ssrc, Ssrc)]) -> Result<BTreeSet<u32>, A
     Ok(found)
 }
 
-/// Each number once, by looks through those that came.
+/// Each number once, by looks through those that were seen.
 fn each_of_few(alloc: Global, numbers: &[u32]) -> Result<Vec<u32>, AllocError>
     ensures { IfOk result (λ once. once.items ≡ spec_each_once eqb numbers.now) }
 {
@@ -50,7 +50,7 @@ fn each_of_few(alloc: Global, numbers: &[u32]) -> Result<Vec<u32>, AllocError>
     Ok(once)
 }
 
-/// Each number once. A set keeps those that came, so that the time is not in the square of the numbers.
+/// Each number once. A set keeps those that were seen, so that the time is not in the square of the numbers.
 fn each_of_many(alloc: Global, numbers: &[u32]) -> Result<Vec<u32>, AllocError>
     ensures { IfOk result (λ once. once.items ≡ spec_each_once eqb numbers.now) }
 {
@@ -74,7 +74,7 @@ fn each_once(alloc: Global, numbers: &[u32]) -> Result<Vec<u32>, AllocError>
     }
 }
 
-/// The sources of a media line: those that have a name, each once, with those of their retransmissions.
+/// The SSRCs of a media line: those that have a name, each once, with their RTX SSRCs.
 #[tactic(auto, unfolding(crate::specs::Sources::sources))]
 pub fn sources(
     alloc: Global,

@@ -1,4 +1,4 @@
-//! Where a reading stands.
+//! The stage of a reading.
 use rtc_sdp_grammar::MediaHead;
 
 /// What the reader of a session description waits for; empty lines leave it.

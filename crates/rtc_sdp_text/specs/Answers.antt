@@ -1,4 +1,4 @@
--- What the program does and answers.
+-- What the program does and returns.
 use Rattle.std.specs.Prelude.{◌≡◌, ℕ, Bool, true, false, List, codes, Option, Some, None, Ok, Err, is_err}
 use Rattle.std.specs.Io.KnownBytes.{Appends}
 use Rattle.rtc_io.specs.Programs.{Program, ReadsInput, RefusesInput, IsDue}
@@ -12,7 +12,7 @@ use Rattle.rtc_sdp_text.specs.Repair.{bytes_reading}
 abbrev pub usage : List ℕ
 usage = codes "usage: rtc_sdp_text offer | rtc_sdp_text answer | rtc_sdp_text explain\n"
 
--- it reads session descriptions, and answers each as it is written again
+-- it reads session descriptions, and writes each again
 abbrev pub text_program : Program Sdp
 text_program = record {
   usage = usage;
@@ -22,7 +22,7 @@ text_program = record {
   IsAnswer = λ sdp text. text ≡ written_sdp sdp;
 }
 
--- or it answers all bytes with what becomes of their lines
+-- or it writes for all bytes what becomes of their lines
 abbrev pub explaining_program : Program (List ℕ)
 explaining_program = record {
   usage = usage;

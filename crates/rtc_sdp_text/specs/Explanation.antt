@@ -39,7 +39,7 @@ fate_words (Refused cause) = cause_words cause
 abbrev pub fate_row : Fate → List ℕ → List ℕ
 fate_row fate line = fate_words fate ++ (codes " | " ++ (line ++ codes "\n"))
 
--- ---- the lines, from where a walk over them stands
+-- ---- the lines, from the place of a walk over them
 abbrev pub is_refused_here : Option ℕ → Bool
 is_refused_here None = false
 is_refused_here (Some left) = left == 1

@@ -1,4 +1,4 @@
--- What becomes of each line of a text, by the table of attributes and the place where the line stands.
+-- What becomes of each line of a text, by the table of attributes and the place of the line.
 use Rattle.std.specs.Prelude.{ℕ, eqb, Bool, true, false, List, [], ◌∷◌, ◌++◌, Option, Some, None, if◌then◌else◌, codes}
 use Rattle.std.specs.List.{list_any}
 use Rattle.std.specs.Str.{bytes_eq}
@@ -59,7 +59,7 @@ once_number (StreamLine msid) = Some 8
 once_number (LayerListLine list) = Some 9
 once_number _ = None
 
--- the number is among those that came
+-- the number is among those that were seen
 abbrev pub did_come : List ℕ → Option ℕ → Bool
 did_come came None = false
 did_come came (Some number) = list_any (eqb number) came
@@ -91,7 +91,7 @@ cause Second item = NoOrigin
 cause Session item = later_cause item
 cause Line item = later_cause item
 
--- ---- what came in a part, with a line of it
+-- ---- what was seen in a part, with a line of it
 abbrev pub with_number : List ℕ → Option ℕ → List ℕ
 with_number came None = came
 with_number came (Some number) = came ++ number ∷ []

@@ -5,7 +5,7 @@ use Rattle.rtc_wire_text.specs.Lines.{pieces}
 use Rattle.rtc_sdp_values.specs.declared.sdp.Sdp.{Sdp}
 use Rattle.rtc_sdp_reader.specs.Reading.{reading}
 
--- a piece as it is read: one that is not UTF-8 is a question mark, which is refused wherever it stands
+-- a piece as it is read: one that is not UTF-8 is a question mark, which is refused at every place
 abbrev pub piece_in : List ℕ → List ℕ
 piece_in piece = if is_utf8 piece then piece else 63 ∷ []
 

@@ -1,4 +1,4 @@
-//! What is answered to an input.
+//! The output for an input.
 ghost use Rattle.std.specs.Prelude.{◌≡◌, ◌≢◌, ◌<◌, true, false, Some};
 ghost use Rattle.std.specs.Io.KnownBytes.{Appends};
 ghost use Rattle.rtc_io.specs.Faults.{Rose};

@@ -27,7 +27,7 @@ fn asked_by_word(word: &str) -> Option<Asked>
     }
 }
 
-/// What the words ask for; None where they ask for nothing that the program does.
+/// What the words ask for; None if they ask for nothing that the program does.
 pub fn asked_for(words: &[String]) -> Option<Asked>
     ensures { result ≡ spec.asked (map (λ word. string_bytes word) words.now) }
 {

@@ -77,7 +77,7 @@ fn put_end(out: &mut String, left: Option<u32>) -> Result<(), AllocError>
     }
 }
 
-/// The row of a line where a walk stands.
+/// The row of a line at the place of a walk.
 fn put_item(out: &mut String, walk: &Walk, line: &str, item: &Item) -> Result<(), AllocError>
     ensures { OnOk result (string_bytes out.new ≡ string_bytes out.old ++ spec.item_row walk.now line.now item.now) }
 {
@@ -102,7 +102,7 @@ fn go_over(walk: &mut Walk, item: &Item) -> Result<(), AllocError>
     Ok(())
 }
 
-/// Puts the row of a line, and goes over it.
+/// Puts the row of a line, and walks over it.
 fn put_and_go_over(
     out: &mut String,
     walk: &mut Walk,
@@ -116,7 +116,7 @@ fn put_and_go_over(
     go_over(walk, item)
 }
 
-/// Puts the row of the next line, and goes over it.
+/// Puts the row of the next line, and walks over it.
 fn put_next(alloc: Global, out: &mut String, walk: &mut Walk, line: &str) -> Result<(), AllocError>
     ensures row { OnOk result (string_bytes out.new ≡ string_bytes out.old
         ++ spec.item_row walk.old line.now (items.item_of line.now)) }

@@ -10,7 +10,7 @@ pub enum Fate {
     Kept,
     /// An attribute that is not known, or a group of another name than BUNDLE.
     UnknownName,
-    /// An attribute that counts once, and another of its kind came first in its part.
+    /// An attribute that counts once, and another of its kind was first in its part.
     CameBefore,
     /// A known attribute whose value is malformed.
     NotOfItsForm,

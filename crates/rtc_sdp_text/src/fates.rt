@@ -137,7 +137,7 @@ pub(crate) fn cause(place: Place, item: &Item) -> Cause
     }
 }
 
-/// Where the line behind a line stands.
+/// The place of the line behind a line.
 pub(crate) fn next(place: Place, item: &Item) -> Place
     ensures { result ≡ refusal.next place item.now }
 {
@@ -159,7 +159,7 @@ fn with_number(came: &mut Seq<u8>, number: Option<u8>) -> Result<(), AllocError>
     }
 }
 
-/// What came in a part, with a line of it.
+/// What was seen in a part, with a line of it.
 pub(crate) fn came_with(came: &mut Seq<u8>, place: Place, item: &Item) -> Result<(), AllocError>
     ensures { OnOk result (came.new ≡ spec.came_with place came.old item.now) }
 {

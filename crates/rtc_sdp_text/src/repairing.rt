@@ -7,7 +7,7 @@ use rtc_wire_text::pieces;
 use std::alloc::{AllocError, Global};
 use std::str;
 
-/// The bytes as a text, where they are UTF-8.
+/// The bytes as a text, if they are UTF-8.
 pub(crate) fn utf8_of(bytes: &[u8]) -> Option<&str>
     ensures { MatchOption result (is_utf8 bytes.now ≡ false) (λ text. (is_utf8 bytes.now ≡ true) × (text.now ≡ bytes.now)) }
 {

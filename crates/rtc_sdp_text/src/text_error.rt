@@ -8,7 +8,7 @@ use thiserror::Error;
 /// Why bytes are no session description.
 #[derive(Clone, Copy, Debug, PartialEq, Eq, Error)]
 pub enum TextError {
-    /// The number of the first refused line, from 1; `u32::MAX` where that is greater.
+    /// The number of the first refused line, from 1; `u32::MAX` if that is greater.
     #[error("text refused at line {0}")]
     Line(u32),
     #[error("out of memory")]

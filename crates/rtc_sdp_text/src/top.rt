@@ -12,7 +12,7 @@ use crate::{Asked, asked_for};
 use rtc_io::{Sink, Source, USAGE, say};
 use std::alloc::Global;
 
-/// Does what was asked for, if anything was; answers the status to end with.
+/// Does what was asked for, if anything was, and returns the status.
 fn perform<R: Source, W: Sink>(
     alloc: Global,
     asked: Option<Asked>,
@@ -46,10 +46,10 @@ fn perform<R: Source, W: Sink>(
     }
 }
 
-/// Reads a session description from `input`, and writes to `output` what it is read as, or what becomes of each of its lines; answers
-/// the status to end with.
+/// Reads a session description from `input`. Writes to `output` what it is read as, or what becomes of each of its
+/// lines, and returns the status.
 ///
-/// A fault of the sink (5) may come in place of any other status, and `OUT_OF_MEMORY` (6) in place of any but 2.
+/// A fault of the sink (5) may replace any other status, and `OUT_OF_MEMORY` (6) any but 2.
 pub fn text_main<R: Source, W: Sink>(
     alloc: Global,
     words: &[String],

@@ -35,7 +35,7 @@ inverse_of-inverse_of SendOnly = refl
 inverse_of-inverse_of RecvOnly = refl
 inverse_of-inverse_of Inactive = refl
 
--- one end sends where the other receives
+-- one end sends exactly if the other receives
 pub does_send-inverse_of : (dir : Direction) → does_send (inverse_of dir) ≡ does_receive dir
 does_send-inverse_of SendRecv = refl
 does_send-inverse_of SendOnly = refl

@@ -1,4 +1,4 @@
--- Which number stands for which header extension (RFC 8285, section 5).
+-- Which number denotes which header extension (RFC 8285, section 5).
 use Rattle.std.specs.Prelude.{ℕ, ◌==◌, List, [], ◌∷◌, Option, Some, None, if◌then◌else◌}
 use Rattle.rtc_wire_text.specs.Fields.{first}
 use Rattle.rtc_sdp_values.specs.declared.extension.Extension.{Extension}
@@ -13,7 +13,7 @@ use Rattle.rtc_sdp_values.specs.declared.extension.Extension.TheVariants.{
 }
 use Rattle.rtc_sdp_values.specs.Extension.{same_extension}
 
--- the rows that a peer has where none are set
+-- the default rows of a peer
 abbrev pub standard_rows : List (ℕ × Extension)
 standard_rows =
     (1, AudioLevel) ∷ (2, AbsoluteSendTime) ∷ (3, TransportSequenceNumber) ∷ (4, RtpMid)

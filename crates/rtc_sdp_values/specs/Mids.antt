@@ -7,7 +7,7 @@ use Rattle.std.specs.Str.{bytes_eq}
 abbrev pub is_among : List (List ℕ) → List ℕ → Bool
 is_among mids mid = list_any (λ other. bytes_eq other mid) mids
 
--- no mid comes twice
+-- no mid is repeated
 abbrev pub AreDistinct : List (List ℕ) → Type 0
 AreDistinct [] = Unit {0}
 AreDistinct (mid ∷ mids) = (is_among mids mid ≡ false) × AreDistinct mids

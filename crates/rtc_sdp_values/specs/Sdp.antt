@@ -59,11 +59,11 @@ is_application Video = false
 is_application Application = true
 is_application Unknown = false
 
--- the first line for data channels
+-- the first m-line of data channels
 abbrev pub application_line : List MediaLine → Option MediaLine
 application_line lines = first (λ line. if is_application line.kind then Some line else None) lines
 
--- those of the first line for data channels
+-- those of the first m-line of data channels
 abbrev pub sdp_sctp_init : Sdp → Option (List ℕ)
 sdp_sctp_init sdp = option_and_then (λ line. line.sctp_init) (application_line sdp.lines)
 
@@ -114,7 +114,7 @@ judge (group ∷ other ∷ rest) lines = Some ManyGroups
 unfoldable pub inconsistency : Sdp → Option Inconsistent
 inconsistency sdp = judge sdp.groups sdp.lines
 
--- the answer for this cause
+-- the result for this cause
 abbrev pub refusal : Option Inconsistent → Result (Unit {0}) SdpError
 refusal None = Ok tt
 refusal (Some why) = Err (error.Inconsistent why)

@@ -114,7 +114,7 @@ fn are_grouped_among(
     Ok(true)
 }
 
-// The cause by sets, where there is memory for them.
+// The cause by sets, if there is memory for them.
 fn cause_by_sets(
     alloc: Global,
     group: &[Mid],

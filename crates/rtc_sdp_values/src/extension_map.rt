@@ -6,14 +6,14 @@ use crate::Extension;
 use rtc_wire::{Seq, TryCopy};
 use std::alloc::{AllocError, Global};
 
-/// Which number stands for which header extension (RFC 8285, section 5).
+/// Which number denotes which header extension (RFC 8285, section 5).
 #[derive(Debug, PartialEq, Eq, Drop)]
 pub struct ExtensionMap {
     pub rows: Seq<(u8, Extension)>,
 }
 
 impl ExtensionMap {
-    /// The extensions that a peer has where none are set.
+    /// The default extensions of a peer.
     pub fn standard(alloc: Global) -> Result<ExtensionMap, AllocError>
         ensures { IfOk result (λ made. made.rows ≡ spec.standard_rows) }
     {

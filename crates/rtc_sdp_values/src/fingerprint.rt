@@ -26,7 +26,7 @@ fn hashed(alloc: Global, name: &str, hash: &[u8]) -> Result<Fingerprint, AllocEr
 }
 
 impl Fingerprint {
-    /// The fingerprint of a certificate by the hash function of a name; None where it is neither `sha-256` nor `sha-1`.
+    /// The fingerprint of a certificate by the hash function of a name; None if it is neither `sha-256` nor `sha-1`.
     pub fn of_certificate(
         alloc: Global,
         certificate: &[u8],

@@ -15,12 +15,12 @@ pub enum LineRow {
         mid: Mid,
         kind: MediaKind,
         dir: Direction,
-        /// For good: a stopped line stays inactive.
+        /// For good: a stopped line remains inactive.
         stopped: bool,
-        /// It came in an offer of the other side.
+        /// It was received in an offer of the other side.
         remote_created: bool,
     },
-    /// The line of the data channels.
+    /// The m-line of data channels.
     App {
         place: u32,
         mid: Mid,

@@ -27,7 +27,7 @@ pub struct MediaLine {
     pub simulcast: Option<Simulcast>,
     pub msid: Option<Msid>,
     pub cname: Option<Text>,
-    /// Each source, with that of its retransmissions.
+    /// Each SSRC, with its RTX SSRC.
     pub ssrcs: Seq<(Ssrc, Option<Ssrc>)>,
     /// In bytes; 0 means any size (RFC 8841, section 6).
     pub max_message_size: Option<u64>,

@@ -20,7 +20,7 @@ pub fn collect_mids(alloc: Global, mids: &[Mid]) -> Result<BTreeSet<Mid>, AllocE
     Ok(found)
 }
 
-/// Whether no mid comes twice.
+/// Whether no mid is repeated.
 pub(crate) fn is_each_once(alloc: Global, mids: &[Mid]) -> Result<bool, AllocError>
     ensures { IfOk result (λ once. once ≡ AreDistinctMids mids.now) }
 {

@@ -15,7 +15,7 @@ pub struct PayloadRow {
     /// Ticks a second.
     pub clock: u32,
     pub channels: u8,
-    /// Parameters as they stand in the text; empty where there are none.
+    /// Parameters as in the text; empty if there are none.
     pub fmtp: Text,
 }
 

@@ -27,7 +27,7 @@ impl Model for Rid {
 }
 
 impl Rid {
-    /// The name that a text is; None where it is no token, or longer than 32 bytes.
+    /// The name that a text is; None if it is no token, or longer than 32 bytes.
     pub fn read(text: &str) -> Option<Rid>
         ensures { result ≡ (if IsShortToken text.now then Some text.now else None) }
     {

@@ -134,7 +134,7 @@ impl Sdp {
         }
     }
 
-    /// The association's chunk that the first line for data channels carries (draft-hancke-tsvwg-snap).
+    /// The association's chunk that the first m-line of data channels carries (draft-hancke-tsvwg-snap).
     pub fn sctp_init(&self) -> Option<&str>
         ensures { option_map (λ text. text.now) result ≡ spec.sdp_sctp_init self.now }
     {
@@ -147,7 +147,7 @@ impl Sdp {
         }
     }
 
-    /// The size of messages that the first line for data channels allows, in bytes; 0 means any (RFC 8841, section 6).
+    /// The size of messages that the first m-line of data channels allows, in bytes; 0 means any (RFC 8841, section 6).
     pub fn max_message_size(&self) -> Option<u64>
         ensures { result ≡ spec.max_message_size_of self.now }
     {
@@ -169,7 +169,7 @@ impl Sdp {
 
     /// Whether the mids and the BUNDLE group are consistent (RFC 8843, section 7.1).
     ///
-    /// Sets of mids are kept meanwhile. Where there is no memory for them, it takes time in the square of the lines.
+    /// Sets of mids are kept meanwhile. If there is no memory for them, it takes time in the square of the lines.
     pub fn assert_consistency(&self) -> Result<(), SdpError>
         ensures { result ≡ spec.refusal (spec.inconsistency self.now) }
     {

@@ -11,7 +11,7 @@ use std::fmt;
 /// Why a session description is refused. Nothing has changed; all but `Alloc` are faults of the description.
 #[derive(Debug, PartialEq, Eq, Drop)]
 pub enum SdpError {
-    /// The number of the first bad line, from 1; `u32::MAX` where that is greater.
+    /// The number of the first bad line, from 1; `u32::MAX` if that is greater.
     Parse(u32),
     Inconsistent(Inconsistent),
     /// There was too little memory.

@@ -1,4 +1,4 @@
-//! Synchronization sources.
+//! Synchronization sources (SSRC).
 use rtc_wire::TryCopy;
 use std::alloc::AllocError;
 

@@ -1,5 +1,5 @@
--- What is read of a written value: the value, with the sources that its written lines give. A number that stands twice counts once,
--- and one that is a retransmission's is no source of its own.
+-- What is read of a written value: the value, with the SSRCs that its written lines give. A repeated number counts once, and an RTX SSRC is
+-- no SSRC of its own.
 use Rattle.std.specs.Prelude.{List, map, Option}
 use Rattle.std.specs.List.{AllByRecursion}
 use Rattle.rtc_sdp_values.specs.declared.media_line.MediaLine.{MediaLine}
@@ -17,6 +17,6 @@ line_as_read line = record line { ssrcs = sources_as_read line.ssrcs }
 abbrev pub as_read : Sdp → Sdp
 as_read sdp = record sdp { lines = map line_as_read sdp.lines }
 
--- in no line a source stands twice
+-- in no line an SSRC is repeated
 abbrev pub AreSourcesApart : List MediaLine → Type 0
 AreSourcesApart lines = AllByRecursion (λ line. AreNumbersApart line.ssrcs) lines

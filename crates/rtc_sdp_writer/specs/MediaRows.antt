@@ -16,7 +16,7 @@ use Rattle.rtc_sdp_reader.specs.PlainPayloads.{codec_row, rtx_row, fmtp_row, own
 use Rattle.rtc_sdp_grammar.specs.MediaTexts.{codec_line, parameters_line, feedback_line, source_line, source_stream_line}
 use Rattle.rtc_sdp_writer.specs.Rows.{single, optional}
 
--- ---- a line that is disabled shows neither stream nor sources
+-- ---- a line that is disabled shows neither stream nor SSRCs
 abbrev pub shown_stream : MediaLine → Option Msid
 shown_stream line = if line.disabled then None else line.msid
 
@@ -62,7 +62,7 @@ abbrev pub layers_in : Option Simulcast → List RidLine
 layers_in None = []
 layers_in (Some simulcast) = rid_lines simulcast
 
--- ---- sources: the name and the stream of each, then of its retransmissions
+-- ---- SSRCs: the name and the stream of each, then of its RTX SSRC
 abbrev pub named : ℕ → List ℕ → SsrcName
 named ssrc cname = record { ssrc = record { 0 = ssrc }; cname = cname }
 

@@ -91,13 +91,13 @@ pub record IsChannelLine (line : MediaLine) : Type 0 where
   pub cname : line.cname ≡ None
   pub ssrcs : line.ssrcs ≡ []
 
--- a line without a port shows no stream and no source
+-- a line without a port shows no stream and no SSRC
 pub record IsQuiet (line : MediaLine) : Type 0 where
   pub msid : line.msid ≡ None
   pub cname : line.cname ≡ None
   pub ssrcs : line.ssrcs ≡ []
 
--- a line has a name for its sources exactly where it has sources, and then a stream too
+-- a line has a name for its SSRCs exactly if it has SSRCs, and then a stream too
 abbrev pub AreNamed : List (Ssrc × Option Ssrc) → MediaLine → Type 0
 AreNamed [] line = line.cname ≡ None
 AreNamed (source ∷ rest) line = IsSome line.cname × IsSome line.msid
@@ -134,7 +134,7 @@ pub record IsLegibleLine (line : MediaLine) : Type 0 where
   pub max_message_size : IfSome line.max_message_size (λ size. size < 2 ^ 64)
   pub sctp_init : IfSome line.sctp_init IsPlainChunk
 
--- candidates stand at the first line alone
+-- candidates are on the first line alone
 abbrev pub AreBare : List MediaLine → Type 0
 AreBare lines = AllByRecursion (λ line. line.candidates ≡ []) lines
 
@@ -142,7 +142,7 @@ abbrev pub StandFirst : List MediaLine → Type 0
 StandFirst [] = Unit {0}
 StandFirst (line ∷ rest) = AreBare rest
 
--- what is written of a value is read again; its sources may repeat
+-- what is written of a value is read again; its SSRCs may be repeated
 pub record IsLegible (sdp : Sdp) : Type 0 where
   pub id : sdp.id < 2 ^ 64
   pub groups : sdp.groups ≡ enabled_mids sdp.lines ∷ []
@@ -152,7 +152,7 @@ pub record IsLegible (sdp : Sdp) : Type 0 where
   pub lines : AllByRecursion IsLegibleLine sdp.lines
   pub candidates : StandFirst sdp.lines
 
--- and as it is, where no source of a line stands twice
+-- and as it is, if no SSRC of a line is repeated
 pub record IsPlain (sdp : Sdp) : Type 0 where
   pub legible : IsLegible sdp
   pub apart : AreSourcesApart sdp.lines

@@ -10,7 +10,7 @@ in_order (group ∷ rest) = group ++ in_order rest
 abbrev pub single : List ℕ → List (List ℕ)
 single line = line ∷ []
 
--- a line where there is a value for it
+-- a line if there is a value for it
 abbrev pub optional : {A : Type 0} → (A → List ℕ) → Option A → List (List ℕ)
 optional line None = []
 optional line (Some value) = line value ∷ []

@@ -1,4 +1,4 @@
--- The text of a value. A group of the session is not written_sdp as it stands: the group names the lines with a port.
+-- The text of a value. A group of the session is not written as it is: the group names the lines with a port.
 use Rattle.std.specs.Prelude.{ℕ, Bool, true, false, not, List, [], ◌∷◌, ◌++◌, map, filter, Option, Some, None, if◌then◌else◌, codes}
 use Rattle.std.specs.List.{list_any}
 use Rattle.std.specs.Str.{bytes_eq}

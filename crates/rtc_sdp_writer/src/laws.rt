@@ -8,7 +8,7 @@ ghost use Rattle.rtc_sdp_writer.specs.Plain.{IsLegible, IsPlain};
 ghost use Rattle.rtc_sdp_writer.specs.ReadLines.{IsReadLine};
 ghost use Rattle.rtc_sdp_writer.specs.SessionRows.{written_sdp};
 
-/// The text of a legible value reads as that value with the sources that its lines give, also where sources repeat.
+/// The text of a legible value reads as that value with the SSRCs that its lines give, also if SSRCs repeat.
 pub fn written_text_reads_again()
     ensures { (sdp : Sdp) → IsLegible sdp → reading (written_sdp sdp) ≡ Ok (as_read sdp) }
 {}
@@ -19,8 +19,8 @@ pub fn written_text_reads_back()
     ensures itself { (sdp : Sdp) → IsPlain sdp → as_read sdp ≡ sdp }
 {}
 
-/// Each line of a text that is read, whoever wrote it, has a mid that is a short token, payload types that do not repeat, extension ids in
-/// range, and layers with names of their own.
+/// Each line of a text that is read, whoever wrote it, has a mid that is a short token. Its payload types do not
+/// repeat, its extension ids are in range, and its layers have names of their own.
 pub fn read_lines_are_plain()
     ensures { (text : List ℕ) (sdp : Sdp) → reading text ≡ Ok sdp → AllByRecursion IsReadLine sdp.lines }
 {}

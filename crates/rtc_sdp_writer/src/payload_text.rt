@@ -28,7 +28,7 @@ fn put_codec(
     out.push_str("\r\n")
 }
 
-/// The parameters of a payload type, where there are any.
+/// The parameters of a payload type, if there are any.
 #[tactic(auto, unfolding(rtc_sdp_grammar::specs::MediaTexts::parameters_line))]
 fn put_parameters(out: &mut String, pt: Pt, text: &str) -> Result<(), AllocError>
     ensures { OnOk result (string_bytes out.new ≡ string_bytes out.old ++ text_of (map spec.parameters_line (own_fmtp pt.0 text.now))) }

@@ -12,7 +12,7 @@ use std::alloc::AllocError;
 use std::collections::BTreeMap;
 use std::fmt::Write;
 
-/// The name of a line's stream, where the line shows it.
+/// The name of a line's stream, if the line shows it.
 fn shown_name(line: &MediaLine) -> Option<&str>
     ensures { option_map (λ name. name.now) result ≡ option_map (λ msid. msid.stream_id) (shown_stream line.now) }
 {

@@ -1,4 +1,4 @@
-//! The lines of sources, put behind a text.
+//! The text lines of SSRCs, put behind a text.
 ghost use Rattle.std.specs.Prelude.{◌≡◌, ◌++◌, OnOk, string_bytes, map};
 ghost use Rattle.rtc_wire_text.specs.Lines.{crlf, text_of};
 ghost use Rattle.rtc_sdp_grammar.specs.MediaTexts as spec;
@@ -123,7 +123,7 @@ fn put_pairs(out: &mut String, sources: &[(Ssrc, Option<Ssrc>)]) -> Result<(), A
     Ok(())
 }
 
-/// The sources of a line that is not disabled, then their pairs.
+/// The SSRCs of a line that is not disabled, then their pairs.
 #[tactic(auto, using(rtc_wire_text::proofs::LineLemmas::appends))]
 pub(crate) fn put_sources_if_shown(out: &mut String, line: &MediaLine) -> Result<(), AllocError>
     ensures { OnOk result (string_bytes out.new ≡ string_bytes out.old
