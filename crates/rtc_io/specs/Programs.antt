@@ -17,7 +17,7 @@ long_line subject = subject ++ codes " too long\n"
 abbrev pub refused_line : List ℕ → ℕ → List ℕ
 refused_line subject line = subject ++ (codes " refused at line " ++ decimal line ++ codes "\n")
 
--- A program by its texts: it reads bytes as values, refuses the others at a line, and answers each value with a text.
+-- A program by its texts: it reads bytes as values, refuses the others at a line, and writes a text for each value.
 pub record Program (V : Type 0) : Type 1 where
   pub usage : List ℕ
   pub subject : List ℕ
@@ -40,12 +40,12 @@ pub record RefusesInput {V : Type 0} (program : Program V) (left left' written w
   pub read : ReadsInput left left' (λ bytes. program.IsRefusedAt bytes line)
   pub told : Appends written written' (refused_line program.subject line)
 
--- the line that is due where the input could not be read: the one of the source's fault, or the one of the length
+-- the line that is due if the input could not be read: the one of the source's fault, or the one of the length
 abbrev pub IsDueUnread : List ℕ → Option (List ℕ) → ℕ → ℕ → List ℕ → Type 0
 IsDueUnread long left faults faults' text = (Rose faults faults' × (text ≡ fault_line)) ⊎ (IsTooLong left × (text ≡ long))
 
--- the text that is due: the usage where the words ask for nothing that the program does; else the line of an input that could not
--- be read, the line of the refusal, or the answer
+-- the text that is due: the usage if the words ask for nothing that the program does; else the line of an input that could not be read, the
+-- line of the refusal, or the text of the value
 abbrev pub IsDue : {V : Type 0} → Program V → (Unasked Asked : Type 0) → Option (List ℕ) → Option (List ℕ) → ℕ → ℕ → List ℕ → Type 0
 IsDue {V} program Unasked Asked left left' faults faults' text =
     (Unasked × (text ≡ program.usage))

@@ -9,7 +9,7 @@ abbrev pub Says : ℕ → List ℕ → Option (List ℕ) → Option (List ℕ) �
 Says status text written written' faults faults' result =
     ((result ≡ status) × Appends written written' text) ⊎ ((result ≡ 5) × Rose faults faults' × AppendsFront written written' text)
 
--- a fact of what a source had left, where it tells that
+-- a fact of what a source had left, if it reports that
 abbrev pub IfTold : Option (List ℕ) → (List ℕ → Type 0) → Type 0
 IfTold None P = Unit {0}
 IfTold (Some text) P = P text

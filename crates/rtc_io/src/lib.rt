@@ -1,4 +1,4 @@
-//! Where bytes come from and where they go, with the faults of both.
+//! Bytes in and out, with the faults of both.
 #![tactic(auto)]
 
 mod mem_sink;

@@ -10,7 +10,7 @@ use rtc_wire::Seq;
 use std::alloc::Global;
 use std::marker::Model;
 
-/// Keeps what is written, and fails at the calls that it was told, and where memory is not there.
+/// Keeps what is written. It fails at the listed calls, and if memory runs out.
 #[derive(Debug, Drop)]
 pub struct MemSink {
     written: Vec<u8>,

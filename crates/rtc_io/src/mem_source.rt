@@ -9,7 +9,7 @@ use crate::{ReadFailed, Source};
 use rtc_wire::{Bytes, Seq};
 use std::marker::Model;
 
-/// Gives bytes that it holds, and fails at the calls that it was told.
+/// Gives bytes that it holds, and fails at the listed calls.
 #[derive(Debug, Drop)]
 pub struct MemSource {
     bytes: Bytes,
@@ -50,7 +50,7 @@ impl MemSource {
     }
 }
 
-// Fills the front of a buffer with one piece of what is left, as far as it has room.
+// Fills the front of a buffer with one piece of what is left, at most what it has room for.
 fn fill(left: &[u8], piece: usize, buf: &mut [u8]) -> usize
     ensures count { result ≡ min (min piece (length buf.old)) (length left.now) }
     ensures filled { buf.new ≡ take result left.now ++ drop result buf.old }

@@ -10,8 +10,8 @@ use crate::{INPUT_LIMIT, ReadError, Sink, Source, read_all, say};
 use rtc_wire::Bytes;
 use std::alloc::{AllocError, Global};
 
-/// The whole input of a program, or the status to end with. Where the source fails (4) or more than `INPUT_LIMIT` bytes come (7),
-/// a line says so: of the length it is `long`.
+/// The whole input of a program, or the status to end with. If the source fails (4) or gives more than `INPUT_LIMIT`
+/// bytes (7), a line says so: of the length it is `long`.
 pub fn read_input<R: Source, W: Sink>(
     alloc: Global,
     long: &[u8],
@@ -48,7 +48,7 @@ fn refusal(alloc: Global, subject: &str, line: u32) -> Result<String, AllocError
     Ok(text)
 }
 
-/// Writes that the input is refused at a line, and answers the status to end with; `subject` says what the input is, as "script".
+/// Writes that the input is refused at a line, and returns the status; `subject` says what the input is, as "script".
 pub fn refuse_input<W: Sink>(alloc: Global, subject: &str, line: u32, output: &mut W) -> u8
     ensures told { result ≡ 3 → Appends (W.written output.old) (W.written output.new) (refused_line subject.now line) }
     ensures write { result ≡ 5

@@ -4,7 +4,7 @@ use std::env;
 use std::io::ErrorKind;
 use std::rt::Env;
 
-/// The words behind the program's name. None are there where one is not UTF-8, since no program of ours is asked for by such words.
+/// The words behind the program's name. There are none if one is not UTF-8, since no program of ours is asked for by such words.
 pub fn collect_words<R: Env + AllocGlobal>(rt: &R) -> Result<Vec<String>, AllocError> {
     match env::args(rt) {
         Ok(words) => words.skip(1).collect(rt.alloc()),

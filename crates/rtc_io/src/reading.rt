@@ -1,4 +1,4 @@
-//! Reading a source to its end.
+//! Reading to the end.
 ghost use Rattle.std.specs.Prelude.{◌≡◌, ℕ, ◌+◌, ◌-◌, ◌<◌, ◌≤◌, ◌^◌, List, length, IfOk, OnOk, OnErr, IfSome, IsErrOf};
 ghost use Rattle.std.specs.Io.KnownBytes.{Consumes, IsAtEnd};
 ghost use Rattle.rtc_io.specs.Faults.{Rose};
@@ -11,12 +11,12 @@ use std::alloc::{AllocError, Global};
 /// How many bytes a program reads at most.
 pub const INPUT_LIMIT: usize = 1_048_576;
 
-/// Why a source was not read to its end. What was taken from it until then is lost.
+/// Why bytes were not read to their end. What was taken until then is lost.
 #[derive(Clone, Copy, Debug, PartialEq, Eq)]
 pub enum ReadError {
     /// The source failed.
     Fault,
-    /// More bytes came than were wanted.
+    /// There were more bytes than the limit.
     TooLong,
     Alloc,
 }
@@ -29,7 +29,7 @@ impl From<AllocError> for ReadError {
     }
 }
 
-/// All that is left of a source, if that is at most `limit` bytes. No more than one byte past the limit is taken.
+/// All bytes that are left, if there are at most `limit`. No more than one byte past the limit is taken.
 pub fn read_all<R: Source>(alloc: Global, input: &mut R, limit: usize) -> Result<Bytes, ReadError>
     requires { limit < 2 ^ 64 - 1 }
     ensures bytes { IfOk result (λ bytes. Consumes (R.left input.old) (R.left input.new) bytes) }

@@ -4,7 +4,7 @@ ghost use Rattle.rtc_io.specs.Saying.{Says};
 use crate::status::SINK_FAILED;
 use crate::{Sink, write_all};
 
-/// Writes a text, and answers the status to end with: the one that was handed in, or `SINK_FAILED` where the sink fails.
+/// Writes a text, and returns the status to end with: the given one, or `SINK_FAILED` if the sink fails.
 pub fn say<W: Sink>(output: &mut W, text: &[u8], status: u8) -> u8
     ensures { Says status text.now (W.written output.old) (W.written output.new) (W.faults output.old) (W.faults output.new) result }
 {

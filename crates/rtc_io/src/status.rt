@@ -10,5 +10,5 @@ pub const SOURCE_FAILED: u8 = 4;
 pub const SINK_FAILED: u8 = 5;
 /// An allocation failed.
 pub const OUT_OF_MEMORY: u8 = 6;
-/// More than `INPUT_LIMIT` bytes came.
+/// There were more than `INPUT_LIMIT` bytes.
 pub const TOO_LONG: u8 = 7;

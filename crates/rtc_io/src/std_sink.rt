@@ -6,7 +6,7 @@ use std::io::Write;
 
 /// A writer of std, with a count of its errors and of the calls that took none of a piece that is not empty.
 ///
-/// It tells what its writer tells of the bytes that it holds: of standard output nothing.
+/// It reports what its writer reports of the bytes that it holds: of standard output nothing.
 #[derive(Drop)]
 pub struct StdSink<T> {
     writer: T,

@@ -1,4 +1,4 @@
-//! Readers of std as sources.
+//! Readers of std.
 ghost use Rattle.std.specs.Prelude.{◌≡◌};
 
 use crate::{ReadFailed, Source};
@@ -6,7 +6,7 @@ use std::io::Read;
 
 /// A reader of std, with a count of its errors.
 ///
-/// It tells what its reader tells of the bytes that are left: of standard input nothing.
+/// It reports what its reader reports of the bytes that are left: of standard input nothing.
 #[derive(Drop)]
 pub struct StdSource<T> {
     reader: T,

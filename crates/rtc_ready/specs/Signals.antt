@@ -12,11 +12,11 @@ both = record { events = true; timeout = true }
 abbrev pub neither : Signals
 neither = record { events = false; timeout = false }
 
--- each signal stands where either has it
+-- each signal is set if either has it
 abbrev pub joined_signals : Signals → Signals → Signals
 joined_signals kept raised = record { events = kept.events || raised.events; timeout = kept.timeout || raised.timeout }
 
--- each signal of the old stands in the new
+-- each signal of the old is set in the new
 pub record KeepsSignals (old new : Signals) : Type 0 where
   pub events : old.events ≡ true → new.events ≡ true
   pub timeout : old.timeout ≡ true → new.timeout ≡ true

@@ -28,7 +28,7 @@ impl Mutation {
         self.wake.no_events();
     }
 
-    /// Says that the timers stand as before.
+    /// Says that the timers are unchanged.
     pub fn no_timeout(&mut self)
         ensures { self.new ≡ record self.old { timeout = false } }
     {

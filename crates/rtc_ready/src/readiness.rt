@@ -7,8 +7,8 @@ use std::marker::Model;
 
 /// Two signals: a walk over the parts may meet something, and the timers may have moved.
 ///
-/// A signal stays until it is cleared. Each call that changes a part makes a wake, narrows it by
-/// what it knows to be as before, and folds it in.
+/// A signal is kept until it is cleared. Each call that changes a part makes a wake, narrows it by what it knows to be
+/// unchanged, and folds it in.
 #[derive(Debug, Drop)]
 pub struct Readiness {
     events: bool,
@@ -26,7 +26,7 @@ impl Model for Readiness {
 }
 
 impl Readiness {
-    /// Both signals, as where nothing is known yet.
+    /// Both signals, as if nothing is known yet.
     pub fn armed() -> Readiness
         ensures { result ≡ both }
     {

@@ -28,7 +28,7 @@ impl Wake {
         self.events = false;
     }
 
-    /// Says that the timers stand as before.
+    /// Says that the timers are unchanged.
     pub fn no_timeout(&mut self)
         ensures { self.new ≡ record self.old { timeout = false } }
     {

@@ -1,4 +1,4 @@
--- What is read of a datagram that came in.
+-- What is read of a received datagram.
 use Rattle.std.specs.Prelude.{ℕ, Bool, true, false, List, Result, Ok, Err}
 use Rattle.rtc_wire.specs.declared.multiplex_kind.MultiplexKind.{MultiplexKind}
 use Rattle.rtc_wire.specs.declared.multiplex_kind.MultiplexKind.TheVariants as kinds
@@ -23,7 +23,7 @@ bytes_lent (datagrams.Dtls bytes) = bytes.now
 bytes_lent (datagrams.Rtp bytes) = bytes.now
 bytes_lent (datagrams.Rtcp bytes) = bytes.now
 
--- a kind, but that of STUN only where the bytes pass a test
+-- a kind, but that of STUN only if the bytes pass a test
 abbrev pub passed : Bool → MultiplexKind → Result MultiplexKind NetError
 passed true kind = Ok kind
 passed false kinds.Stun = Err (Stun NotStun)
@@ -35,6 +35,6 @@ abbrev pub passed_with : Bool → Result MultiplexKind NetError → Result Multi
 passed_with stun (Ok kind) = passed stun kind
 passed_with stun (Err why) = Err why
 
--- the kind of a datagram, or why it is not taken, where a reader has this test for STUN
+-- the kind of a datagram, or why it is not taken, if a reader has this test for STUN
 abbrev pub kind_by : (List ℕ → Bool) → List ℕ → Result MultiplexKind NetError
 kind_by stun bytes = passed_with (stun bytes) (datagram_kind bytes)

@@ -1,5 +1,5 @@
--- The kinds of datagrams that share a port, by their first bytes (RFC 7983, section 7), and RTCP among RTP (RFC 5761, section 4).
--- Our profile is stricter: it asks for a length, and takes STUN by the first bytes 0 and 1 alone, where the RFC has 0 to 3.
+-- The kinds of datagrams that share a port, by their first bytes (RFC 7983, section 7), and RTCP among RTP (RFC 5761, section 4). Our
+-- profile is stricter: it asks for a length, and takes STUN by the first bytes 0 and 1 alone; the RFC has 0 to 3.
 use Rattle.std.specs.Prelude.{ℕ, Bool, ◌&&◌, List, [], ◌∷◌, length, slice_index, nat_le, bit_and, Result, Ok, Err, if◌then◌else◌}
 use Rattle.std.specs.Int.{is_in_range}
 use Rattle.rtc_wire.specs.declared.multiplex_kind.MultiplexKind.{MultiplexKind}

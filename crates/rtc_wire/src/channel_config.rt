@@ -12,7 +12,7 @@ pub struct ChannelConfig {
     pub label: Text,
     pub ordered: bool,
     pub reliability: Reliability,
-    /// The SCTP stream that both ends settled by other means; None where the open message settles it.
+    /// The SCTP stream, if the channel is negotiated out-of-band; None if the open message determines it.
     pub negotiated: Option<u16>,
     pub protocol: Text,
 }

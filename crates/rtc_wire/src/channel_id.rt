@@ -5,7 +5,7 @@ use crate::TryCopy;
 use std::alloc::AllocError;
 use std::marker::Model;
 
-/// A data channel of a peer, by its number. It is no SCTP stream, which may change and comes later.
+/// A data channel of a peer, by its number. It is no SCTP stream, which may change and is given later.
 #[derive(Clone, Copy, Debug, PartialEq, Eq, Hash)]
 pub struct ChannelId(u64);
 

@@ -1,4 +1,4 @@
-//! Sizes and times that the engine is built on, in bytes where the name says no unit.
+//! Sizes and times that the engine is built on, in bytes if the name says no unit.
 use crate::Span;
 
 /// The largest datagram that is read.
@@ -11,7 +11,7 @@ pub const MAX_DTLS_OVERHEAD: usize = 48;
 pub const SCTP_OVERHEAD: usize = 40;
 /// The largest message that this side accepts.
 pub const LOCAL_MAX_MESSAGE_SIZE: u32 = 262_144;
-/// The largest message that the other side accepts where it announces none (RFC 8841, section 6.1).
+/// The largest message that the other side accepts if it announces none (RFC 8841, section 6.1).
 pub const DEFAULT_REMOTE_MAX_MESSAGE_SIZE: u32 = 65_536;
 /// How much may be buffered before writes are refused.
 pub const DEFAULT_MAX_BUFFERED_AMOUNT: usize = 131_072;

@@ -1,11 +1,11 @@
-//! Datagrams that came in.
+//! Received datagrams.
 ghost use Rattle.std.specs.Prelude.{◌≡◌, IfOk, MatchResult, Ok, Err};
 ghost use Rattle.rtc_wire.specs.DatagramRecv.{kind_by, kind_said, bytes_lent};
 
 use crate::{MultiplexKind, NetError, StunReader, StunView};
 use std::fmt;
 
-/// A datagram that came in, by its kind. Each variant lends the whole datagram.
+/// A received datagram, by its kind. Each variant lends the whole datagram.
 #[derive(Clone, Copy, PartialEq, Eq)]
 pub enum DatagramRecv<'a> {
     Stun(StunView<'a>),

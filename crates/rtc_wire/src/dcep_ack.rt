@@ -24,7 +24,7 @@ impl DcepAck {
         }
     }
 
-    /// Writes the acknowledgement to the front of a buffer, and answers how many bytes that took.
+    /// Writes the acknowledgement to the front of a buffer, and returns how many bytes that took.
     pub fn marshal_to(&self, buf: &mut [u8]) -> usize
         requires { 0 < length buf.old }
         ensures count { result ≡ 1 }

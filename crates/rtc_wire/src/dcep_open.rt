@@ -64,7 +64,7 @@ fn type_of(byte: u8) -> ReliabilityType
     }
 }
 
-/// Writes bytes at a place of a buffer, and answers the place behind them.
+/// Writes bytes at a place of a buffer, and returns the place behind them.
 fn put(buf: &mut [u8], at: usize, bytes: &[u8]) -> usize
     requires { at + length bytes.now ≤ length buf.old }
     ensures place { result ≡ at + length bytes.now }
@@ -77,7 +77,7 @@ fn put(buf: &mut [u8], at: usize, bytes: &[u8]) -> usize
 }
 
 impl DcepOpen {
-    /// Reads an open message. Bytes after its texts are ignored, and each refusal comes before memory is taken.
+    /// Reads an open message. Bytes after its texts are ignored, and each refusal is made before memory is taken.
     pub fn read(alloc: Global, buf: &[u8]) -> Result<DcepOpen, DcepError>
         ensures refused { IfSome (refusal_of buf.now) (λ why. IsErrOf result why) }
         ensures read { IfNone (refusal_of buf.now) (MatchResult result (λ made. made ≡ message_in buf.now) (λ why. why ≡ DcepError.Alloc)) }
@@ -148,7 +148,7 @@ impl DcepOpen {
         HEADER_LEN + self.label.as_str().len() + self.protocol.as_str().len()
     }
 
-    /// Writes the message to the front of a buffer, and answers how many bytes that took.
+    /// Writes the message to the front of a buffer, and returns how many bytes that took.
     pub fn marshal_to(&self, buf: &mut [u8]) -> usize
         requires label { length self.now.label ≤ 65535 }
         requires protocol { length self.now.protocol ≤ 65535 }

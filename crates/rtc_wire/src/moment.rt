@@ -1,4 +1,4 @@
-//! Moments that are handed in.
+//! Moments that callers give.
 ghost use Rattle.std.specs.Prelude.{◌≡◌, ℕ, ◌+◌, ◌^◌, ◌-◌, min};
 
 use crate::Span;
@@ -6,7 +6,7 @@ use std::marker::Model;
 
 /// A moment, in nanoseconds since a start that the caller chooses.
 ///
-/// Nothing here reads a clock: each moment is handed in.
+/// Nothing here reads a clock: each moment is given.
 #[derive(Clone, Copy, Debug, PartialEq, Eq, PartialOrd, Ord)]
 pub struct Moment(u64);
 

@@ -4,7 +4,7 @@ ghost use Rattle.rtc_wire.specs.MultiplexKind.{datagram_kind, is_control as IsCo
 
 use crate::{IoKind, IoText, NetError};
 
-/// What a datagram is, where STUN, DTLS, RTP and RTCP share a port (RFC 7983, section 7).
+/// The kind of a datagram, if STUN, DTLS, RTP and RTCP share a port (RFC 7983, section 7).
 #[derive(Clone, Copy, Debug, PartialEq, Eq)]
 pub enum MultiplexKind {
     Stun,

@@ -5,7 +5,7 @@ ghost use Rattle.rtc_wire.specs.declared.net_error.NetError.TheVariants.{Stun};
 use crate::{IoKind, IoText, StunError};
 use thiserror::Error;
 
-/// Why a datagram that came in is refused. The sender is at fault, and nothing has changed.
+/// Why a received datagram is refused. The sender is at fault, and nothing has changed.
 #[derive(Debug, PartialEq, Eq, Drop, Error)]
 pub enum NetError {
     /// It is of the STUN kind, and the reader of STUN refuses it.

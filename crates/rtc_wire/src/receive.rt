@@ -1,10 +1,10 @@
-//! Datagrams that came in, with their addresses.
+//! Received datagrams, with their addresses.
 ghost use Rattle.std.specs.Prelude.{◌≡◌, IfOk, MatchResult, Ok, Err};
 ghost use Rattle.rtc_wire.specs.DatagramRecv.{kind_by, kind_said, bytes_lent};
 
 use crate::{Addr, DatagramRecv, NetError, Protocol, StunReader, Transmit};
 
-/// A datagram that came in, with the way that it came.
+/// A received datagram, with its protocol and addresses.
 #[derive(Clone, Copy, Debug, PartialEq, Eq)]
 pub struct Receive<'a> {
     pub proto: Protocol,
@@ -35,7 +35,7 @@ impl<'a> Receive<'a> {
         })
     }
 
-    /// A datagram as it comes in where it was sent to.
+    /// A datagram as the receiver of a `Transmit` gets it.
     pub fn from_transmit<R: StunReader>(t: &'a Transmit) -> Result<Receive<'a>, NetError>
         ensures kind { MatchResult result (λ made. kind_by R.stun t.now.contents ≡ Ok (kind_said made.contents))
             (λ why. kind_by R.stun t.now.contents ≡ Err why) }

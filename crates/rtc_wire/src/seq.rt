@@ -26,7 +26,7 @@ impl<T> Seq<T> {
         Seq { items }
     }
 
-    /// No value yet. Memory is taken from `alloc` as values come.
+    /// No value yet. Memory is taken from `alloc` as values are added.
     pub fn empty(alloc: Global) -> Seq<T>
         ensures { result ≡ [] }
     {
@@ -76,7 +76,7 @@ impl<T> Seq<T> {
         self.items.clear();
     }
 
-    /// A text without a byte, which takes memory from where this list does.
+    /// A text without a byte, with the allocator of this list.
     pub fn empty_text(&self) -> Text
         ensures { result ≡ [] }
     {

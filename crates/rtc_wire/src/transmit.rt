@@ -1,7 +1,7 @@
 //! Datagrams with their addresses.
 use crate::{Addr, DatagramSend, Protocol};
 
-/// A datagram to be sent, with the way that it goes.
+/// A datagram to be sent, with its protocol and addresses.
 #[derive(Debug, PartialEq, Eq, Drop)]
 pub struct Transmit {
     pub proto: Protocol,

@@ -1,4 +1,4 @@
-//! Values that are made empty and then filled with copies, so that what is filled owns nothing where memory runs out.
+//! Values that are made empty and then filled with copies, so that what is filled owns nothing if memory runs out.
 ghost use Rattle.std.specs.Prelude.{◌≡◌, IfOk, IsOk, OnOk, Some};
 
 use rtc_wire::TryCopy;

@@ -1,4 +1,4 @@
-//! Functions that spare their callers costly drops: values are filled in place, and let go by a call.
+//! Functions that spare their callers costly drops: values are filled in place, and dropped by a call.
 #![tactic(auto)]
 
 mod filling;

@@ -1,7 +1,7 @@
-//! Values that are dropped by a call, and not written out where a function would let them go.
+//! Values that are dropped by a call, so that the drop is not written out in a function.
 ghost use Rattle.std.specs.Prelude.{◌≡◌};
 
-/// Gives what was told of something, once that is dropped: the drop is then one call for who owns it.
+/// Returns what was said of something, once that is dropped: the drop is then one call for its owner.
 pub fn release<P: Drop, T>(_done: P, told: T) -> T
     ensures { result ≡ told }
 {

@@ -1,7 +1,7 @@
 -- The front of a text.
 use Rattle.std.specs.Prelude.{ℕ, ◌==◌, Bool, ◌||◌, List, [], ◌∷◌, Option, Some, None, if◌then◌else◌}
 
--- what stands behind a first byte that passes
+-- what is behind a first byte that passes
 abbrev pub behind : (ℕ → Bool) → List ℕ → Option (List ℕ)
 behind test [] = None
 behind test (x ∷ xs) = if test x then Some xs else None

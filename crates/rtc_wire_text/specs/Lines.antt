@@ -13,7 +13,7 @@ lines text = ends.lines text
 abbrev pub crlf : List ℕ → List ℕ
 crlf line = line ++ 13 ∷ 10 ∷ []
 
--- what stands between line feeds, a carriage return in front of one too: the lines, and what is behind the last line feed
+-- what is between line feeds, a carriage return in front of one too: the lines, and what is behind the last line feed
 abbrev pub pieces : List ℕ → List (List ℕ)
 pieces text = parts 10 text
 

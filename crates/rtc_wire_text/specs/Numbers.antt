@@ -9,7 +9,7 @@ use Rattle.std.specs.Str.Parse.{digits_value}
 abbrev pub is_numeral : List ℕ → Bool
 is_numeral text = nat_lt 0 (length text) && list_all is_ascii_digit text
 
--- their number, or 2 ^ 64 - 1 where that is less
+-- their number, or 2 ^ 64 - 1 if that is less
 unfoldable pub number : List ℕ → Option ℕ
 number text = if is_numeral text then Some (min (digits_value 10 text) (2 ^ 64 - 1)) else None
 
@@ -17,7 +17,7 @@ abbrev pub at_most : ℕ → Option ℕ → Option ℕ
 at_most most None = None
 at_most most (Some n) = if nat_le n most then Some n else None
 
--- their number, where it is at most `most`, which is below 2 ^ 64 - 1
+-- their number, if it is at most `most`, which is below 2 ^ 64 - 1
 abbrev pub number_up_to : ℕ → List ℕ → Option ℕ
 number_up_to most text = at_most most (number text)
 

@@ -3,7 +3,7 @@ use Rattle.std.specs.Prelude.{ℕ, ◌==◌, Bool, ◌&&◌, ◌||◌, nat_lt, n
 use Rattle.std.specs.List.{list_all}
 use Rattle.std.specs.Int.{is_in_range}
 
--- whether a byte may stand in a token
+-- whether a byte may be in a token
 abbrev pub is_token_byte : ℕ → Bool
 is_token_byte byte =
     byte == 0x21 || is_in_range 0x23 0x27 byte || is_in_range 0x2A 0x2B byte || is_in_range 0x2D 0x2E byte

@@ -1,4 +1,4 @@
--- Parts of a text that a byte stands between, and words, which single spaces part.
+-- Parts of a text with a byte between them, and words, which single spaces part.
 use Rattle.std.specs.Prelude.{ℕ, ◌==◌, List, [], ◌∷◌, ◌++◌}
 use Rattle.std.specs.List.{slice_split}
 

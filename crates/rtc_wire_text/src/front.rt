@@ -2,7 +2,7 @@
 ghost use Rattle.std.specs.Prelude.{◌≡◌, ◌<◌, option_map};
 ghost use Rattle.rtc_wire_text.specs.Fronts as spec;
 
-/// What stands behind a first `byte`, an ASCII character; None where the text begins otherwise.
+/// What is behind a first `byte`, an ASCII character; None if the text begins otherwise.
 fn behind(text: &str, byte: char) -> Option<&str>
     requires { byte < 128 }
     ensures { option_map (λ rest. rest.now) result ≡ spec.behind (spec.is_byte byte) text.now }

@@ -11,7 +11,7 @@ pub fn lines<'a>(alloc: Global, text: &'a str) -> Result<Vec<&'a str>, AllocErro
     text.lines().collect(alloc)
 }
 
-/// What stands between line feeds, lent: the lines, and behind the last line feed one piece more, which may be empty.
+/// What is between line feeds, lent: the lines, and behind the last line feed one piece more, which may be empty.
 pub fn pieces<'a>(alloc: Global, bytes: &'a [u8]) -> Result<Vec<&'a [u8]>, AllocError>
     ensures cut { IfOk result (λ found. map (λ piece. piece.now) found.items ≡ spec.pieces bytes.now) }
     ensures some { IfOk result (λ found. 0 < length found.items) }

@@ -17,7 +17,7 @@ pub fn is_numeral(text: &str) -> bool
     !text.is_empty() && are_digits(text)
 }
 
-/// The number that digits write, or `u64::MAX` where it is greater.
+/// The number that digits write, or `u64::MAX` if it is greater.
 #[tactic(auto, unfolding(crate::specs::Numbers::number))]
 pub fn number(text: &str) -> Option<u64>
     ensures { result ≡ spec.number text.now }
@@ -28,7 +28,7 @@ pub fn number(text: &str) -> Option<u64>
     Some(text.parse::<u64>().unwrap_or(u64::MAX))
 }
 
-/// The number that digits write, where it is at most `most`.
+/// The number that digits write, if it is at most `most`.
 pub fn number_up_to(most: u64, text: &str) -> Option<u64>
     requires { most < 2 ^ 64 - 1 }
     ensures { result ≡ spec.number_up_to most text.now }

@@ -3,7 +3,7 @@ ghost use Rattle.std.specs.Prelude.{◌≡◌};
 ghost use Rattle.std.specs.List.{list_all};
 ghost use Rattle.rtc_wire_text.specs.Tokens as token;
 
-/// Whether a byte may stand in a token.
+/// Whether a byte may be in a token.
 pub fn is_token_byte(byte: u8) -> bool
     ensures { result ≡ token.is_token_byte byte }
 {
