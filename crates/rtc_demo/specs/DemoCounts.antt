@@ -1,4 +1,4 @@
--- What a demo tells: five numbers, counted over the replies to its steps.
+-- What a demo reports: five numbers, counted over the replies to its steps.
 use Rattle.std.specs.Prelude.{◌+◌, ℕ, Bool, true, false, List, [], ◌∷◌, ◌++◌, length, count_by, codes, Option, Some, None}
 use Rattle.std.specs.Fmt.{decimal}
 use Rattle.rtc_sdp_values.specs.declared.line_row.LineRow.{LineRow}
@@ -27,7 +27,7 @@ tells_finished (Refused error) = false
 tells_finished NoSuch = false
 tells_finished Alloc = false
 
--- how many replies tell that
+-- how many replies report that
 abbrev pub count_finished : {E : Type 0} → List (Reply E) → ℕ
 count_finished replies = count_by (λ reply. tells_finished reply.outcome) replies
 
@@ -52,7 +52,7 @@ counts_or true (Some table) earlier = counts_of table
 counts_or true None earlier = earlier
 counts_or false table earlier = earlier
 
--- the counts of the last table that replies of a side show; where there is none, the earlier ones
+-- the counts of the last table that replies of a side show; if there is none, the earlier ones
 abbrev pub last_counts : {E : Type 0} → Side → TableCounts → List Step → List (Reply E) → TableCounts
 last_counts at earlier [] replies = earlier
 last_counts at earlier (step ∷ steps) [] = earlier

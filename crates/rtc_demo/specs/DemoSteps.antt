@@ -1,4 +1,4 @@
--- The steps of a demo: a seed settles rounds of offer and answer (RFC 3264, section 4), one after the other.
+-- The steps of a demo: a seed determines rounds of offer and answer (RFC 3264, section 4), one after the other.
 use Rattle.std.specs.Prelude.{◌+◌, ◌*◌, ◌/◌, ◌%◌, ◌^◌, ◌==◌, ℕ, zero, suc, true, List, [], ◌∷◌, ◌++◌, codes, if◌then◌else◌}
 use Rattle.std.specs.Fmt.{decimal}
 use Rattle.rtc_wire.specs.ChannelConfig.{fresh}
@@ -14,7 +14,7 @@ use Rattle.rtc_run_history.specs.declared.side.Side.TheVariants.{Left, Right}
 use Rattle.rtc_run_history.specs.declared.step.Step.{Step}
 use Rattle.rtc_run_history.specs.declared.step.Step.TheVariants.{Negotiate, AcceptOffer, AcceptAnswer}
 
--- the number z that settles a round, from the seed and the number of the round
+-- the number z that determines a round, from the seed and the number of the round
 unfoldable pub scrambled : ℕ → ℕ → ℕ
 scrambled seed round = (((seed + round) % 2 ^ 32) * 2654435761) % 2 ^ 32
 
@@ -32,7 +32,7 @@ line_added round z =
     if round == 0 then AddMedia Audio SendRecv
     else AddMedia (if (z / 2) % 2 == 0 then Audio else Video) (direction_numbered ((z / 4) % 4))
 
--- the place at which a round may change a line, from 1 to 100; where no media line stands there, the change does nothing
+-- the place at which a round may change a line, from 1 to 100; if no media line is there, the change does nothing
 unfoldable pub round_place : ℕ → ℕ
 round_place z = 1 + (z / 128) % 100
 

@@ -31,7 +31,7 @@ fn count_finished<E>(replies: &[Reply<E>]) -> usize
         .count()
 }
 
-/// What a demo of so many rounds tells of its steps and the replies to them.
+/// The counts of a demo of so many rounds, over its steps and the replies to them.
 pub fn count_demo<E>(rounds: u32, steps: &[Step], replies: &[Reply<E>]) -> DemoCounts
     ensures { result ≡ spec.counts_in rounds steps.now replies.now }
 {

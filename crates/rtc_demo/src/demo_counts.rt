@@ -1,6 +1,6 @@
-//! What a demo tells.
+//! What a demo reports.
 
-/// The numbers that a demo tells.
+/// The numbers that a demo reports.
 #[derive(Clone, Copy, Debug, PartialEq, Eq)]
 pub struct DemoCounts {
     /// Rounds that were asked for.

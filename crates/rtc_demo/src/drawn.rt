@@ -1,11 +1,11 @@
-//! What a seed settles of a round.
+//! What a seed determines of a round.
 ghost use Rattle.std.specs.Prelude.{◌≡◌};
 ghost use Rattle.rtc_demo.specs.DemoSteps as spec;
 
 use rtc_run_history::{Op, Side};
 use rtc_sdp_values::{Direction, MediaKind};
 
-/// The number that settles a round.
+/// The number that determines a round.
 #[tactic(auto, unfolding(crate::specs::DemoSteps::scrambled))]
 pub fn scrambled(seed: u32, round: u32) -> u32
     ensures { result ≡ spec.scrambled seed round }

@@ -1,4 +1,4 @@
-//! A demo of many rounds between two peers: its steps, which a seed settles, and what is counted over the replies to them.
+//! A demo of many rounds between two peers: its steps, which a seed determines, and what is counted over the replies to them.
 #![tactic(auto)]
 
 mod asked;

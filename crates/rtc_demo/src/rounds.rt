@@ -21,7 +21,7 @@ fn other(at: Side) -> Side
     }
 }
 
-// Puts a round behind the steps, where so many session descriptions were made before it.
+// Puts a round behind the steps; so many session descriptions were made before it.
 fn push_steps(steps: &mut Seq<Step>, at: Side, ops: Seq<Op>, sdps: u32) -> Result<(), AllocError>
     requires { sdps < 2 ^ 31 }
     ensures { OnOk result (steps.new ≡ steps.old ++ spec.steps_between at ops sdps) }
@@ -53,10 +53,10 @@ fn push_round(alloc: Global, steps: &mut Seq<Step>, seed: u32, round: u32) -> Re
     push_steps(steps, offerer(z), ops, 2 * round)
 }
 
-/// The steps of a demo of at most a hundred rounds, which a seed settles.
+/// The steps of a demo of at most a hundred rounds, which a seed determines.
 ///
-/// Each round is an offer of one side, which adds a line, its acceptance by the other side, and the acceptance of that answer. The offer
-/// may also set a direction, stop a line, add a channel or restart ICE.
+/// Each round is an offer of one side, which adds a line, its acceptance by the other side, and the acceptance of that
+/// answer. The offer may also set a direction, stop a line, add a channel or restart ICE.
 pub fn demo_steps(alloc: Global, rounds: u32, seed: u32) -> Result<Seq<Step>, AllocError>
     requires { rounds ≤ 100 }
     ensures steps { IfOk result (λ steps. steps ≡ spec.demo_steps rounds seed) }

@@ -1,5 +1,5 @@
--- Session descriptions (SDPs) that no cause refuses are accepted, unless memory runs out or a part fails; and no reply tells that a part
--- failed where none did.
+-- Session descriptions (SDPs) that no cause refuses are accepted, unless memory runs out or a part fails; and no reply reports that a part
+-- failed if none did.
 use Rattle.std.specs.Prelude.{◌≡◌, ◌||◌, ℕ, Bool, true, false, List, Option, Some, None}
 use Rattle.rtc_sdp_values.specs.declared.sdp.Sdp.{Sdp}
 use Rattle.rtc_change.specs.Plans.{verdict}
@@ -21,7 +21,7 @@ use Rattle.rtc_run_history.specs.Sound.{IsSound, asked_in, is_glare_at}
 use Rattle.rtc_run_history.specs.SoundParts.{CountsFault}
 use Rattle.rtc_run_history.specs.Views.{Stances, view_in}
 
--- a step succeeded, or tells that memory ran out or that a part failed
+-- a step succeeded, or reports that memory ran out or that a part failed
 abbrev pub SucceedsOrFails : {E : Type 0} → Outcome E → Type 0
 SucceedsOrFails outcome = (is_ok outcome || fails outcome) ≡ true
 
@@ -42,7 +42,7 @@ pub record IsFaultlessAnswer {E : Type 0} (fresh : Stances) (past : List (Entry 
   pub right : is_right at t past ≡ true
   pub passes : verdict (view_in fresh at past (held_by (between at))) (Some (asked_in at t past)) answer ≡ None
 
--- a step that hands a side such an offer, or such an answer, succeeds or fails
+-- a step that gives a side such an offer, or such an answer, succeeds or fails
 abbrev pub OfferPasses : {E : Type 0} → Stances → List (Entry E) → Stances → Side → Signalled → Step → Type 0
 OfferPasses {E} fresh past between at said step =
     (outcome : Outcome E) (table : Option Table) (made : List MadeSdp)
@@ -76,7 +76,7 @@ ForeignAnswersPass E =
     → AnswerPasses fresh past between at t (foreign text) (ForeignAnswer at t text)
 
 module _ {I D S M E X T W N : Type 0} (m : Meanings I D S M E X T W N) (stun : List ℕ → Bool) where
-  -- where no part of a pair that counts its faults failed in a run, no reply of it tells a fault
+  -- if no part of a pair that counts its faults failed in a run, no reply of it reports a fault
   abbrev pub FaultsAreCounted : Type 0
   FaultsAreCounted =
       (start : PairState I D S M N) (steps : List Step) (replies : List (Reply E)) (pair : PairState I D S M N)

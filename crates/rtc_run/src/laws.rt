@@ -14,7 +14,7 @@ pub fn faultless_descriptions_pass<E>()
     ensures foreign_answers { ForeignAnswersPass E }
 {}
 
-/// No reply of a run tells a fault where no DTLS part, no association and no media part of its pair counted one.
+/// No reply of a run reports a fault if no DTLS part, no association and no media part of its pair counted one.
 pub fn faults_are_counted<I: IceAgent, D: DtlsInstance, S: Association, M: MediaSession, N: Ids>()
     ensures { FaultsAreCounted (meanings I.ice D.dtls S.association M.media N.ids) I.stun }
 {}

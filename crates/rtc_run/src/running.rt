@@ -15,12 +15,12 @@ use rtc_run_history::{Reply, Step};
 use rtc_wire::Seq;
 use std::alloc::{AllocError, Global};
 
-/// Performs steps in order, each by the public calls of the acting peer, and gives a reply for each.
+/// Performs steps in order, each by the public calls of the acting peer, and returns a reply for each.
 ///
-/// Offers and answers reach the other peer as signalling delivers them: written, and read again. They are read as they were written
-/// where each source was unused when it was drawn. Two offers that cross, of a polite peer and an impolite one that are in step, bring
-/// the two together by a rollback (RFC 3264, section 4). A drain shows at most as many outputs as its peer weighs before it. Room for the
-/// replies is made first, so an error leaves both peers as they were.
+/// Offers and answers reach the other peer as signalling delivers them: written, and read again. They are read as they
+/// were written if each SSRC was unused when it was drawn. On glare of a polite peer and an impolite one that are in
+/// step, a rollback brings the two together (RFC 3264, section 4). A drain shows at most as many outputs as its peer
+/// weighs before it. Room for the replies is made first, so an error leaves both peers unchanged.
 pub fn run_pair<I: IceAgent, D: DtlsInstance, S: Association, M: MediaSession, N: Ids>(
     alloc: Global,
     pair: &mut Pair<I, D, S, M, N>,

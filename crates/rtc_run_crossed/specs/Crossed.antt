@@ -1,6 +1,5 @@
--- Two offers that cross (RFC 3264, section 4), between a polite and an impolite peer that are in step: the impolite one refuses the other
--- offer, and the polite one rolls its own back and accepts that of the impolite one; the answer ends the round (W3C WebRTC 1.0,
--- section 10.7).
+-- Glare (RFC 3264, section 4) between a polite and an impolite peer that are in step: the impolite one refuses the other offer, and the
+-- polite one rolls its own back and accepts that of the impolite one; the answer ends the round (W3C WebRTC 1.0, section 10.7).
 use Rattle.std.specs.Prelude.{◌≡◌, ◌+◌, ◌<◌, ◌^◌, ℕ, Bool, true, false, not, ◌&&◌, List, [], ◌∷◌, ◌++◌, length, Option, Some, None, is_some}
 use Rattle.std.specs.List.{AllZip}
 use Rattle.rtc_part_values.specs.Among.{Member}
@@ -33,7 +32,7 @@ pub record CrossedNumbers : Type 0 where
   pub impolite : ℕ
   pub answer : ℕ
 
--- the four steps behind the offers, where this side is the polite one
+-- the four steps behind the offers, if this side is the polite one
 abbrev pub refusal_step : Side → CrossedNumbers → Step
 refusal_step s n = AcceptOffer (other_side s) n.polite
 
@@ -54,7 +53,7 @@ orders s n =
     ∷ (rollback_step s n ∷ answer_step s n ∷ refusal_step s n ∷ end_step s n ∷ [])
     ∷ []
 
--- the steps from the two offers on, of which either comes first, where so many session descriptions were made before
+-- the steps from the two offers on, of which either is first, if so many session descriptions were made before
 pub data IsCourse (s : Side) (next : ℕ) (ops others : List Op) (n : CrossedNumbers) (steps : List Step) : Type 0 where
   PoliteFirst : (order : List Step) → n ≡ record { polite = next; impolite = next + 1; answer = next + 2 } → Member order (orders s n)
       → steps ≡ Negotiate s ops true ∷ Negotiate (other_side s) others true ∷ order
@@ -112,7 +111,7 @@ AreOffered s (entry ∷ past) =
     MadeOffer entry.step entry.outcome × KeepsLive s entry.step entry.outcome entry.table entry.made × AreOffered s past
 
 module _ {I D S M E X T W N : Type 0} (m : Meanings I D S M E X T W N) (stun : List ℕ → Bool) where
-  -- a pair goes on through further entries, newest first
+  -- a pair continues through further entries, newest first
   abbrev pub GoesOn : PairState I D S M N → List (Entry E) → PairState I D S M N → Type 0
   GoesOn from [] pair = pair ≡ from
   GoesOn from (entry ∷ newer) pair = (between : PairState I D S M N) × GoesOn from newer between × Enters m stun between entry pair
@@ -136,16 +135,16 @@ module _ {I D S M E X T W N : Type 0} (m : Meanings I D S M E X T W N) (stun : L
   AllMeet s n stood from (entry ∷ newer) pair went =
       AllMeet s n stood from newer went.0 went.1 × EntryMeets s n stood went.0 entry pair
 
-  -- What the whole course leaves: equal lines, which are the rows that stood and then those that the impolite side added, and no others;
+  -- What the whole course leaves: equal lines, which are the rows from before and then those that the impolite side added, and no others;
   -- and at most one side is passive in the handshake of DTLS.
   pub record HaveMet (s : Side) (stood added : List LineRow) (pair : PairState I D S M N) : Type 0 where
     pub equal : Equal (peer_at s pair).lines (peer_at (other_side s) pair).lines
     pub rows : (at : Side) → AllZip AreSameRow (stood ++ added) (peer_at at pair).lines
     pub parted : (is_passive (peer_at Left pair).dtls.active && is_passive (peer_at Right pair).dtls.active) ≡ false
 
-  -- Where a run went through the entries of a course, or through the first of them: both offers were made, the impolite one and the answer
-  -- to it keep a live row, and no reply tells that memory ran out or that a part failed. Then each entry meets what it owes, and at the end
-  -- both sides have met.
+  -- If a run passed through the entries of a course, or through the first of them: both offers were made, the impolite one and the answer
+  -- to it keep a live row, and no reply reports that memory ran out or that a part failed. Then each entry meets what it owes, and at the
+  -- end both sides have met.
   pub record Crosses (earlier crossing : List (Entry E)) (from pair : PairState I D S M N) (went : GoesOn from crossing pair)
       : Type 0 where
     pub meets : (s : Side) (ops others : List Op) (n : CrossedNumbers) (course : List Step)

@@ -1,2 +1,2 @@
-//! Why offers that cross bring a polite and an impolite peer together.
+//! Why glare brings a polite and an impolite peer together.
 #![tactic(auto)]

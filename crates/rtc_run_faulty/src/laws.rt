@@ -28,8 +28,9 @@ pub fn faults_are_of_listed_calls()
     ensures closes { (p q : FaultyPolled) (error : RtcError) → ClosesPeer faulty_parts p (Err error) q → HasListedCause p error q }
 {}
 
-/// Running out of memory in a poll, an input or a close leaves a peer over parts that fail closed. A closed peer polls a timeout that
-/// never comes, takes each input without a change, and stays closed, whatever offer or answer is accepted.
+/// Running out of memory in a poll, an input or a close leaves a peer over parts that fail closed. A closed peer polls
+/// a timeout that is never reached, takes each input without a change, and stays closed, whatever offer or answer is
+/// accepted.
 pub fn faulty_peers_close_for_good()
     ensures polls { (p q : FaultyPolled) → PollsPeer faulty_parts p (Err Alloc) q → q.core.phase ≡ Closed }
     ensures inputs { (p q : FaultyPolled) (input : Input) → HandlesInput faulty_parts input p (Err Alloc) q → q.core.phase ≡ Closed }

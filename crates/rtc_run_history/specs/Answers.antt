@@ -1,4 +1,4 @@
--- What the answers to ops tell of what a step stages: whether there is anything, whether it has to be offered, which rows and which
+-- What the results of operations say of what a step stages: whether there is anything, whether it has to be offered, which rows and which
 -- channels it adds.
 use Rattle.std.specs.Prelude.{◌+◌, ℕ, Bool, true, false, not, List, [], ◌∷◌, ◌++◌, Option, Some, None, is_some}
 use Rattle.std.specs.List.{list_any}
@@ -26,11 +26,11 @@ stages Alloc = false
 abbrev pub do_stage : List OpAnswer → Bool
 do_stage answers = list_any stages answers
 
--- whether a side has a line of data channels
+-- whether a side has an m-line of data channels
 abbrev pub has_app_row : List LineRow → Bool
 has_app_row rows = is_some (app_of rows)
 
--- Whether what an op staged has to be offered, at a side with or without a line of data channels: a channel alone need not be where
+-- Whether what an operation staged has to be offered, at a side with or without an m-line of data channels: a channel alone need not be if
 -- there is one.
 abbrev pub needs_offer : Bool → OpAnswer → Bool
 needs_offer has_app (Mid mid) = true
@@ -44,8 +44,8 @@ needs_offer has_app Alloc = false
 abbrev pub do_need_offer : Bool → List OpAnswer → Bool
 do_need_offer has_app answers = list_any (needs_offer has_app) answers
 
--- The rows that ops add, at places from this one on: one for each op that is answered by a mid; and at the first channel a row of data
--- channels with the mid that is given for one.
+-- The rows that operations add, at places from this one on: one for each operation whose result is a mid; and at the first channel a row of
+-- data channels with the mid that is given for one.
 abbrev pub added : Option (List ℕ) → ℕ → List Op → List OpAnswer → List LineRow
 added app place [] answers = []
 added app place (op ∷ ops) [] = []
@@ -57,7 +57,7 @@ added app place (op ∷ ops) (answer ∷ answers) = added app place ops answers
 abbrev pub with_numbered : ℕ → ChannelConfig → Channels → Channels
 with_numbered id config held = record held { given = held.given + 1; rows = held.rows ++ unconfirmed id config ∷ [] }
 
--- the channel numbers that answers tell
+-- the channel numbers in results
 abbrev pub numbers_answered : List OpAnswer → List ℕ
 numbers_answered [] = []
 numbers_answered (Mid mid ∷ answers) = numbers_answered answers
@@ -72,7 +72,7 @@ numbers_answered (Alloc ∷ answers) = numbers_answered answers
 abbrev pub waiting_row : ℕ → ChannelRow
 waiting_row id = record { id = id; stream = None; generation = 0; is_open = false }
 
--- the rows of the channels that answers tell
+-- the rows of the channels in results
 abbrev pub rows_waiting : List OpAnswer → List ChannelRow
 rows_waiting [] = []
 rows_waiting (Mid mid ∷ answers) = rows_waiting answers
@@ -83,7 +83,7 @@ rows_waiting (BadChannel ∷ answers) = rows_waiting answers
 rows_waiting (Creds creds ∷ answers) = rows_waiting answers
 rows_waiting (Alloc ∷ answers) = rows_waiting answers
 
--- whether an answer tells that no channel was made
+-- whether a result reports that no channel was made
 abbrev pub is_bad : OpAnswer → Bool
 is_bad (Mid mid) = false
 is_bad (Changed changed) = false
@@ -93,7 +93,7 @@ is_bad BadChannel = true
 is_bad (Creds creds) = false
 is_bad Alloc = false
 
--- whether an answer tells the credentials of a restart
+-- whether a result has the credentials of a restart
 abbrev pub is_restart_answer : OpAnswer → Bool
 is_restart_answer (Mid mid) = false
 is_restart_answer (Changed changed) = false

@@ -1,4 +1,4 @@
--- The replies to steps that make one call: what the call answers, and the table of the peer afterwards.
+-- The replies to steps that make one call: what the call returns, and the table of the peer afterwards.
 use Rattle.std.specs.Prelude.{◌≡◌, ℕ, Bool, List, Option, Some, None, Result, Ok, Err, alloc_error}
 use Rattle.rtc_peer_core.specs.declared.peer.Peer.{Peer}
 use Rattle.rtc_peer_core.specs.declared.rtc_error.RtcError.{RtcError}
@@ -17,7 +17,7 @@ module _ {I D S M E X T W N : Type 0} (m : Meanings I D S M E X T W N) where
     pub lines : table.lines ≡ peer.lines
     pub channels : table.channels ≡ channel_rows m.association peer.sctp peer.channels
 
-  -- An input or a close is answered: by `Done`, or by why it was refused. Without memory for the table there is no call.
+  -- An input or a close has a reply: `Done`, or why it was refused. Without memory for the table there is no call.
   abbrev pub StepCalls : (PolledPeer I D S M N → Result (Unit {0}) RtcError → PolledPeer I D S M N → Type 0) → PolledPeer I D S M N
       → Outcome E → Option Table → PolledPeer I D S M N → Type 0
   StepCalls call old Alloc None new = new ≡ old
@@ -31,7 +31,7 @@ module _ {I D S M E X T W N : Type 0} (m : Meanings I D S M E X T W N) where
   FindsNone old NoSuch (Some table) new = (new ≡ old) × Shows table old.core
   FindsNone old outcome table new = ⊥
 
-  -- A write to an open stream is answered: by whether the message was taken, or by why it was refused.
+  -- A write to an open stream has a reply: whether the message was taken, or why it was refused.
   abbrev pub StepWritesOpen : (stream : ℕ) → (binary : Bool) → List ℕ → PolledPeer I D S M N → Outcome E → Option Table
       → PolledPeer I D S M N → Type 0
   StepWritesOpen stream binary bytes old Alloc None new = new ≡ old

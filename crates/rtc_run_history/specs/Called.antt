@@ -14,7 +14,7 @@ is_unread_for (Parse line) = true
 is_unread_for (Inconsistent why) = false
 is_unread_for TextAlloc = false
 
--- whether an error tells that what was written of an SDP could not be read
+-- whether an error reports that what was written of an SDP could not be read
 abbrev pub is_unread : RtcError → Bool
 is_unread (RemoteSdp why) = false
 is_unread (SdpRefused error) = is_unread_for error
@@ -27,7 +27,7 @@ is_unread BadChannel = false
 is_unread PeerAlloc = false
 is_unread Glare = false
 
--- whether an error tells that an offer collided with one of the peer's own
+-- whether an error reports glare
 abbrev pub is_glare : RtcError → Bool
 is_glare (RemoteSdp why) = false
 is_glare (SdpRefused error) = false
@@ -52,7 +52,7 @@ was_called (Refused error) = not (is_unread error)
 was_called NoSuch = false
 was_called Alloc = false
 
--- whether a reply says that the peer's accept call was reached, and did not refuse the offer as glare, which supersedes nothing
+-- whether a reply says that the peer's accept call was reached, and did not refuse the offer as glare, which invalidates nothing
 abbrev pub supersedes : {E : Type 0} → Outcome E → Bool
 supersedes (Negotiated answers made) = false
 supersedes (Answered k) = true

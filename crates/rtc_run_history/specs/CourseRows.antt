@@ -40,7 +40,7 @@ must_offer (StopMedia place ∷ ops) rows =
 must_offer (AddChannel config ∷ ops) rows = not (has_app_row rows) || must_offer ops rows
 must_offer (IceRestart keep ∷ ops) rows = true
 
--- an answer to an op that adds what it asks for
+-- a result of an operation that adds what it asks for
 abbrev pub adding_answer : Op → OpAnswer
 adding_answer (AddMedia kind dir) = Mid []
 adding_answer (SetDirection place dir) = NoLine
@@ -64,7 +64,7 @@ stops_first (IceRestart keep) = false
 abbrev pub do_stop_first : List Op → Bool
 do_stop_first ops = list_any stops_first ops
 
--- a channel that every peer makes: its open message settles its stream, and has room for its label and protocol
+-- a channel that every peer makes: its open message determines its stream, and has room for its label and protocol
 abbrev pub is_in_band : ChannelConfig → Bool
 is_in_band config = not (is_some config.negotiated) && (not (is_overlong config.label) && not (is_overlong config.protocol))
 

@@ -1,4 +1,4 @@
--- Runs in which each source was unused when it was drawn, and session descriptions (SDPs) that are read back as they were written.
+-- Runs in which each SSRC was unused when it was drawn, and session descriptions (SDPs) that are read back as they were written.
 use Rattle.std.specs.Prelude.{◌≡◌, ℕ, Bool, true, false, List, [], ◌∷◌, drop, length, All, Option, Some, None, IfSome}
 use Rattle.std.specs.List.{AllByRecursion}
 use Rattle.rtc_sdp_writer.specs.Plain.{IsPlain}
@@ -20,7 +20,7 @@ use Rattle.rtc_run_history.specs.Performs.{lent}
 use Rattle.rtc_run_history.specs.Runs.{Went, EntersSoundly, Runs}
 use Rattle.rtc_run_history.specs.Signalled.{Signalled, NotMade, Unreadable, Readable, foreign}
 
--- each SDP that is kept is read back as it was written, its sources too
+-- each SDP that is kept is read back as it was written, its SSRCs too
 abbrev pub AllPlain : List Kept → Type 0
 AllPlain sdps = All (λ kept. IsPlain kept.sdp) sdps
 
@@ -30,7 +30,7 @@ abbrev pub AllWent : {E P : Type 0} (enters : List (Entry E) → P → Entry E �
 AllWent enters fresh holds [] pair went = Unit {0}
 AllWent enters fresh holds (entry ∷ past) pair went = AllWent enters fresh holds past went.0 went.1 × holds went.0 entry pair
 
--- the sources of the lines that an offer adds were unused
+-- the SSRCs of the lines that an offer adds were unused
 abbrev pub IsOfferedUnused : (ℕ → Bool) → Kept → Type 0
 IsOfferedUnused used kept = IfSome kept.token (λ token. AreStagedUnused used token.changes)
 
@@ -39,7 +39,7 @@ module _ {I D S M E X T W N : Type 0} (m : Meanings I D S M E X T W N) where
   abbrev pub HaveNoLines : PairState I D S M N → Type 0
   HaveNoLines pair = (at : Side) (mid : List ℕ) → m.media.line (peer_at at pair).media mid ≡ None
 
-  -- the sources that the acceptance of an offer draws are unused
+  -- the SSRCs that the acceptance of an offer draws are unused
   abbrev pub AnswersByUnused : Peer I D S M N → Signalled → Type 0
   AnswersByUnused p NotMade = Unit {0}
   AnswersByUnused p (Unreadable line) = Unit {0}
@@ -52,7 +52,7 @@ module _ {I D S M E X T W N : Type 0} (m : Meanings I D S M E X T W N) where
   FinishesByUnused p (Some token) (Unreadable line) = Unit {0}
   FinishesByUnused p (Some token) (Readable sdp) = AnswerDrawsUnused m (lent p) token sdp
 
-  -- Each source that a step drew, for an offer that it made or for a line that it accepted, was unused when it was drawn: no stream of its
+  -- Each SSRC that a step drew, for an offer that it made or for a line that it accepted, was unused when it was drawn: no stream of its
   -- peer had it, and it was not drawn earlier in the same call.
   abbrev pub DrawsByStep : Step → Outcome E → PairState I D S M N → PairState I D S M N → Type 0
   DrawsByStep (Negotiate at ops apply) outcome old new =
@@ -64,7 +64,7 @@ module _ {I D S M E X T W N : Type 0} (m : Meanings I D S M E X T W N) where
   DrawsByStep (ForeignAnswer at t text) Finished old new = FinishesByUnused (peer_at at old) (held_token old.sdps at t) (foreign text)
   DrawsByStep step outcome old new = Unit {0}
 
-  -- so was each source that a run drew
+  -- so was each SSRC that a run drew
   abbrev pub DrawsUnused : (stun : List ℕ → Bool) (start : PairState I D S M N) (steps : List Step) (replies : List (Reply E))
       (pair : PairState I D S M N) → Runs m stun start steps replies pair → Type 0
   DrawsUnused stun start steps replies pair run =

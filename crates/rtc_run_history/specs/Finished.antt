@@ -21,7 +21,7 @@ AreSameLine row other = ⊥
 abbrev pub Equal : List LineRow → List LineRow → Type 0
 Equal rows others = AllZip AreSameLine rows others
 
--- a media line is stopped at both ends, or live at both with inverse directions; a line of data channels has no direction
+-- a media line is stopped at both ends, or live at both with inverse directions; an m-line of data channels has no direction
 abbrev pub AreMirrored : LineRow → LineRow → Type 0
 AreMirrored (Media place mid kind dir stopped remote_created) (Media place' mid' kind' dir' stopped' remote_created') =
     ((stopped ≡ true) × (stopped' ≡ true)) ⊎ ((stopped ≡ false) × (stopped' ≡ false) × (dir' ≡ inverse_of dir))
@@ -41,7 +41,7 @@ stays_silent offered (Some (Media place mid kind dir stopped remote_created)) =
     is_recv_only offered && (not remote_created && is_inactive dir)
 stays_silent offered (Some (App place mid)) = false
 
--- the direction that both sides agree on: the offered one, but inactive where the line is stopped or stays silent
+-- the direction that both sides agree on: the offered one, but inactive if the line is stopped or remains silent
 abbrev pub agreed_dir : Direction → Bool → Option LineRow → Direction
 agreed_dir offered stopped before = if stopped || stays_silent offered before then Inactive else offered
 

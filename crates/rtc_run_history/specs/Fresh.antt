@@ -7,8 +7,8 @@ use Rattle.rtc_run_history.specs.declared.side.Side.{Side}
 use Rattle.rtc_run_history.specs.PairState.{PairState, peer_at, stances_of}
 use Rattle.rtc_run_history.specs.Views.{AreFormed}
 
--- There are no rows and no channels, nothing is staged, the counter is 0, no offer awaits its answer, and nothing is known of the other
--- side. The association is not started, and no half of a start by session descriptions is drawn (draft-hancke-tsvwg-snap).
+-- There are no rows and no channels, nothing is staged, the counter is 0, no offer is pending, and nothing is known of the other side. The
+-- association is not started, and no SNAP INIT chunk is drawn (draft-hancke-tsvwg-snap).
 pub record IsJustBuilt (s : Stance) : Type 0 where
   pub lines : s.lines ≡ []
   pub staged : s.staged ≡ []

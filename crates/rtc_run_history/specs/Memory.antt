@@ -1,4 +1,4 @@
--- Which replies tell that memory ran out, and which that a part failed.
+-- Which replies report that memory ran out, and which that a part failed.
 use Rattle.std.specs.Prelude.{Bool, true, false, ◌&&◌, ◌||◌, List}
 use Rattle.std.specs.List.{list_any}
 use Rattle.rtc_sctp_values.specs.declared.proto_error.ProtoError.{ProtoError}
@@ -51,7 +51,7 @@ error_lacks BadChannel = false
 error_lacks PeerAlloc = true
 error_lacks Glare = false
 
--- what ended polls tells that memory ran out: at the peer, or before the next poll
+-- what ended polls reports that memory ran out: at the peer, or before the next poll
 abbrev pub end_lacks : PollEnd → Bool
 end_lacks Ended = false
 end_lacks (EndRefused error) = error_lacks error
@@ -71,7 +71,7 @@ outcome_lacks Alloc = true
 abbrev pub lacks_memory : {E : Type 0} → Reply E → Bool
 lacks_memory reply = outcome_lacks reply.outcome
 
--- the parts of a peer whose faults an acceptance can tell
+-- the parts of a peer whose faults an acceptance can report
 pub data CountedPart : Type 0 where
   DtlsPart : CountedPart
   AssociationPart : CountedPart
@@ -109,7 +109,7 @@ is_sctp_fault sctp.DcepBadUtf8 = false
 is_sctp_fault sctp.InvalidSnap = false
 is_sctp_fault sctp.Alloc = false
 
--- whether an error tells that this part failed
+-- whether an error reports that this part failed
 abbrev pub is_fault_of : RtcError → CountedPart → Bool
 is_fault_of (RemoteSdp why) part = false
 is_fault_of (Sdp error) part = false
@@ -122,7 +122,7 @@ is_fault_of BadChannel part = false
 is_fault_of PeerAlloc part = false
 is_fault_of Glare part = false
 
--- what ended polls tells that this part failed
+-- what ended polls reports that this part failed
 abbrev pub is_end_fault_of : PollEnd → CountedPart → Bool
 is_end_fault_of Ended part = false
 is_end_fault_of (EndRefused error) part = is_fault_of error part
@@ -148,7 +148,7 @@ abbrev pub tells_fault : {E : Type 0} → Outcome E → Bool
 tells_fault outcome =
     tells_fault_of outcome DtlsPart || (tells_fault_of outcome AssociationPart || tells_fault_of outcome MediaPart)
 
--- whether one of these replies tells that a part failed
+-- whether one of these replies reports that a part failed
 abbrev pub tell_fault : {E : Type 0} → List (Reply E) → Bool
 tell_fault replies = list_any (λ reply. tells_fault reply.outcome) replies
 

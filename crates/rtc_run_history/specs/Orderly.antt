@@ -73,17 +73,17 @@ is_offerer at Idle = false
 is_offerer at (AwaitsAnswer side n said) = same_side side at
 is_offerer at (AwaitsEnd side n m said) = same_side side at
 
--- whether ops apply channels at the side whose offer is outstanding, which would supersede its token
+-- whether operations apply channels at the side whose offer is outstanding, which would invalidate its token
 abbrev pub do_supersede : Bool → Side → List Op → Phase → Bool
 do_supersede apply at ops phase = is_offerer at phase && (apply && do_add_channel ops)
 
--- the course after ops that are in order where they offer nothing while a round is open
+-- the course after operations that are in order if they offer nothing while a round is open
 abbrev pub after_fitting : Bool → Side → List Op → Course → List LineRow → Option Course
 after_fitting apply at ops course rows =
     if apply && must_offer ops (course_rows at course) then after_offering at course rows (rows_added rows ops) course.phase
     else Some (moved_on at course rows course.sdps course.phase)
 
--- The course after ops. It is not in order to stop the first line, to add a channel that a peer refuses, or to apply a channel where
+-- The course after operations. It is not in order to stop the first line, to add a channel that a peer refuses, or to apply a channel while
 -- one's own offer is outstanding.
 abbrev pub after_ops : Bool → Side → List Op → Course → List LineRow → Option Course
 after_ops apply at ops course rows =
@@ -138,7 +138,7 @@ course_of steps = follow (Some (record { left = []; right = []; sdps = 0; phase 
 abbrev pub are_orderly : List Step → Bool
 are_orderly steps = is_some (course_of steps)
 
--- whether an earlier reply tells that memory ran out or that a part failed
+-- whether an earlier reply reports that memory ran out or that a part failed
 abbrev pub has_failed : {E : Type 0} → List (Entry E) → Bool
 has_failed past = list_any (λ entry. fails entry.outcome) past
 
@@ -192,7 +192,7 @@ IsIdle Idle = Unit {0}
 IsIdle (AwaitsAnswer side n said) = ⊥
 IsIdle (AwaitsEnd side n m said) = ⊥
 
--- the mid of the line of data channels, if there is one
+-- the mid of the m-line of data channels, if there is one
 abbrev pub mid_of_app : List LineRow → Option (List ℕ)
 mid_of_app rows = option_map row_mid (app_of rows)
 
@@ -208,8 +208,8 @@ AreJoined (Some halves) (Some others) =
     (is_whole halves ≡ true) × (halves.remote ≡ others.local) × (others.remote ≡ halves.local)
 AreJoined halves others = ⊥
 
--- Two sides with the same lines, also by the mid of the line of data channels, with current credentials of each other, and with the
--- chunks of each other where the associations were started by these.
+-- Two sides with the same lines, also by the mid of the m-line of data channels, with current credentials of each other, and with the SNAP
+-- INIT chunks of each other if the associations were started by these.
 pub record AreInStep (rows others : List LineRow) (sides : Stances) : Type 0 where
   pub equal : Equal rows others
   pub app : mid_of_app others ≡ mid_of_app rows

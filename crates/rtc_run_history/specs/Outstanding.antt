@@ -1,4 +1,4 @@
--- Whether an offer of a side awaits its answer, read from the past.
+-- Whether an offer of a side is pending, read from the past.
 use Rattle.std.specs.Prelude.{ℕ, Bool, false, not, List, [], ◌∷◌, if◌then◌else◌, Option, Some, None}
 use Rattle.rtc_run_history.specs.declared.side.Side.{Side}
 use Rattle.rtc_run_history.specs.declared.made.Made.{Made}
@@ -35,6 +35,6 @@ abbrev pub is_unspent : {E : Type 0} → Option ℕ → List (Entry E) → Bool
 is_unspent None past = false
 is_unspent (Some t) past = not (is_spent t past)
 
--- whether a side made an offer that is right, and whose token was handed in neither with an answer nor to roll it back
+-- whether a side made an offer that is right, and whose token was given neither with an answer nor to roll it back
 abbrev pub has_outstanding : {E : Type 0} → Side → List (Entry E) → Bool
 has_outstanding at past = is_unspent (right_offer at past) past

@@ -1,4 +1,4 @@
--- What a list of past steps and replies tells: rows, channels, session descriptions (SDPs) and tokens.
+-- What a list of past steps and replies says: rows, channels, session descriptions (SDPs) and tokens.
 use Rattle.std.specs.Prelude.{ℕ, ◌==◌, Bool, true, false, not, ◌&&◌, ◌||◌, List, [], ◌∷◌, ◌++◌, if◌then◌else◌}
 use Rattle.std.specs.Prelude.{Option, Some, None, slice_get}
 use Rattle.rtc_sdp_values.specs.Sdp.{is_application}
@@ -101,11 +101,11 @@ abbrev pub sdp_for : Bool → Side → Option MadeSdp → Option Sdp
 sdp_for offer at None = None
 sdp_for offer at (Some said) = if (if offer then said.offer else not said.offer) && not (same_side said.at at) then Some said.sdp else None
 
--- the offer (or the answer) of a number as signalling brings it, if the other side made it
+-- the offer (or the answer) of a number as signalling delivers it, if the other side made it
 abbrev pub remote_sdp : {E : Type 0} → Bool → Side → ℕ → List (Entry E) → Signalled
 remote_sdp offer at k past = signalled_if (sdp_for offer at (slice_get (sdps past) k))
 
--- a token is spent by the call that accepts or refuses an answer with it, and by the call that rolls its offer back or refuses to
+-- a token is consumed by the call that accepts or refuses an answer with it, and by the call that rolls its offer back or refuses to
 abbrev pub spends : {E : Type 0} → ℕ → Step → Outcome E → Bool
 spends t (Negotiate at ops apply) outcome = false
 spends t (AcceptOffer at offer) outcome = false
@@ -152,8 +152,8 @@ applies (Refused error) = false
 applies NoSuch = false
 applies Alloc = false
 
--- whether a step applied staged changes of a side, or handed it an offer that could be read, which it accepted, or refused for another
--- cause than glare
+-- whether a step applied staged changes of a side, or gave it an offer that could be read, which it accepted, or refused for another cause
+-- than glare
 abbrev pub moves : {E : Type 0} → Side → Step → Outcome E → Bool
 moves at (Negotiate side ops apply) outcome = same_side side at && applies outcome
 moves at (AcceptOffer side offer) outcome = same_side side at && supersedes outcome
@@ -188,13 +188,13 @@ makes t (Refused error) = false
 makes t NoSuch = false
 makes t Alloc = false
 
--- since the offer of this number, its side applied no staged changes, and was handed no offer that could be read and that it did not refuse
+-- since the offer of this number, its side applied no staged changes, and was given no offer that could be read and that it did not refuse
 -- as glare
 abbrev pub is_right : {E : Type 0} → Side → ℕ → List (Entry E) → Bool
 is_right at t [] = false
 is_right at t (entry ∷ past) = makes t entry.outcome || (not (moves at entry.step entry.outcome) && is_right at t past)
 
--- the mid of the first application line; empty where there is none
+-- the mid of the first application line; empty if there is none
 abbrev pub app_line_mid : List ParsedLine → List ℕ
 app_line_mid [] = []
 app_line_mid (line ∷ lines) = if is_application line.kind then line.mid else app_line_mid lines
@@ -203,7 +203,7 @@ abbrev pub app_mid_said : List MadeSdp → Option (List ℕ)
 app_mid_said [] = None
 app_mid_said (said ∷ more) = Some (app_line_mid (parsed_lines said.sdp))
 
--- the mid that the line of data channels gets where a step adds one: its side has none, and the SDP that the step made tells it
+-- the mid that the m-line of data channels gets if a step adds one: its side has none, and the SDP that the step made carries it
 abbrev pub new_app : List LineRow → List MadeSdp → Option (List ℕ)
 new_app rows made = if has_app_row rows then None else app_mid_said made
 
@@ -245,7 +245,7 @@ abbrev pub channels_shown : {E : Type 0} → Side → List (Entry E) → List Ch
 channels_shown at [] = []
 channels_shown at (entry ∷ past) = channel_rows_or (same_side (side_of entry.step) at) entry.table (channels_shown at past)
 
--- the channel number that an event tells to be open, if any
+-- the channel number that an event reports as open, if any
 abbrev pub number_opened : {E : Type 0} → Shown E → List ℕ
 number_opened (Timeout moment reason) = []
 number_opened (Packet number len) = []
@@ -256,7 +256,7 @@ abbrev pub numbers_opened : {E : Type 0} → List (Shown E) → List ℕ
 numbers_opened [] = []
 numbers_opened (shown ∷ outputs) = number_opened shown ++ numbers_opened outputs
 
--- the channel numbers that an outcome tells: of channels that were added, and of channels that polls told to be open
+-- the channel numbers in an outcome: of channels that were added, and of channels that polls reported as open
 abbrev pub numbers_in : {E : Type 0} → Outcome E → List ℕ
 numbers_in (Negotiated answers made) = numbers_answered answers
 numbers_in (Answered k) = []
@@ -272,7 +272,7 @@ abbrev pub numbers_or : {E : Type 0} → Bool → Outcome E → List ℕ → Lis
 numbers_or true outcome earlier = numbers_in outcome ++ earlier
 numbers_or false outcome earlier = earlier
 
--- The channel numbers that the replies of a side tell, whether or not there still is such a channel.
+-- The channel numbers in the replies of a side, whether or not there still is such a channel.
 abbrev pub numbers_told : {E : Type 0} → Side → List (Entry E) → List ℕ
 numbers_told at [] = []
 numbers_told at (entry ∷ past) = numbers_or (same_side (side_of entry.step) at) entry.outcome (numbers_told at past)

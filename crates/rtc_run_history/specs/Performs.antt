@@ -62,7 +62,7 @@ kept_offer at made = record { at = at; offer = true; sdp = made.0; token = Some 
 abbrev pub wanted : MediaKind → Direction → Wanted
 wanted kind dir = record { kind = kind; dir = dir; stream = None; track = None; simulcast = None }
 
--- the connection of a peer and the datagrams stay
+-- the connection of a peer and the datagrams are unchanged
 pub record LeavesConnection {I D S M N : Type 0} (old : PolledPeer I D S M N) (packets : List SentPacket) (new : PolledPeer I D S M N)
     (packets' : List SentPacket) : Type 0 where
   pub connection : new.transport ≡ old.transport
@@ -76,7 +76,7 @@ raw_datagram source destination bytes = record { proto = Udp; source = source; d
 abbrev pub sent_packet : Side → Transmit → SentPacket
 sent_packet at transmit = record { at = at; transmit = transmit }
 
--- a datagram as it comes in where it was sent to, by its kind
+-- a datagram as its receiver gets it, by its kind
 pub record ComesIn (transmit : Transmit) (kind : MultiplexKind) (datagram : Receive) : Type 0 where
   pub kind_is : kind_said datagram.contents ≡ kind
   pub bytes : bytes_lent datagram.contents ≡ transmit.contents
@@ -91,7 +91,7 @@ pub record CallsLine (rows : List LineRow) (place : ℕ) (call : List ℕ → Ty
   pub called : call mid
 
 module _ {I D S M E X T W N : Type 0} (m : Meanings I D S M E X T W N) where
-  -- Ops are performed in order, up to the first that answers `Alloc`.
+  -- Operations are performed in order, up to the first that returns `Alloc`.
   abbrev pub PerformsOps : Peer I D S M N → List Op → List OpAnswer → Peer I D S M N → Type 0
   PerformsOps p [] [] q = q ≡ p
   PerformsOps p (AddMedia kind dir ∷ ops) (Mid mid ∷ answers) q =
@@ -118,7 +118,7 @@ module _ {I D S M E X T W N : Type 0} (m : Meanings I D S M E X T W N) where
   PerformsOps p (IceRestart keep ∷ ops) (OpAlloc ∷ []) q = StagesRestart m p keep (Err alloc_error) q
   PerformsOps p ops answers q = ⊥
 
-  -- Staged changes are applied where the step asks for it: at a peer, with the SDPs before and after.
+  -- Staged changes are applied if the step asks for it: at a peer, with the SDPs before and after.
   abbrev pub MakesOf : Bool → Side → Peer I D S M N → List Kept → Made → Peer I D S M N → List Kept → Type 0
   MakesOf false at p sdps NotAsked q sdps' = (q ≡ p) × (sdps' ≡ sdps)
   MakesOf true at p sdps Nothing q sdps' = Applies m p (Ok None) q × (sdps' ≡ sdps)
@@ -138,14 +138,14 @@ module _ {I D S M E X T W N : Type 0} (m : Meanings I D S M E X T W N) where
       × Shows m table new
   Negotiates at ops apply old sdps outcome table new sdps' = ⊥
 
-  -- A datagram is refused where it is of no kind or has not the form of it, and the peer is not called; else it is handed to the peer.
+  -- A datagram is refused if it is of no kind or has not the form of it, and the peer is not called; else the peer is given it.
   abbrev pub HandlesRead : Result MultiplexKind NetError → Transmit → ℕ → PolledPeer I D S M N → Result (Unit {0}) RtcError
       → PolledPeer I D S M N → Type 0
   HandlesRead (Err why) transmit now p r q = (r ≡ Err (Net why)) × (q ≡ p)
   HandlesRead (Ok kind) transmit now p r q =
       (datagram : Receive) × ComesIn transmit kind datagram × HandlesInput m (given.Receive now datagram) p r q
 
-  -- The peer takes a datagram that the other side sent, where readers of messages of ICE have this test.
+  -- The peer takes a datagram that the other side sent, if readers of messages of ICE have this test.
   abbrev pub StepTakesDatagram : (List ℕ → Bool) → Option Transmit → ℕ → PolledPeer I D S M N → Outcome E → Option Table
       → PolledPeer I D S M N → Type 0
   StepTakesDatagram stun None now old Alloc None new = new ≡ old
@@ -198,7 +198,7 @@ module _ {I D S M E X T W N : Type 0} (m : Meanings I D S M E X T W N) where
   DrainsPeer at p packets [] NoRoom q packets' = ⊥
   DrainsPeer at p packets outputs end q packets' = DrainsOn at p packets outputs end q packets'
 
-  -- Polls are answered by what they gave. Without memory for the table and for one output there is no poll.
+  -- The reply to polls is what they gave. Without memory for the table and for one output there is no poll.
   abbrev pub StepPollsPeer : (List SentPacket → List (Shown E) → PollEnd → PolledPeer I D S M N → List SentPacket → Type 0)
       → PolledPeer I D S M N → List SentPacket → Outcome E → Option Table → PolledPeer I D S M N → List SentPacket → Type 0
   StepPollsPeer polls old packets Alloc None new packets' = (new ≡ old) × (packets' ≡ packets)
@@ -246,7 +246,7 @@ module _ {I D S M E X T W N : Type 0} (m : Meanings I D S M E X T W N) where
       × (sdps' ≡ sdps)
       × (packets' ≡ packets)
 
-  -- A step: what the acting peer does. The other peer and both addresses stay as they were.
+  -- A step: what the acting peer does. The other peer and both addresses are unchanged.
   pub record Performs (stun : List ℕ → Bool) (old : PairState I D S M N) (step : Step) (outcome : Outcome E) (table : Option Table)
       (new : PairState I D S M N) : Type 0 where
     pub acts : Acts stun (addr_at (other_side (side_of step)) old) (addr_at (side_of step) old) step

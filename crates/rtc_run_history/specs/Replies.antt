@@ -45,7 +45,7 @@ is_polled (Refused error) = false
 is_polled NoSuch = false
 is_polled Alloc = false
 
--- whether an error is of the streams, or tells that memory ran out
+-- whether an error is of the streams, or reports that memory ran out
 abbrev pub is_of_streams : RtcError → Bool
 is_of_streams (RemoteSdp why) = false
 is_of_streams (SdpRefused error) = false

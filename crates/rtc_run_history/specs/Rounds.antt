@@ -89,7 +89,7 @@ EndsRound at t a past after =
     (before (other_side at) (through_last (makes_answer at t a) past))
     after
 
--- An accepted answer that is its token's own ends the round, where its side set and stopped no line since the offer.
+-- An accepted answer that is its token's own ends the round, if its side set and stopped no line since the offer.
 abbrev pub FinishesRound : {E : Type 0} → List (Entry E) → Step → Outcome E → Option Table → Type 0
 FinishesRound past (AcceptAnswer at t a) Finished (Some table) =
     is_own at t a past ≡ true → has_set at t past ≡ false → EndsRound at t a past table.lines

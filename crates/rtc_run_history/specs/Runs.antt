@@ -11,7 +11,7 @@ use Rattle.rtc_run_history.specs.PairState.{PairState, peer_at, made_sdp, size_s
 use Rattle.rtc_run_history.specs.Performs.{Enters}
 use Rattle.rtc_run_history.specs.SoundParts.{IsSoundOfParts}
 
--- A pair goes through a past, newest entry first: each entry leads from the pair before it to the pair after it.
+-- A pair passes through a past, newest entry first: each entry leads from the pair before it to the pair after it.
 abbrev pub Went : {E : Type 0} → {P : Type 0} → (List (Entry E) → P → Entry E → P → Type 0) → (P → Type 0) → List (Entry E) → P → Type 0
 Went enters fresh [] pair = fresh pair
 Went {E} {P} enters fresh (entry ∷ past) pair = (between : P) × Went enters fresh past between × enters past between entry pair
@@ -21,7 +21,7 @@ module _ {I D S M E X T W N : Type 0} (m : Meanings I D S M E X T W N) (stun : L
   abbrev pub Reached : PairState I D S M N → List (Entry E) → PairState I D S M N → Type 0
   Reached start past pair = Went (λ earlier between entry after. Enters m stun between entry after) (λ fresh. fresh ≡ start) past pair
 
-  -- the calls of a step lead from one pair to another, and its entry is sound after the entries before it, also in what it tells of the
+  -- the calls of a step lead from one pair to another, and its entry is sound after the entries before it, also in what it says of the
   -- parts
   abbrev pub EntersSoundly : PairState I D S M N → List (Entry E) → PairState I D S M N → Entry E → PairState I D S M N → Type 0
   EntersSoundly start earlier between entry after =

@@ -29,7 +29,7 @@ row_said (App place mid) = record { kind = Application; mid = mid; dir = SendRec
 abbrev pub are_live : List LineRow → Bool
 are_live rows = list_any (λ row. not (is_stopped row)) rows
 
--- One SDP was made, by this side. Its lines say these rows, and it is consistent where one of them is live (RFC 8843, section 7.1).
+-- One SDP was made, by this side. Its lines say these rows, and it is consistent if one of them is live (RFC 8843, section 7.1).
 pub record SaysRows (at : Side) (offer : Bool) (rows : List LineRow) (made : List MadeSdp) : Type 0 where
   pub sdp : Sdp
   pub one : made ≡ record { at = at; offer = offer; sdp = sdp } ∷ []

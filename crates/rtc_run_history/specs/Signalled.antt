@@ -1,5 +1,5 @@
--- What signalling brings of a session description (SDP): its bytes. It is written where it is sent, and what was written is read where it
--- arrives. A foreign one is what anybody wrote.
+-- What signalling delivers of a session description (SDP): its bytes. It is written when it is sent, and what was written is read when it
+-- is received. A foreign one is what anybody wrote.
 use Rattle.std.specs.Prelude.{◌≡◌, ℕ, List, All, Option, Some, None, Result, Ok, Err}
 use Rattle.rtc_sdp_values.specs.declared.sdp.Sdp.{Sdp}
 use Rattle.rtc_sdp_reader.specs.Reading.{reading}
@@ -7,7 +7,7 @@ use Rattle.rtc_sdp_writer.specs.AsRead.{as_read}
 use Rattle.rtc_sdp_writer.specs.SessionRows.{written_sdp}
 use Rattle.rtc_run_history.specs.declared.kept.Kept.{Kept}
 
--- nothing where there is no such SDP, the number of the first line that refuses what was written, or what is read
+-- nothing if there is no such SDP, the number of the first line that refuses what was written, or what is read
 pub data Signalled : Type 0 where
   NotMade : Signalled
   Unreadable : ℕ → Signalled
@@ -29,13 +29,13 @@ signalled_if (Some sdp) = signalled sdp
 unfoldable pub foreign : List ℕ → Signalled
 foreign text = arrival (reading text)
 
--- what is read, where anything is
+-- what is read, if anything is
 abbrev pub sdp_read : Signalled → Option Sdp
 sdp_read NotMade = None
 sdp_read (Unreadable line) = None
 sdp_read (Readable sdp) = Some sdp
 
--- it is read again, with the sources that its written lines give
+-- it is read again, with the SSRCs that its written lines give
 abbrev pub ReadsBack : Sdp → Type 0
 ReadsBack sdp = signalled sdp ≡ Readable (as_read sdp)
 

@@ -57,11 +57,11 @@ pub use Rattle.rtc_run_history.specs.Replies.{is_handled, is_heard, is_polled, i
 use Rattle.rtc_run_history.specs.Undone.{table_shown, table_undone}
 use Rattle.rtc_run_history.specs.Views.{Stances, init_told_by, view_in}
 
--- no media row stands at a place
+-- no media row is at a place
 abbrev pub HasNoLine : ℕ → List LineRow → Type 0
 HasNoLine place rows = media_mid (slice_get rows place) ≡ None
 
--- a media row stands at a place, and this is whether it is changed
+-- a media row is at a place, and this is whether it is changed
 abbrev pub TellsChange : RowChange → ℕ → List LineRow → Bool → Type 0
 TellsChange change place rows changed =
     (is_some (media_mid (slice_get rows place)) ≡ true) × (changed ≡ is_changed change (slice_get rows place))
@@ -71,10 +71,10 @@ pub record Midway : Type 0 where
   pub rows : List LineRow
   -- the mids of its rows, and of the lines that the step has staged
   pub held : List (List ℕ)
-  -- the mid of the line of data channels that is still to be staged, where one is needed and its mid is told
+  -- the mid of the m-line of data channels that is still to be staged, if one is needed and its mid is given
   pub app : Option (List ℕ)
   pub channels : Channels
-  -- the channel numbers that its replies tell
+  -- the channel numbers in its replies
   pub numbers : List ℕ
 
 -- with one more mid held
@@ -99,12 +99,12 @@ abbrev pub IsUnheld : Option (List ℕ) → List (List ℕ) → Type 0
 IsUnheld None held = Unit {0}
 IsUnheld (Some mid) held = is_among held mid ≡ false
 
--- a channel may be made of a config, and has a number above all that the side told
+-- a channel may be made of a config, and has a number above all that the side reported
 abbrev pub GivesNumber : Midway → ChannelConfig → ℕ → Type 0
 GivesNumber m config id = (is_bad_channel m.channels config ≡ false) × All (λ number. number < id) m.numbers
 
--- Ops act in order, each on what the one before left, and leave these rows. The mid of a staged line is in no row and no earlier staged
--- line of the step; a channel that brings a line stages it first; the first `Alloc` ends the answers.
+-- Operations act in order, each on what the one before left, and leave these rows. The mid of a staged line is in no row and no earlier
+-- staged line of the step; a channel that brings a line stages it first; the first `Alloc` ends the results.
 abbrev pub OpsAnswered : Midway → List Op → List OpAnswer → List LineRow → Type 0
 OpsAnswered m [] [] after = after ≡ m.rows
 OpsAnswered m (AddMedia kind dir ∷ ops) (Mid mid ∷ answers) after =
@@ -136,7 +136,7 @@ at_first stance at past app = record {
   numbers = numbers_told at past;
 }
 
--- An offer is made exactly where the step applies staged changes and some have to be offered, unless memory runs out.
+-- An offer is made exactly if the step applies staged changes and some have to be offered, unless memory runs out.
 abbrev pub MadeOf : Bool → Bool → Made → ℕ → Type 0
 MadeOf false offers NotAsked next = Unit {0}
 MadeOf true true (Offer k) next = k ≡ next
@@ -144,8 +144,8 @@ MadeOf true false Nothing next = Unit {0}
 MadeOf true offers MadeAlloc next = Unit {0}
 MadeOf asked offers made next = ⊥
 
--- The outcome of accepting an offer, given whether it would collide with one of the side's own: its answer and the rows that it leaves, or
--- the first cause that refuses it: the line that cannot be read, glare (RFC 3264, section 4), or what the peer says.
+-- The outcome of accepting an offer, given whether it would be glare: its answer and the rows that it leaves, or the first cause that
+-- refuses it: the line that cannot be read, glare (RFC 3264, section 4), or what the peer says.
 abbrev pub RepliesToOffer : {E : Type 0} → (glare : Bool) → Signalled → Held → ℕ → Outcome E → List LineRow → Type 0
 RepliesToOffer glare NotMade view next NoSuch after = after ≡ view.lines
 RepliesToOffer glare (Unreadable line) view next (Refused error) after = (error ≡ SdpRefused (Parse line)) × (after ≡ view.lines)
@@ -162,7 +162,7 @@ RepliesToOffer false (Readable sdp) view next (Refused PeerAlloc) after = after 
 RepliesToOffer true (Readable sdp) view next (Refused Glare) after = after ≡ view.lines
 RepliesToOffer glare sdp view next outcome after = ⊥
 
--- The outcome of accepting an answer: the rows that it leaves, where the token is held and right, or the first cause that refuses it.
+-- The outcome of accepting an answer: the rows that it leaves, if the token is held and right, or the first cause that refuses it.
 abbrev pub RepliesToAnswer : {E : Type 0} → Bool → Bool → Asked → Signalled → Held → Outcome E → List LineRow → Type 0
 RepliesToAnswer false right asked sdp view NoSuch after = after ≡ view.lines
 RepliesToAnswer true right asked NotMade view NoSuch after = after ≡ view.lines
@@ -183,7 +183,7 @@ RepliesToAnswer true true asked (Readable sdp) view (Refused PeerAlloc) after = 
 RepliesToAnswer held right asked sdp view outcome after = ⊥
 
 -- what the offer of a token asks of its answer: the rows that it added, placed after the rows of its side, whether it restarted ICE, and
--- whether it told a chunk for a start of the association
+-- whether it carried a SNAP INIT chunk
 abbrev pub asked_in : {E : Type 0} → Side → ℕ → List (Entry E) → Asked
 asked_in at t past = record {
   added = added_by (length (before at past)) t past;
@@ -199,7 +199,7 @@ RepliesToRollback true false earlier undone (Refused ChangesOutOfOrder) table = 
 RepliesToRollback true true earlier undone Done table = table ≡ undone
 RepliesToRollback held right earlier undone outcome table = ⊥
 
--- whether an offer that is handed to a side collides with one of its own: the side is impolite, and its own offer awaits its answer
+-- whether an offer that a side is given is glare: the side is impolite, and its own offer is pending
 abbrev pub is_glare_at : {E : Type 0} → Stances → Side → List (Entry E) → Bool
 is_glare_at fresh at past = meets_glare (fresh at).polite (has_outstanding at past)
 

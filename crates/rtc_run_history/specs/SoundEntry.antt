@@ -14,9 +14,9 @@ abbrev pub AreReadBack : List MadeSdp → Type 0
 AreReadBack made = AllByRecursion (λ said. ReadsBack said.sdp) made
 
 -- The reply is a possible one, given the sides of the fresh pair and those before and after the step, and the SDP that was made describes
--- the rows of its side. Where both sides of the fresh pair are formed, what they make is read back, and an answer that ends a round leaves
--- both ends agreed. Until memory runs out or a part fails, and while channel numbers are left, orderly steps then succeed, and leave both
--- sides in step where no round is open.
+-- the rows of its side. If both sides of the fresh pair are formed, what they make is read back, and an answer that ends a round leaves
+-- both ends agreed. Until memory runs out or a part fails, and while channel numbers are not exhausted, orderly steps then succeed, and
+-- leave both sides in step if no round is open.
 pub record IsSoundEntry {E : Type 0} (fresh : Stances) (past : List (Entry E)) (between : Stances) (entry : Entry E) (after : Stances)
     : Type 0 where
   pub replied : IsSound fresh past between entry.step entry.outcome entry.table entry.made

@@ -1,4 +1,4 @@
--- What an entry of a run tells of the parts of its pair.
+-- What an entry of a run says of the parts of its pair.
 use Rattle.std.specs.Prelude.{◌≡◌, ◌≤◌, ℕ, Bool, true, false}
 use Rattle.rtc_io.specs.Faults.{Rose}
 use Rattle.rtc_part_media.specs.MediaLaws.{SameLines}
@@ -16,7 +16,7 @@ use Rattle.rtc_run_history.specs.Past.{Entry}
 use Rattle.rtc_run_history.specs.PairState.{PairState, peer_at}
 use Rattle.rtc_run_history.specs.Sides.{side_of}
 
--- whether an outcome tells that a peer refused
+-- whether an outcome reports that a peer refused
 abbrev pub tells_refusal : {E : Type 0} → Outcome E → Bool
 tells_refusal (Negotiated answers made) = false
 tells_refusal (Answered k) = false
@@ -28,7 +28,7 @@ tells_refusal (Refused error) = true
 tells_refusal NoSuch = false
 tells_refusal Alloc = false
 
--- whether a step tells that a peer refused an offer, an answer or a token
+-- whether a step reports that a peer refused an offer, an answer or a token
 abbrev pub refuses_sdp : {E : Type 0} → Step → Outcome E → Bool
 refuses_sdp (Negotiate at ops apply) outcome = false
 refuses_sdp (AcceptOffer at offer) outcome = tells_refusal outcome
@@ -59,8 +59,8 @@ module _ {I D S M E X T W N : Type 0} (m : Meanings I D S M E X T W N) where
   abbrev pub CountsFault : CountedPart → Side → PairState I D S M N → PairState I D S M N → Type 0
   CountsFault part at before after = Rose (faults_at part at before) (faults_at part at after)
 
-  -- No count of faults falls, and a reply tells a fault only where that part of the acting side failed in this step. A side that
-  -- refuses an offer, an answer or a token, for whatever cause, leaves the lines of its media part, and the sources that are in use.
+  -- No count of faults falls, and a reply reports a fault only if that part of the acting side failed in this step. A side that refuses an
+  -- offer, an answer or a token, for whatever cause, leaves the lines of its media part, and the SSRCs that are in use.
   pub record IsSoundOfParts (between : PairState I D S M N) (entry : Entry E) (after : PairState I D S M N) : Type 0 where
     pub later : (part : CountedPart) (at : Side) → faults_at part at between ≤ faults_at part at after
     pub fault : (part : CountedPart) → tells_fault_of entry.outcome part ≡ true → CountsFault part (side_of entry.step) between after

@@ -1,4 +1,4 @@
--- What a step does that hands a peer an offer, an answer or a token: by the calls of the peer, with the session descriptions (SDPs) before
+-- What a step does that gives a peer an offer, an answer or a token: by the calls of the peer, with the session descriptions (SDPs) before
 -- and after.
 use Rattle.std.specs.Prelude.{◌≡◌, ℕ, false, List, [], ◌∷◌, ◌++◌, Option, Some, None, Ok, Err, length}
 use Rattle.rtc_sdp_values.specs.declared.sdp.Sdp.{Sdp}
@@ -25,7 +25,7 @@ lent peer = record peer { staged = []; undo = [] }
 abbrev pub kept_answer : Side → Sdp → Kept
 kept_answer at answer = record { at = at; offer = false; sdp = answer; token = None }
 
--- the peer and the SDPs stay
+-- the peer and the SDPs are unchanged
 pub record Stays {I D S M N : Type 0} (old : Peer I D S M N) (sdps : List Kept) (new : Peer I D S M N) (sdps' : List Kept) : Type 0 where
   pub peer : new ≡ old
   pub sdps_kept : sdps' ≡ sdps
@@ -51,8 +51,8 @@ module _ {I D S M E X T W N : Type 0} (m : Meanings I D S M E X T W N) where
       × Shows m table new
   StepAcceptsOffer at offer old sdps outcome table new sdps' = ⊥
 
-  -- A peer accepts or refuses an answer that the other side made or anybody wrote, as it is read; the token of its own offer is spent. One
-  -- that cannot be read does not reach the peer, and spends no token.
+  -- A peer accepts or refuses an answer that the other side made or anybody wrote, as it is read; the token of its own offer is consumed.
+  -- One that cannot be read does not reach the peer, and consumes no token.
   abbrev pub StepAcceptsAnswer : ℕ → Option PendingOffer → Signalled → Peer I D S M N → List Kept → Outcome E → Option Table
       → Peer I D S M N → List Kept → Type 0
   StepAcceptsAnswer t token answer old sdps Alloc None new sdps' = Stays old sdps new sdps'

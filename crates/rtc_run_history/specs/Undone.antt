@@ -54,7 +54,7 @@ row_undone (Some (Media place mid kind dir stopped remote_created)) (Media place
     Media place' mid' kind' dir stopped remote_created'
 row_undone earlier row = row
 
--- the rows, at places from this one on, where each at one of these places is as it was earlier
+-- the rows, at places from this one on, after each at one of these places is as it was earlier
 abbrev pub rows_undone : (places : List ℕ) → ℕ → (earlier rows : List LineRow) → List LineRow
 rows_undone places place earlier [] = []
 rows_undone places place earlier (row ∷ rows) =

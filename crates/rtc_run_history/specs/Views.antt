@@ -1,4 +1,4 @@
--- What a side judges session descriptions by: read from the past as far as that tells it.
+-- What a side judges session descriptions by, if the past says it.
 use Rattle.std.specs.Prelude.{ℕ, Bool, true, false, not, ◌&&◌, ◌||◌, List, [], ◌∷◌, if◌then◌else◌}
 use Rattle.std.specs.Prelude.{Option, Some, None, is_some, option_map, slice_get}
 use Rattle.std.specs.Option.{option_or}
@@ -43,7 +43,7 @@ abbrev pub last_accepted : {E : Type 0} → Side → List (Entry E) → Option S
 last_accepted at [] = None
 last_accepted at (entry ∷ past) = option_or (accepted_by at entry.step entry.outcome past) (last_accepted at past)
 
--- whether an outcome tells that a peer's call was broken off: a part failed, or memory ran out
+-- whether an outcome reports that a peer's call was broken off: a part failed, or memory ran out
 abbrev pub is_broken_off : {E : Type 0} → Outcome E → Bool
 is_broken_off (Negotiated answers made) = false
 is_broken_off (Answered k) = false
@@ -72,7 +72,7 @@ breaks_off at (ForeignOffer side text) outcome = same_side side at && is_broken_
 breaks_off at (ForeignAnswer side t text) outcome = same_side side at && is_broken_off outcome
 breaks_off at (Raw side bytes now) outcome = false
 
--- no acceptance of a side was broken off, so that the past tells what the side knows of the other one
+-- no acceptance of a side was broken off, so that the past says what the side knows of the other one
 abbrev pub is_firm : {E : Type 0} → Side → List (Entry E) → Bool
 is_firm at [] = true
 is_firm at (entry ∷ past) = not (breaks_off at entry.step entry.outcome) && is_firm at past
@@ -82,7 +82,7 @@ creds_told None = None
 creds_told (Some sdp) = creds_of sdp
 
 -- ---- the start of the association (draft-hancke-tsvwg-snap)
--- whether a session description tells a chunk for a start of the association
+-- whether a session description carries a SNAP INIT chunk
 abbrev pub tells_init : Option MadeSdp → Bool
 tells_init None = false
 tells_init (Some said) = is_some (sdp_sctp_init said.sdp)
@@ -91,7 +91,7 @@ tells_init (Some said) = is_some (sdp_sctp_init said.sdp)
 abbrev pub init_told_by : {E : Type 0} → ℕ → List (Entry E) → Bool
 init_told_by t past = tells_init (slice_get (sdps past) t)
 
--- whether an entry had a side accept a session description, after which it has a line of data channels
+-- whether an entry had a side accept a session description, after which it has an m-line of data channels
 abbrev pub leaves_app : {E : Type 0} → Side → Entry E → List (Entry E) → Bool
 leaves_app at entry past = is_some (accepted_by at entry.step entry.outcome past) && has_app_row (before at (entry ∷ past))
 
@@ -100,17 +100,17 @@ abbrev pub is_inited : {E : Type 0} → Side → List (Entry E) → Bool
 is_inited at [] = false
 is_inited at (entry ∷ past) = leaves_app at entry past || is_inited at past
 
--- the text of a chunk that is told in base64 with padding; a text of bytes is then the only one of its chunk
+-- the text of a chunk that is carried in base64 with padding; a text of bytes is then the only one of its chunk
 abbrev pub init_said : Option (List ℕ) → Option (List ℕ)
 init_said None = None
 init_said (Some text) = option_map chunk_text (chunk_of_text text)
 
--- that which a session description tells, where it may tell one for a start
+-- the SNAP INIT chunk of a session description, if it may carry one
 abbrev pub init_in : (may : Bool) → Option Sdp → Option (List ℕ)
 init_in may None = None
 init_in may (Some sdp) = if may then init_said (sdp_sctp_init sdp) else None
 
--- that which a step brought: an answer may tell one where the offer of its token told one
+-- the one of a step: an answer may carry one if the offer of its token carried one
 abbrev pub init_brought : {E : Type 0} → Side → Step → List (Entry E) → Option (List ℕ)
 init_brought at (Negotiate side ops apply) past = None
 init_brought at (AcceptOffer side k) past = init_in true (sdp_read (remote_sdp true at k past))
@@ -127,15 +127,15 @@ init_brought at (ForeignOffer side text) past = init_in true (sdp_read (foreign 
 init_brought at (ForeignAnswer side t text) past = init_in (init_told_by t past) (sdp_read (foreign text))
 init_brought at (Raw side bytes now) past = None
 
--- The text of the other side's chunk that a side keeps: that which the session description that started the association told.
+-- The other side's chunk as text that a side keeps: the one of the session description that started the association.
 abbrev pub init_kept : {E : Type 0} → Side → List (Entry E) → Option (List ℕ)
 init_kept at [] = None
 init_kept at (entry ∷ past) =
     if leaves_app at entry past && not (is_inited at past) then init_brought at entry.step past else init_kept at past
 
 -- What a side judges by, given the sides of the fresh pair and what the side holds. Its ICE agent is lite as in the fresh pair. It knows
--- the credentials of the last session description that it accepted, and a fingerprint exactly where it accepted one. Its association is
--- started by the first one after which it has a line of data channels, and keeps the chunk that this one told.
+-- the credentials of the last session description that it accepted, and a fingerprint exactly if it accepted one. Its association is
+-- started by the first one after which it has an m-line of data channels, and keeps the chunk that this one carried.
 abbrev pub view_in : {E : Type 0} → Stances → Side → List (Entry E) → Held → Held
 view_in fresh at past held = record {
   lines = before at past;

@@ -3,7 +3,7 @@ use crate::Side;
 use rtc_change::SdpPendingOffer;
 use rtc_sdp_values::Sdp;
 
-/// A session description as the peer at `at` made it. An offer keeps its token until an answer spends it.
+/// A session description as the peer at `at` made it. An offer keeps its token until an answer consumes it.
 #[derive(Debug)]
 pub struct Kept {
     pub at: Side,

@@ -10,7 +10,7 @@ pub enum Op {
     SetDirection { place: u32, dir: Direction },
     /// Stops the media line at a place for good.
     StopMedia { place: u32 },
-    /// Adds a data channel, and the line of the data channels where there is none.
+    /// Adds a data channel, and the m-line of data channels if there is none.
     AddChannel { config: ChannelConfig },
     /// Restarts ICE, with new credentials, and with the local candidates kept or dropped.
     IceRestart { keep: bool },

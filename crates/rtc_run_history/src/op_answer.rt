@@ -1,17 +1,17 @@
-//! Answers to ops.
+//! Results of operations.
 ghost use Rattle.std.specs.Prelude.{◌≡◌};
 
 use rtc_sdp_values::{IceCreds, Mid};
 use rtc_wire::ChannelId;
 
-/// The answer to an op.
+/// The result of an operation.
 #[derive(Debug, PartialEq, Eq, Drop)]
 pub enum OpAnswer {
     /// The mid of the line that was staged.
     Mid(Mid),
-    /// Whether the line changed, and the change was staged. A stopped line stays as it is, and so does the direction that it has.
+    /// Whether the line changed, and the change was staged. A stopped line is unchanged, and so is one that has the direction.
     Changed(bool),
-    /// No media line stands at the place.
+    /// No media line has the place.
     NoLine,
     /// The number of the channel that was staged.
     Channel(ChannelId),

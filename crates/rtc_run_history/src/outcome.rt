@@ -18,7 +18,7 @@ pub enum Outcome<E> {
     Finished,
     /// The peer took the input, or it or one of its channels was closed.
     Done,
-    /// Whether the message was taken. It is not where it is longer than what may be buffered yet over all channels.
+    /// Whether the message was taken. It is not if it is longer than what may be buffered yet over all channels.
     Wrote {
         taken: bool,
     },

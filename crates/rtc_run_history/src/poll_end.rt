@@ -6,7 +6,7 @@ use rtc_peer_core::RtcError;
 pub enum PollEnd {
     /// The last output that is shown.
     Ended,
-    /// An error that the peer told.
+    /// An error that the peer returned.
     Refused(RtcError),
     /// There was too little memory to poll once more; the peer was not polled again.
     NoRoom,

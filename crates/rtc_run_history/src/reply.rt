@@ -10,7 +10,7 @@ use rtc_peer_core::RtcError;
 #[derive(Debug, PartialEq, Eq, Drop)]
 pub struct Reply<E> {
     pub outcome: Outcome<E>,
-    /// The acting peer's lines and channels after the step; None exactly where the outcome is `Alloc`.
+    /// The acting peer's lines and channels after the step; None exactly if the outcome is `Alloc`.
     pub table: Option<Table>,
 }
 
@@ -50,7 +50,7 @@ fn does_outcome_lack<E>(outcome: &Outcome<E>) -> bool
 }
 
 impl<E> Reply<E> {
-    /// Whether it tells that memory ran out: in the step, in one of its ops, or in a poll.
+    /// Whether it reports that memory ran out: in the step, in one of its operations, or in a poll.
     pub fn is_out_of_memory(&self) -> bool
         ensures { result ≡ lacks_memory self.now }
     {

@@ -10,7 +10,7 @@ use rtc_wire::{Bytes, ChannelId, Moment, Seq, Text};
 /// Datagrams are numbered over both peers, from 0 in the order they were polled.
 #[derive(Debug, PartialEq, Eq, Drop)]
 pub enum Step {
-    /// Performs the ops in order on one `SdpApi`, and applies what they staged, or drops it where `apply` is false.
+    /// Performs the ops in order on one `SdpApi`, and applies what they staged, or drops it if `apply` is false.
     Negotiate {
         at: Side,
         ops: Seq<Op>,

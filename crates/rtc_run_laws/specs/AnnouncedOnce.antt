@@ -11,7 +11,7 @@ abbrev pub AreOthers : ChannelUse → List ChannelUse → Type 0
 AreOthers x [] = Unit {0}
 AreOthers x (y ∷ uses) = IsAnother x y × AreOthers x uses
 
--- so it is for each two of these channels, none of which is then announced twice where it was opened in-band
+-- so it is for each two of these channels, none of which is then announced twice if it was opened in-band
 abbrev pub AreAnnouncedOnce : List ChannelUse → Type 0
 AreAnnouncedOnce [] = Unit {0}
 AreAnnouncedOnce (x ∷ uses) = AreOthers x uses × AreAnnouncedOnce uses

@@ -4,7 +4,7 @@ use Rattle.rtc_run_history.specs.declared.outcome.Outcome.{Outcome}
 use Rattle.rtc_run_history.specs.declared.outcome.Outcome.TheVariants.{Negotiated, Answered, Finished, Done, Wrote, Polled, Refused}
 use Rattle.rtc_run_history.specs.declared.outcome.Outcome.TheVariants.{NoSuch, Alloc}
 
--- whether a step called its peer: it did not where what it names is not there, and where memory ran out before
+-- whether a step called its peer: it did not if what it names is not there, and if memory ran out before
 abbrev pub calls_peer : {E : Type 0} → Outcome E → Bool
 calls_peer (Negotiated answers made) = true
 calls_peer (Answered k) = true

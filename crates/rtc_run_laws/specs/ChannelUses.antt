@@ -49,7 +49,7 @@ module _ {I D S M E X T W N : Type 0} (m : Meanings I D S M E X T W N) where
     got = [];
   }
 
-  -- the uses behind an event that a poll told, which left the peer so
+  -- the uses after an event that a poll reported, which left the peer so
   abbrev pub uses_told : Event E → PolledPeer I D S M N → List ChannelUse → List ChannelUse
   uses_told (ChannelOpen id label) p uses = uses ++ announced_use id p ∷ []
   uses_told (ChannelData message) p uses = with_got_message message.id (message.binary, message.bytes) uses

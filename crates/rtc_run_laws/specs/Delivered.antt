@@ -1,4 +1,4 @@
--- That a channel handed out all that the other side sent, also where the writer or an association is closing or closed.
+-- That a channel handed out all that the other side sent, also if the writer or an association is closing or closed.
 use Rattle.std.specs.Prelude.{ℕ, ◌≡◌, true, false, List, Some}
 use Rattle.rtc_part_values.specs.Among.{Member}
 use Rattle.rtc_assoc_state.specs.Contents.{closed_here, generation_of}
@@ -25,7 +25,7 @@ pub record AreDelivering {N : Type 0} (x : ChannelUse) (p : PlainPolled N) (y : 
   pub stream_is : x.stream ≡ y.stream
   pub generation_is : x.generation ≡ y.generation
 
--- where, besides, the writer has no unacknowledged item of the stream, all was got that was sent
+-- if, besides, the writer has no unacknowledged item of the stream, all was got that was sent
 abbrev pub AreAllDelivered : {N : Type 0} → (readers : List ChannelUse) → PlainPolled N → (writers : List ChannelUse) → PlainPolled N → Type 0
 AreAllDelivered readers p writers q =
     (x y : ChannelUse)

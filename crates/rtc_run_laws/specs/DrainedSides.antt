@@ -13,7 +13,7 @@ use Rattle.rtc_run_history.specs.Past.{Entry}
 use Rattle.rtc_run_history.specs.Sides.{same_side, side_of}
 use Rattle.rtc_run_laws.specs.CalledSteps.{calls_peer}
 
--- a channel that is told to be open is to be drained itself
+-- a channel that is reported as open is to be drained itself
 abbrev pub DrainedByEvent : {E : Type 0} → Event E → (earlier : Type 0) → Type 0
 DrainedByEvent (ChannelOpen id label) earlier = ⊥
 DrainedByEvent event earlier = earlier
@@ -29,7 +29,7 @@ abbrev pub DrainedByOutcome : {E : Type 0} → Outcome E → (earlier : Type 0) 
 DrainedByOutcome (Polled outputs end) earlier = DrainedByOutputs outputs earlier
 DrainedByOutcome outcome earlier = earlier
 
--- behind a step of the side: what comes in is to be drained
+-- after a step of the side: what is received is to be drained
 abbrev pub DrainedByStep : {E : Type 0} → Step → Outcome E → (earlier : Type 0) → Type 0
 DrainedByStep (Time at now) outcome earlier = ⊥
 DrainedByStep (Datagram at packet now) outcome earlier = ⊥
@@ -42,8 +42,8 @@ abbrev pub DrainedByEntry : {E : Type 0} → (called : Bool) → Step → Outcom
 DrainedByEntry true step outcome earlier = DrainedByStep step outcome earlier
 DrainedByEntry false step outcome earlier = earlier
 
--- A side is drained: a poll of it ended in a timeout, and since then no input came to it and no channel was told to be open. A step that
--- makes no call changes nothing of this.
+-- A side is drained: a poll of it ended in a timeout, and since then it got no input and reported no channel as open. A step that makes no
+-- call changes nothing of this.
 abbrev pub IsDrained : {E : Type 0} → (at : Side) (past : List (Entry E)) → Type 0
 IsDrained at [] = ⊥
 IsDrained at (entry ∷ past) =

@@ -24,7 +24,7 @@ use Rattle.rtc_run_laws.specs.ToldMessages.{MessagesTold, told_over}
 use Rattle.rtc_run_laws.specs.Unannounced.{AreGotOfAnnounced, AreToldOfAnnounced, AreToldOfSent, HaveNumbersLeft}
 use Rattle.rtc_run_laws.specs.UsesOfRuns.{reached_by, uses_in_run}
 
--- Where two channels were opened in-band over one generation of one stream, what one got is a prefix of what was sent over the other.
+-- If two channels were opened in-band over one generation of one stream, what one got is a prefix of what was sent over the other.
 abbrev pub IsHandedOut : (reader writer : ChannelUse) → Type 0
 IsHandedOut x y =
     x.in_band ≡ true → y.in_band ≡ true → x.stream ≡ y.stream → x.generation ≡ y.generation → IsPrefix x.got y.sent
@@ -39,8 +39,8 @@ abbrev pub AreSentWhole : List ChannelUse → (sent : ℕ → ℕ → List (Bool
 AreSentWhole uses sent =
     (x : ChannelUse) → Member x uses → x.in_band ≡ true → (s : ℕ) → x.stream ≡ Some s → sent s x.generation ≡ x.sent
 
--- Where two channels were opened in-band over one generation of one stream, what the one got since it was announced is all that its side
--- was ever told of it while it had that stream in that generation: nothing was before.
+-- If two channels were opened in-band over one generation of one stream, what the one got since it was announced is all that was ever
+-- reported to its side of it while it had that stream in that generation: nothing was before.
 abbrev pub AreToldWhole : (readers writers : List ChannelUse) → MessagesTold → Type 0
 AreToldWhole readers writers told =
     (x y : ChannelUse)
@@ -54,7 +54,7 @@ AreToldWhole readers writers told =
     → x.generation ≡ y.generation
     → told x.channel s x.generation ≡ x.got
 
--- Where two such channels stay open at both sides, and the writer has no unacknowledged item of the stream, all was got that was sent.
+-- If two such channels stay open at both sides, and the writer has no unacknowledged item of the stream, all was got that was sent.
 abbrev pub AreAllHandedOut : {N : Type 0} → Draws N → (readers : List ChannelUse) → PlainPolled N → (writers : List ChannelUse)
     → PlainPolled N → Type 0
 AreAllHandedOut draws readers p writers q =
@@ -65,7 +65,7 @@ AreAllHandedOut draws readers p writers q =
     → has_unacknowledged h.writer.stream q.core.sctp.association.outbox.items ≡ false
     → x.got ≡ y.sent
 
--- The same where, besides, no whole message of the generation stands unread at the reader.
+-- The same if, besides, the reader has no whole message of the generation unread.
 abbrev pub AreWhollyHandedOut : {N : Type 0} → Draws N → (readers : List ChannelUse) → PlainPolled N → (writers : List ChannelUse)
     → PlainPolled N → Type 0
 AreWhollyHandedOut draws readers p writers q =
@@ -78,11 +78,11 @@ AreWhollyHandedOut draws readers p writers q =
     → x.got ≡ y.sent
 
 -- In a run by these steps with these replies, of the channels that were opened in-band, each side announced each at most once, and at most
--- one over each generation of a stream, to which it sent nothing before. Where the other side announced one over that generation too, it
--- was told nothing of its own channel there before, and got over it a prefix of what the other side sent over its own; at the end of the
--- run all of it, where both stay open and all was delivered, as it was where the side was drained since its last input and all is
--- acknowledged. It was told nothing of a generation to which the other side sent nothing; and where no step added a channel that was
--- settled by other means than messages, nothing of one over which the other side announced no channel.
+-- one over each generation of a stream, to which it sent nothing before. If the other side announced one over that generation too, nothing
+-- was reported to it of its own channel there before, and it got over it a prefix of what the other side sent over its own. At the end of
+-- the run that is all of it, if both stay open and all was delivered, as it was if the side was drained since its last input and all is
+-- acknowledged. Nothing was reported to it of a generation to which the other side sent nothing. If no step added a channel that was
+-- negotiated out-of-band, nothing was of one over which the other side announced no channel.
 pub record HandsOut {N : Type 0} (draws : Draws N) (stun : List ℕ → Bool) (start : PlainPair N) (steps : List Step)
     (replies : List (Reply PlainMediaEvent)) (pair : PlainPair N) (run : Runs (plain_over draws) stun start steps replies pair)
     : Type 0 where

@@ -15,7 +15,7 @@ use Rattle.rtc_peer_core.specs.declared.peer.Peer.{Peer}
 use Rattle.rtc_peer_core.specs.Built.{Builds}
 use Rattle.rtc_run_laws.specs.PlainPairs.{PlainPair, plain_over}
 
--- an agent was given local candidates, one after the other, whatever it answered
+-- an agent was given local candidates, one after the other, whatever it returned
 abbrev pub GivenCandidates : {I : Type 0} → IceMeaning I → I → List Candidate → I → Type 0
 GivenCandidates m p [] q = q ≡ p
 GivenCandidates {I} m p (candidate ∷ candidates) q =

@@ -10,7 +10,7 @@ use Rattle.rtc_channels.specs.Channels.{Channel}
 abbrev pub IsOfSide : (client : Bool) → (stream : ℕ) → Type 0
 IsOfSide client stream = stream % 2 ≡ parity_of client
 
--- an opening from here: it waits to be begun, or for its answer
+-- an opening from here: it waits to be begun, or for its acknowledgement
 abbrev pub IsOpeningState : StreamEntryState → Type 0
 IsOpeningState state = (state ≡ AwaitOpen) ⊎ (state ≡ AwaitDcepAck)
 
@@ -23,7 +23,7 @@ HasEntryOf is_so stream (entry ∷ entries) = ((entry.id ≡ stream) × is_so en
 abbrev pub HasOpening : (stream : ℕ) → List StreamEntry → Type 0
 HasOpening stream entries = HasEntryOf (λ entry. IsOpeningState entry.state) stream entries
 
--- the stream of no channel was settled by other means than messages
+-- no channel was negotiated out-of-band for the stream
 abbrev pub IsInBandChannel : (stream : ℕ) → List Channel → Type 0
 IsInBandChannel stream [] = Unit {0}
 IsInBandChannel stream (row ∷ rows) = (row.stream ≡ Some stream → row.negotiated ≡ None) × IsInBandChannel stream rows

@@ -48,8 +48,8 @@ abbrev pub PairExchanges : {N : Type 0} → PairActs → PlainPair N → Type 0
 PairExchanges acts pair =
     PeersExchange acts.left (contents_sent Left pair.packets) pair.left acts.right (contents_sent Right pair.packets) pair.right
 
--- The DTLS role of a peer is the first that its part was given in these acts; and the packets of the handshake (content type 22, RFC 6347,
--- section 4.1) that came to it were taken from the other part.
+-- The DTLS role of a peer is the first that its part was given in these acts. The packets of the handshake (content type 22, RFC 6347,
+-- section 4.1) that it received were taken from the other part.
 pub record ShookHands {N : Type 0} (a : PeerActs) (p : PlainPolled N) (b : PeerActs) : Type 0 where
   pub role : p.core.dtls.active ≡ roles_after None (dtls_roles a.dtls)
   pub crosses : (bytes : List ℕ) → Member (22 ∷ bytes) (dtls_given a.dtls) → Member (22 ∷ bytes) (dtls_taken b.dtls)

@@ -1,4 +1,4 @@
--- What polls of a side told in a run, taken up in order, each with the peer as that poll left it.
+-- What polls of a side reported in a run, taken up in order, each with the peer as that poll left it.
 use Rattle.std.specs.Prelude.{ℕ, Bool, List, [], ◌∷◌, Option, Some}
 use Rattle.rtc_wire.specs.declared.addr.Addr.{Addr}
 use Rattle.rtc_peer_core.specs.Meanings.{Meanings}
@@ -51,7 +51,7 @@ module _ {I D S M E X T W N : Type 0} (m : Meanings I D S M E X T W N) {A : Type
       by_drain at old packets outputs end new packets' h.0 got
   by_drain_step at old packets outcome table new packets' h got = got
 
-  -- by a step of the side: what does not poll tells nothing
+  -- by a step of the side: what does not poll reports nothing
   abbrev pub by_step : (stun : List ℕ → Bool) (other own : Addr) (step : Step) (old : PolledPeer I D S M N) (sdps : List Kept)
       (packets : List SentPacket) (outcome : Outcome E) (table : Option Table) (new : PolledPeer I D S M N) (sdps' : List Kept)
       (packets' : List SentPacket)

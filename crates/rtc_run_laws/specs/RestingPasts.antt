@@ -1,4 +1,4 @@
--- Sides that rest: they were polled up to a timeout, and nothing came to them since.
+-- Sides that rest: they were polled up to a timeout, and received nothing since.
 use Rattle.std.specs.Prelude.{◌&&◌, ℕ, Bool, true, false, List, [], ◌∷◌}
 use Rattle.rtc_run_history.specs.declared.outcome.Outcome.{Outcome}
 use Rattle.rtc_run_history.specs.declared.outcome.Outcome.TheVariants.{Polled}
@@ -32,8 +32,8 @@ abbrev pub RestsByEntry : {E : Type 0} → (ℕ → Type 0) → (called : Bool) 
 RestsByEntry is_so true step outcome earlier = RestsByStep is_so step outcome
 RestsByEntry is_so false step outcome earlier = earlier
 
--- a side was polled up to a timeout at a moment that is so, and no input came to it and no call was made on it since; a step that makes no
--- call changes nothing of this
+-- a side was polled up to a timeout at a moment that is so, and got no input and no call since; a step that makes no call changes nothing
+-- of this
 abbrev pub RestsUntil : {E : Type 0} → (ℕ → Type 0) → Side → List (Entry E) → Type 0
 RestsUntil is_so at [] = ⊥
 RestsUntil is_so at (entry ∷ past) =

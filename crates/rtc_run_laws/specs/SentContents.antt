@@ -4,7 +4,7 @@ use Rattle.rtc_run_history.specs.declared.sent_packet.SentPacket.{SentPacket}
 use Rattle.rtc_run_history.specs.declared.side.Side.{Side}
 use Rattle.rtc_run_history.specs.Sides.{same_side}
 
--- contents before others, where the datagram is one of the side
+-- contents before others, if the datagram is one of the side
 abbrev pub contents_with : Bool → List ℕ → List (List ℕ) → List (List ℕ)
 contents_with true contents more = contents ∷ more
 contents_with false contents more = more

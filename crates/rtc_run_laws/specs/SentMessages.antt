@@ -14,7 +14,7 @@ use Rattle.rtc_run_history.specs.Runs.{Reached}
 use Rattle.rtc_run_history.specs.Sides.{same_side, side_of}
 
 module _ {I D S M E X T W N : Type 0} (m : Meanings I D S M E X T W N) where
-  -- behind a write to a stream, of a peer that stood so: its message was sent to the generation that the stream had, where it was taken
+  -- after a write to a stream, of a peer in this state: its message was sent to the generation that the stream had, if it was taken
   abbrev pub sent_by_write : Option ℕ → (binary : Bool) → List ℕ → Outcome E → PolledPeer I D S M N → (stream generation : ℕ)
       → List (Bool × List ℕ) → List (Bool × List ℕ)
   sent_by_write (Some t) binary bytes (Wrote true) old s g sent =

@@ -1,4 +1,4 @@
--- Pairs in which nothing is under way any more, and what holds of the channels of such a pair (RFC 8832, section 6).
+-- Pairs with nothing in flight any more, and what holds of the channels of such a pair (RFC 8832, section 6).
 use Rattle.std.specs.Prelude.{ℕ, ◌≡◌, ◌+◌, ◌<◌, ◌-◌, ◌^◌, ◌⊎◌, Bool, true, false, List, [], ◌∷◌, Some, None}
 use Rattle.rtc_part_values.specs.Among.{Member}
 use Rattle.rtc_part_dtls.specs.DtlsState.{can_send}
@@ -95,7 +95,7 @@ AreOpenAtBoth draws uses p others q =
     → AreInBandStreams stream p q
     → IsOpenAtBoth draws channel uses p others q
 
--- the open message for a stream waits for its answer
+-- the open message for a stream waits for its acknowledgement
 abbrev pub WaitsForAnswer : (stream : ℕ) → List StreamEntry → Type 0
 WaitsForAnswer stream entries = HasEntryOf (λ entry. entry.state ≡ AwaitDcepAck) stream entries
 
@@ -109,8 +109,8 @@ IsOpeningRefused stream p =
     HasEntryOf (IsTriedAgain p.core.sctp.last) stream p.core.sctp.entries
     × (has_stream p.core.sctp.association stream ≡ true)
 
--- Where an opening waits for its answer over such a stream, the other side has the stream not in use, and its own opening of it is refused
--- for now.
+-- If an opening waits for its acknowledgement over such a stream, the other side has the stream not in use, and its own opening of it is
+-- refused for now.
 abbrev pub AreAnswered : {N : Type 0} → PlainPolled N → PlainPolled N → Type 0
 AreAnswered p q =
     (stream : ℕ)
@@ -132,12 +132,12 @@ AreConfirmedOpen draws confirmed uses p others q =
 abbrev pub IsRefusedAlone : {N : Type 0} → (stream : ℕ) → PlainPolled N → PlainPolled N → Type 0
 IsRefusedAlone stream p q = IsOpeningRefused stream p × (has_open stream q.core.sctp.entries ≡ false)
 
--- both sides opened a stream themselves: the opening from here waits for its answer, and the one from there is refused for now
+-- both sides opened a stream themselves: the opening from here waits for its acknowledgement, and the one from there is refused for now
 abbrev pub AreBothOpening : {N : Type 0} → (stream : ℕ) → PlainPolled N → PlainPolled N → Type 0
 AreBothOpening stream p q = WaitsForAnswer stream p.core.sctp.entries × IsOpeningRefused stream q
 
 -- Each channel of one side that was confirmed and has such a stream is open at both, or the opening of the stream is refused for now, also
--- where both sides opened it.
+-- if both sides opened it.
 abbrev pub AreConfirmedSettled : {N : Type 0} → Draws N → (confirmed : ℕ → Type 0) → (uses : List ChannelUse) → PlainPolled N
     → (others : List ChannelUse) → PlainPolled N → Type 0
 AreConfirmedSettled draws confirmed uses p others q =
@@ -152,7 +152,7 @@ pub record AreInBandChannels {N : Type 0} (stream : ℕ) (p q : PlainPolled N) :
   pub here : IsInBandChannel stream p.core.channels.rows
   pub there : IsInBandChannel stream q.core.channels.rows
 
--- an opening from here is over a stream of this side, where no channel was settled for the stream by other means
+-- an opening from here is over a stream of this side, if no channel was negotiated out-of-band for the stream
 abbrev pub AreOwnOpenings : {N : Type 0} → PlainPolled N → Type 0
 AreOwnOpenings p =
     (stream : ℕ)
@@ -173,7 +173,7 @@ OpenNoneBoth p q =
     → HasOpening stream q.core.sctp.entries
     → ⊥
 
--- no opening waits for its answer, where neither side settled its stream or a channel for it by other means
+-- no opening waits for its acknowledgement, if neither side negotiated its stream or a channel for it out-of-band
 abbrev pub WaitsNone : {N : Type 0} → PlainPolled N → PlainPolled N → Type 0
 WaitsNone p q =
     (stream : ℕ)
@@ -182,7 +182,7 @@ WaitsNone p q =
     → WaitsForAnswer stream p.core.sctp.entries
     → ⊥
 
--- Each channel of one side that was confirmed is open at both, where neither side settled its stream by other means; or the opening of the
+-- Each channel of one side that was confirmed is open at both, if neither side negotiated its stream out-of-band; or the opening of the
 -- stream is refused for now, and it is not open at the other side either.
 abbrev pub AreConfirmedAlone : {N : Type 0} → Draws N → (confirmed : ℕ → Type 0) → (uses : List ChannelUse) → PlainPolled N
     → (others : List ChannelUse) → PlainPolled N → Type 0
@@ -194,8 +194,8 @@ AreConfirmedAlone draws confirmed uses p others q =
     → AreInBandChannels stream p q
     → IsOpenAtBoth draws channel uses p others q ⊎ IsRefusedAlone stream p q
 
--- Each channel of one side that was confirmed is open at both, where neither side settled its stream by other means, and the stream is in
--- its first generation: it was never reset.
+-- Each channel of one side that was confirmed is open at both, if neither side negotiated its stream out-of-band, and the stream is in its
+-- first generation: it was never reset.
 abbrev pub AreConfirmedUnreset : {N : Type 0} → Draws N → (confirmed : ℕ → Type 0) → (uses : List ChannelUse) → PlainPolled N
     → (others : List ChannelUse) → PlainPolled N → Type 0
 AreConfirmedUnreset draws confirmed uses p others q =
@@ -207,7 +207,7 @@ AreConfirmedUnreset draws confirmed uses p others q =
     → generation_of p.core.sctp.association stream ≡ 0
     → IsOpenAtBoth draws channel uses p others q
 
--- each channel of one side that was confirmed is open at both, where its stream was never reset
+-- each channel of one side that was confirmed is open at both, if its stream was never reset
 abbrev pub AreConfirmedFirst : {N : Type 0} → Draws N → (confirmed : ℕ → Type 0) → (uses : List ChannelUse) → PlainPolled N
     → (others : List ChannelUse) → PlainPolled N → Type 0
 AreConfirmedFirst draws confirmed uses p others q =
@@ -217,11 +217,11 @@ AreConfirmedFirst draws confirmed uses p others q =
     → generation_of p.core.sctp.association stream ≡ 0
     → IsOpenAtBoth draws channel uses p others q
 
--- A run by these steps with these replies leaves it so at both sides, where it left the pair settled. Of channels that were confirmed it
--- tells where nothing is due for those of the side; they are open where besides no opening is under way at either side, and where the last
--- timeouts of both are late enough. One side is the client and the other one the server; each opening is over a stream of its own side, so
--- that both never open one, and no opening waits for its answer. Where no step added a channel that was settled by other means than
--- messages, and the pair kept no session description before, no stream was settled so.
+-- A run by these steps with these replies leaves it so at both sides, if it left the pair settled. Of channels that were confirmed it
+-- speaks if nothing is due for those of the side; they are open if besides no opening is in flight at either side, and if the last timeouts
+-- of both are late enough. One side is the client and the other one the server; each opening is over a stream of its own side, so that both
+-- never open one, and no opening waits for its acknowledgement. If no step added a channel that was negotiated out-of-band, and the pair
+-- kept no session description before, no stream was negotiated so.
 pub record SettlesOpen {N : Type 0} (draws : Draws N) (stun : List ℕ → Bool) (start : PlainPair N) (steps : List Step)
     (replies : List (Reply PlainMediaEvent)) (pair : PlainPair N) (run : Runs (plain_over draws) stun start steps replies pair)
     : Type 0 where

@@ -1,4 +1,4 @@
--- The messages that a side was told of its channels in a run, by the stream that the channel had and the generation of this.
+-- The messages that were reported to a side of its channels in a run, by the stream that the channel had and the generation of this.
 use Rattle.std.specs.Prelude.{ℕ, ◌==◌, ◌&&◌, ◌++◌, if◌then◌else◌, Bool, List, [], ◌∷◌}
 use Rattle.rtc_channels.specs.Channels.{is_of_stream}
 use Rattle.rtc_peer_core.specs.Meanings.{Meanings}
@@ -27,7 +27,7 @@ module _ {I D S M E X T W N : Type 0} (m : Meanings I D S M E X T W N) where
       (c == message.id)
       && (is_of_stream s (stream_under c q.core.channels) && (m.association.generation q.core.sctp.association s == g))
 
-  -- one message more was told
+  -- one message more was reported
   abbrev pub told_event : Event E → PolledPeer I D S M N → MessagesTold → MessagesTold
   told_event (ChannelData message) q told =
       λ c s g. if is_told_of message q c s g then told c s g ++ (message.binary, message.bytes) ∷ [] else told c s g
@@ -38,7 +38,7 @@ module _ {I D S M E X T W N : Type 0} (m : Meanings I D S M E X T W N) where
   told_shown (shows.Timeout moment reason) q told = told
   told_shown (shows.Packet number len) q told = told
 
-  -- The messages that polls of a side told of a channel over the whole run, while it had a stream and this a generation.
+  -- The messages that polls of a side reported of a channel over the whole run, while it had a stream and this a generation.
   abbrev pub told_over : (stun : List ℕ → Bool) (start : PairState I D S M N) (at : Side) (past : List (Entry E))
       (pair : PairState I D S M N) → Reached m stun start past pair → MessagesTold
   told_over stun start at [] pair ran = λ c s g. []

@@ -1,4 +1,4 @@
--- What is told and got of a channel that the other side has not announced.
+-- What is reported and got of a channel that the other side has not announced.
 use Rattle.std.specs.Prelude.{ℕ, ◌≡◌, ◌<◌, ◌-◌, ◌^◌, ◌⊎◌, Bool, true, List, [], ◌∷◌, Some}
 use Rattle.rtc_part_values.specs.Among.{Member}
 use Rattle.rtc_part_values.specs.Draws.{Draws}
@@ -19,7 +19,7 @@ pub record IsAnnounced (s g : ℕ) (uses : List ChannelUse) : Type 0 where
   pub stream_is : use_of.stream ≡ Some s
   pub generation_is : use_of.generation ≡ g
 
--- of whatever channel: nothing was told while it had a stream in a generation to which nothing was sent
+-- of whatever channel: nothing was reported while it had a stream in a generation to which nothing was sent
 abbrev pub AreToldOfSent : (sent : ℕ → ℕ → List (Bool × List ℕ)) → MessagesTold → Type 0
 AreToldOfSent sent told = (channel s g : ℕ) → sent s g ≡ [] → told channel s g ≡ []
 
@@ -32,7 +32,7 @@ AreGotOfSent sent uses =
 abbrev pub AreSentOfAnnounced : List ChannelUse → (sent : ℕ → ℕ → List (Bool × List ℕ)) → Type 0
 AreSentOfAnnounced uses sent = (s g : ℕ) → (sent s g ≡ []) ⊎ IsAnnounced s g uses
 
--- nothing was told of whatever channel in a generation of a stream, or the other side announced a channel over it
+-- nothing was reported of whatever channel in a generation of a stream, or the other side announced a channel over it
 abbrev pub AreToldOfAnnounced : (others : List ChannelUse) → MessagesTold → Type 0
 AreToldOfAnnounced others told = (channel s g : ℕ) → (told channel s g ≡ []) ⊎ IsAnnounced s g others
 

@@ -20,7 +20,7 @@ use Rattle.rtc_run_history.specs.Sides.{same_side, side_of, other_side}
 use Rattle.rtc_run_laws.specs.ChannelUses.{ChannelUse, uses_shown, with_sent_message}
 use Rattle.rtc_run_laws.specs.PollsOfRuns.{by_step}
 
--- behind a step that writes to a channel: its message was sent where it was taken
+-- after a step that writes to a channel: its message was sent if it was taken
 abbrev pub uses_written : {E : Type 0} → (channel : ℕ) → (binary : Bool) → List ℕ → Outcome E → List ChannelUse → List ChannelUse
 uses_written channel binary bytes (Wrote true) uses = with_sent_message channel (binary, bytes) uses
 uses_written channel binary bytes outcome uses = uses
@@ -36,7 +36,7 @@ module _ {I D S M E X T W N : Type 0} (m : Meanings I D S M E X T W N) where
   uses_acted stun other own step old sdps packets outcome table new sdps' packets' h uses =
       by_step m (uses_shown m) stun other own step old sdps packets outcome table new sdps' packets' h uses
 
-  -- The channels that a side announced in a run, in order, by the peers that the run goes through.
+  -- The channels that a side announced in a run, in order, by the peers of the run.
   abbrev pub uses_of : (stun : List ℕ → Bool) (start : PairState I D S M N) (at : Side) (past : List (Entry E)) (pair : PairState I D S M N)
       → Reached m stun start past pair → List ChannelUse
   uses_of stun start at [] pair ran = []

@@ -17,10 +17,11 @@ ghost use Rattle.rtc_run_laws.specs.PlainPairs.{HasExchanged, PairActs, PairExch
 
 use rtc_part_values::Ids;
 
-/// The peers of a pair that were just built over fresh plain parts stay joined by every list of steps that bring in no text and no
-/// bytes of anybody, whatever datagrams these lose, repeat or reorder: what the association of one side reads of a generation of a
-/// stream is a prefix of what the association of the other side wrote. Where neither closed the generation and the writer holds no
-/// unacknowledged item of the stream, the messages read and those still unread are together all that were written.
+/// The peers of a pair that were just built over fresh plain parts stay joined by every list of steps that bring in no
+/// text and no bytes of anybody. This holds whatever datagrams these lose, repeat or reorder. What the association of
+/// one side reads of a generation of a stream is a prefix of what the association of the other side wrote. The messages
+/// read and those still unread are together all that were written, if neither closed the generation and the writer
+/// holds no unacknowledged item of the stream.
 pub fn runs_keep_peers_joined<N: Ids>()
     ensures reached { (stun : List ℕ → Bool) (start pair : PlainPair N) (past : List (Entry PlainMediaEvent)) → IsNewPair N.ids start
         → are_native (steps_of past) ≡ true → Reached (plain_over N.ids) stun start past pair → HasExchanged pair }

@@ -22,14 +22,19 @@ ghost use Rattle.rtc_run_laws.specs.UsesOfRuns.{uses_of};
 
 use rtc_part_values::Ids;
 
-/// Whatever datagrams a run of two peers loses, repeats or reorders: of the channels that were opened in-band, each side announces
-/// each at most once, and at most one over each generation of a stream, to which it sent nothing before. Where each side announced
-/// such a channel over the same generation of the same stream, what one got over its channel since is all that it was told of it in
-/// that generation, and a prefix of what the other sent over its own since. It is all of that where both channels stay open, the
-/// writer has no unacknowledged item of the stream, and no whole message of the generation stands unread at the reader. None does
-/// where the reader was drained: since its last input, and since a channel was last told to be open, a poll of it answered a timeout.
-/// A drained reader got all of it also where the writer is closed, or an association is closing or closed: it suffices that the channel of
-/// the reader is open, and that both sides have the generation still, which neither closed.
+/// Whatever datagrams a run of two peers loses, repeats or reorders: of the channels that were opened in-band, each
+/// side announces each at most once. Each side announces at most one over each generation of a stream, and sent nothing
+/// to that generation before.
+///
+/// Each side may announce such a channel over the same generation of the same stream. Then what one got over its
+/// channel since is all that was reported to it of that generation, and a prefix of what the other sent over its own
+/// since. It is all of that if both channels stay open, the writer has no unacknowledged item of the stream, and the
+/// reader has no whole message of the generation unread.
+///
+/// The reader has none if it was drained: since its last input, and since a channel was last reported as open, a poll
+/// of it returned a timeout. A drained reader got all of it also if the writer is closed, or an association is closing
+/// or closed. For this it suffices that the channel of the reader is open, and that both sides still have the
+/// generation, which neither closed.
 ///
 /// No step brings in a text or bytes of anybody, and none rolls an offer back.
 pub fn channels_hand_out_prefixes<N: Ids>()

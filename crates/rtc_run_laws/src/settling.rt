@@ -1,4 +1,4 @@
-//! The channels of a run of two peers over plain parts that ended with nothing under way.
+//! The channels of a run of two peers over plain parts that ended with nothing in flight.
 ghost use Rattle.std.specs.Prelude.{ℕ, ◌≡◌, Bool, true, List, [], None};
 ghost use Rattle.rtc_assoc_state.specs.PlainMeaning.{plain_meaning};
 ghost use Rattle.rtc_channels.specs.Openings.{channels_wake};
@@ -24,30 +24,36 @@ ghost use Rattle.rtc_run_laws.specs.UsesOfRuns.{uses_of};
 
 use rtc_part_values::Ids;
 
-/// Where both peers are alive, with their DTLS connections and their associations standing, where each was polled up to a timeout
-/// since its last input and its last call, and where no association has an unacknowledged item: both associations have each stream in
-/// one generation, and neither closed it. A channel that is open at one side is open at both, and each side announced it, over one
-/// generation of one stream; and each got all that the other sent over it. So it is over each stream that neither side settled by other
-/// means than messages, while a number is left for a channel. An opening over such a stream waits for its answer only where the other
-/// side has the stream not in use, and its own opening of it is refused for now.
+/// The premises are: both peers are alive, with their DTLS connections and their associations; each was polled up to a
+/// timeout since its last input and its last call; and no association has an unacknowledged item. Then both
+/// associations have each stream in one generation, and neither closed it. A channel that is open at one side is open
+/// at both. Each side announced it, over one generation of one stream, and got all that the other sent over it.
 ///
-/// Nothing is due for the channels of a side whose last timeout is later than each moment that its peer took. Where nothing is, each
-/// of them that was confirmed in the run, and has such a stream, is open at both sides so; or the opening of its stream is refused for
-/// now, as the stream is there already, and has been for less than ten seconds, while it is not open at the other side either; or both
-/// sides opened the stream themselves, so that the opening from here waits for its answer, and the one from there is refused so. It is
-/// open at both, where neither the associations with their streams nor the channels over them want a moment; and where both last timeouts
-/// are later than each moment that the peers took, and than half a second after the last one that their streams took.
+/// So it is over each stream that neither side negotiated out-of-band, if channel numbers are not exhausted. An opening
+/// over such a stream waits for its acknowledgement only if the other side has the stream not in use, and its own
+/// opening of it is refused for now.
 ///
-/// A stream that is opened from here is even where this side started the association as the client, and odd where it did as the server,
-/// unless a channel was settled for the stream by other means. One side started it as the client, and the other one as the server: each
-/// did by its DTLS role, and a handshake is finished only between the two roles. So no such stream is opened from both, no opening waits
-/// for its answer, and the last of the three cases does not come. Nor does the second one, of a stream that was never reset, which is in
-/// its first generation: each channel that was confirmed and has such a stream is then open at both sides, where the last timeout of its
-/// side is later than each moment that its peer took.
+/// Nothing is due for the channels of a side whose last timeout is later than each moment that its peer took. If
+/// nothing is, each of them that was confirmed in the run, and has such a stream, is in one of three cases. It is open
+/// at both sides so. Or the opening of its stream is refused for now, as the stream is there already, and has been for
+/// less than ten seconds, while it is not open at the other side either. Or both sides opened the stream themselves, so
+/// that the opening from here waits for its acknowledgement, and the one from there is refused so.
 ///
-/// Where no step added a channel with a stream that both ends settled by other means, and the pair kept no session description at its
-/// start, no stream was settled so: each channel that was confirmed, and whose stream was never reset, is then open at both sides, where
-/// the last timeout of its side is later than each moment that its peer took.
+/// It is open at both, if neither the associations with their streams nor the channels over them want a moment; and if
+/// both last timeouts are later than each moment that the peers took, and than half a second after the last one that
+/// their streams took.
+///
+/// A stream that is opened from here is even if this side started the association as the client, and odd if it did as
+/// the server, unless a channel was negotiated out-of-band for the stream. One side started it as the client, and the
+/// other one as the server: each did by its DTLS role, and a handshake is finished only between the two roles. So no
+/// such stream is opened from both, no opening waits for its acknowledgement, and the last of the three cases does not
+/// occur. Nor does the second one, of a stream that was never reset, which is in its first generation: each channel
+/// that was confirmed and has such a stream is then open at both sides, if the last timeout of its side is later than
+/// each moment that its peer took.
+///
+/// If no step added a channel that is negotiated out-of-band, and the pair kept no session description at its start, no
+/// stream was negotiated so. Each channel that was confirmed, and whose stream was never reset, is then open at both
+/// sides, if the last timeout of its side is later than each moment that its peer took.
 ///
 /// No step brings in a text or bytes of anybody, and none rolls an offer back.
 pub fn settled_pairs_have_open_channels<N: Ids>()

@@ -1,4 +1,4 @@
-//! What is told of channels that the other side has not announced.
+//! What is reported of channels that the other side has not announced.
 ghost use Rattle.std.specs.Prelude.{ℕ, ◌≡◌, Bool, true, List, []};
 ghost use Rattle.rtc_plain_media.specs.declared.plain_media_event.PlainMediaEvent.{PlainMediaEvent};
 ghost use Rattle.rtc_run_history.specs.declared.side.Side.{Side};
@@ -17,12 +17,13 @@ ghost use Rattle.rtc_run_laws.specs.Unannounced.{HaveNumbersLeft};
 
 use rtc_part_values::Ids;
 
-/// Whatever datagrams a run of two peers loses, repeats or reorders: a side is told nothing of a channel while the channel has a stream
-/// in a generation to which the other side sent nothing, and a channel that was announced in-band over such a generation got nothing.
+/// Whatever datagrams a run of two peers loses, repeats or reorders: a side is given nothing of a channel while the
+/// channel has a stream in a generation to which the other side sent nothing. A channel that was announced in-band over
+/// such a generation got nothing.
 ///
-/// Where no step added a channel that both ends settled by other means than messages, and a number was left for a channel all along, a side
-/// sends to a generation of a stream only once it announced a channel over it. So nothing is told of a generation over which the other
-/// side announced none, and nothing was got.
+/// Suppose that no step added a channel that is negotiated out-of-band, and that channel numbers were never exhausted.
+/// Then a side sends to a generation of a stream only once it announced a channel over it. So nothing is reported of a
+/// generation over which the other side announced none, and nothing was got.
 ///
 /// No step brings in a text or bytes of anybody, and none rolls an offer back.
 pub fn unannounced_channels_are_silent<N: Ids>()

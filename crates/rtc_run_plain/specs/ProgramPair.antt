@@ -78,8 +78,8 @@ left_address = record { ip = 1 ∷ 1 ∷ 1 ∷ 1 ∷ []; port = 1000 }
 abbrev pub right_address : Addr
 right_address = record { ip = 2 ∷ 2 ∷ 2 ∷ 2 ∷ []; port = 2000 }
 
--- The pair of the program, where each peer is set to this: the left peer draws from 1 and has the certificate abc, the right one from
--- 1000001 and def. Neither has met the other side, and each checks its certificate.
+-- The pair of the program, if each peer is set to this: the left peer draws from 1 and has the certificate abc, the right one from 1000001
+-- and def. Neither has met the other side, and each checks its certificate.
 pub record IsProgramPair (alloc : Global) (left_settings right_settings : PeerSettings) (pair : PlainPairState) : Type 0 where
   pub left : IsProgramPeer alloc left_settings (codes "abc") 1 left_address pair.left.core
   pub right : IsProgramPeer alloc right_settings (codes "def") 1000001 right_address pair.right.core

@@ -11,10 +11,10 @@ pub struct PeerSettings {
     pub snap: bool,
     /// How many bytes of its data channels may be buffered before nothing is available.
     pub max_buffered: usize,
-    /// The longest message that it takes, in bytes, which its session descriptions tell (RFC 8841, section 6.1).
+    /// The longest message that it takes, in bytes, which its session descriptions carry (RFC 8841, section 6.1).
     pub max_message_size: u32,
-    /// The time between two rounds of statistics, where they are reported.
+    /// The time between two rounds of statistics, if they are reported.
     pub stats_interval: Option<Span>,
-    /// Its role where two offers cross, if one is set: whether it is the polite one (RFC 3264, section 4).
+    /// Its role on glare, if one is set: whether it is the polite one (RFC 3264, section 4).
     pub polite: Option<bool>,
 }

@@ -101,8 +101,8 @@ fn make_peer(
     Ok(rtc)
 }
 
-/// Two fresh peers at moment 0, each set to what is given, whose certificates, addresses and first numbers are fixed, so that every report
-/// can be told beforehand.
+/// Two fresh peers at moment 0, each set to what is given. Their certificates, addresses and first numbers are fixed,
+/// so that every report is known beforehand.
 pub fn make_pair(
     alloc: Global,
     left_settings: PeerSettings,

@@ -1,4 +1,4 @@
--- What signalling brings of an offer or an answer; any call that allocates may answer `Alloc`.
+-- What signalling delivers of an offer or an answer; any call that allocates may return `Alloc`.
 use Rattle.std.specs.Prelude.{◌≡◌}
 use Rattle.rtc_run_history.specs.Signalled.{Signalled, NotMade, Unreadable, Readable}
 use Rattle.rtc_run_steps.specs.declared.brought.Brought.{Brought}

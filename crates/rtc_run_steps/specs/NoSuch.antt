@@ -1,5 +1,5 @@
--- The reply where the peer is not called: there is no such thing, or what was written of it cannot be read. The table is told, or there is
--- no memory.
+-- The reply if the peer is not called: there is no such thing, or what was written of it cannot be read. The table is shown, or there is no
+-- memory.
 use Rattle.std.specs.Prelude.{◌≡◌, ℕ, Option, Some, None}
 use Rattle.rtc_sdp_values.specs.declared.sdp_error.SdpError.TheVariants.{Parse}
 use Rattle.rtc_peer_core.specs.declared.peer.Peer.{Peer}

@@ -1,4 +1,4 @@
--- The outcome of a call that answers nothing but whether it is refused.
+-- The outcome of a call that returns nothing but whether it is refused.
 use Rattle.std.specs.Prelude.{Result, Ok, Err}
 use Rattle.rtc_peer_core.specs.declared.rtc_error.RtcError.{RtcError}
 use Rattle.rtc_run_history.specs.declared.outcome.Outcome.{Outcome}

@@ -1,4 +1,4 @@
--- The answer to an op that adds a channel where the peer makes none: it refuses the config, or memory ran out.
+-- The result of an operation that adds a channel if the peer makes none: it refuses the config, or memory ran out.
 use Rattle.rtc_peer_core.specs.declared.rtc_error.RtcError.{RtcError}
 use Rattle.rtc_peer_core.specs.declared.rtc_error.RtcError.TheVariants.{Net, Media as MediaFailed, Glare}
 use Rattle.rtc_peer_core.specs.declared.rtc_error.RtcError.TheVariants.{RemoteSdp, Sdp, Dtls, Sctp, ChangesOutOfOrder, BadChannel, Alloc}

@@ -11,7 +11,7 @@ use Rattle.rtc_run_steps.specs.declared.applied.Applied.{Applied}
 use Rattle.rtc_run_steps.specs.declared.applied.Applied.TheVariants.{NotAsked, Nothing, Offer, Alloc}
 
 module _ {I D S M E X T W N : Type 0} (m : Meanings I D S M E X T W N) where
-  -- what is staged is applied where that is asked
+  -- what is staged is applied if that is asked
   abbrev pub Becomes : Bool → Peer I D S M N → Applied → Peer I D S M N → Type 0
   Becomes false p NotAsked q = q ≡ p
   Becomes true p Nothing q = Applies m p (Ok None) q

@@ -42,7 +42,7 @@ ShowsOutput at packets reason (polled.Transmit transmit) shown packets' =
 ShowsOutput at packets reason (polled.Event event) shown packets' = (shown ≡ Event event) × (packets' ≡ packets)
 
 module _ {I D S M E X T W N : Type 0} (m : Meanings I D S M E X T W N) where
-  -- one poll of a drain: its output stands behind those that are shown
+  -- one poll of a drain: its output is behind those that are shown
   abbrev pub TakesTurn : Side → PolledPeer I D S M N → List SentPacket → List (Shown E) → Turn → PolledPeer I D S M N → List SentPacket
       → List (Shown E) → Type 0
   TakesTurn at p packets outputs More q packets' outputs' =

@@ -53,7 +53,7 @@ fn bring_sent(alloc: Global, sdp: &Sdp) -> Brought
     }
 }
 
-// What signalling brings of the offer (or answer) of a number.
+// What signalling delivers of the offer (or answer) of a number.
 fn bring(alloc: Global, sdps: &[Kept], offer: bool, at: Side, number: u32) -> Brought
     ensures { Brings result (kept_remote_sdp offer sdps.now at number) }
 {
@@ -88,7 +88,7 @@ fn accept_offer<I: IceAgent, D: DtlsInstance, S: Association, M: MediaSession, N
     rtc.sdp_api().accept_offer(offer)
 }
 
-// Has a peer accept or refuse an offer that was delivered, where there is memory for the reply.
+// Has a peer accept or refuse an offer that was delivered, if there is memory for the reply.
 pub(crate) fn accept_delivered_offer<
     I: IceAgent,
     D: DtlsInstance,
@@ -187,7 +187,7 @@ fn accept_answer<I: IceAgent, D: DtlsInstance, S: Association, M: MediaSession, 
     rtc.sdp_api().accept_answer(pending, answer)
 }
 
-// Has a peer accept or refuse an answer that was delivered, with the token of a number, where there is memory for the reply.
+// Has a peer accept or refuse an answer that was delivered, with the token of a number, if there is memory for the reply.
 pub(crate) fn accept_delivered_answer<
     I: IceAgent,
     D: DtlsInstance,
@@ -219,8 +219,8 @@ pub(crate) fn accept_delivered_answer<
     }
 }
 
-/// Delivers the answer of a number to a peer, which accepts or refuses it with the token of a number. What cannot be read does not
-/// reach the peer, and the token stays.
+/// Delivers the answer of a number to a peer, which accepts or refuses it with the token of a number. What cannot be
+/// read does not reach the peer, and the token is kept.
 pub fn deliver_and_accept_answer<
     I: IceAgent,
     D: DtlsInstance,

@@ -1,7 +1,7 @@
 //! What signalling brings.
 use rtc_sdp_values::Sdp;
 
-/// What signalling brings of an offer or an answer, by its number.
+/// What signalling delivers of an offer or an answer, by its number.
 #[derive(Drop)]
 pub enum Brought {
     /// The other side made no such session description.

@@ -12,7 +12,7 @@ use rtc_run_history::{Outcome, Reply};
 use rtc_wire::ChannelId;
 use std::alloc::Global;
 
-// The outcome of a write, which answers nothing where there is no such channel that is open.
+// The outcome of a write, which returns nothing if there is no such channel that is open.
 fn outcome_of_write<E>(answer: Option<Result<bool, RtcError>>) -> Outcome<E>
     ensures { result ≡ written_outcome answer }
 {
@@ -25,7 +25,7 @@ fn outcome_of_write<E>(answer: Option<Result<bool, RtcError>>) -> Outcome<E>
     }
 }
 
-// Writes a message to the channel of a number, where it is open.
+// Writes a message to the channel of a number, if it is open.
 fn write_if_open<I: IceAgent, D: DtlsInstance, S: Association, M: MediaSession, N: Ids>(
     rtc: &mut Rtc<I, D, S, M, N>,
     id: ChannelId,

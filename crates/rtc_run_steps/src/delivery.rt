@@ -12,7 +12,7 @@ use rtc_sdp_values::{Sdp, SdpError};
 use rtc_sdp_writer::write;
 use std::alloc::Global;
 
-/// The offer that arrives where this one is sent (RFC 8829, section 5.8, in our profile).
+/// The offer that arrives if this one is sent (RFC 8829, section 5.8, in our profile).
 ///
 /// It may differ from what was sent: a session description does not say what our profile has no line for.
 pub fn deliver_offer(alloc: Global, offer: &SdpOffer) -> Result<SdpOffer, SdpError>
@@ -24,7 +24,7 @@ pub fn deliver_offer(alloc: Global, offer: &SdpOffer) -> Result<SdpOffer, SdpErr
     SdpOffer::from_sdp_string(alloc, text.as_str())
 }
 
-/// The answer that arrives where this one is sent (RFC 8829, section 5.8, in our profile).
+/// The answer that arrives if this one is sent (RFC 8829, section 5.8, in our profile).
 pub fn deliver_answer(alloc: Global, answer: &SdpAnswer) -> Result<SdpAnswer, SdpError>
     ensures reading { ReadsAnswer result (reading (written_sdp answer.now.0)) }
     ensures legible { IsLegible answer.now.0 → IfOk result (λ delivered. delivered.0 ≡ as_read answer.now.0) }
@@ -34,7 +34,7 @@ pub fn deliver_answer(alloc: Global, answer: &SdpAnswer) -> Result<SdpAnswer, Sd
     SdpAnswer::from_sdp_string(alloc, text.as_str())
 }
 
-/// What arrives where a session description is sent, or the first line that refuses what was written of it.
+/// What arrives if a session description is sent, or the first line that refuses what was written of it.
 pub fn deliver(alloc: Global, sdp: &Sdp) -> Result<Sdp, SdpError>
     ensures { ReadsSdp result (reading (written_sdp sdp.now)) }
 {

@@ -49,8 +49,8 @@ pub fn accept_foreign_offer<I: IceAgent, D: DtlsInstance, S: Association, M: Med
     }
 }
 
-/// Delivers an answer that anybody wrote to a peer, which accepts or refuses it with the token of a number. What cannot be read does not
-/// reach the peer, and the token stays.
+/// Delivers an answer that anybody wrote to a peer, which accepts or refuses it with the token of a number. What cannot
+/// be read does not reach the peer, and the token is kept.
 pub fn accept_foreign_answer<I: IceAgent, D: DtlsInstance, S: Association, M: MediaSession, N: Ids>(
     alloc: Global,
     rtc: &mut Rtc<I, D, S, M, N>,

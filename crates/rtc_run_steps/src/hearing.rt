@@ -17,7 +17,7 @@ use rtc_run_history::{Outcome, Reply, SentPacket, Side};
 use rtc_wire::{Addr, Moment, Protocol, Receive, Transmit};
 use std::alloc::Global;
 
-/// The outcome of a call that answers nothing but whether it is refused.
+/// The outcome of a call that returns nothing but whether it is refused.
 pub fn outcome_of<E>(answer: Result<(), RtcError>) -> Outcome<E>
     ensures { result ≡ outcome_of answer }
 {
@@ -60,7 +60,7 @@ fn find_packet(packets: &[SentPacket], at: Side, number: u64) -> Option<&Transmi
     }
 }
 
-// Gives a peer a datagram where it was sent to, if it has the form of its kind.
+// Gives a peer a datagram at the address that it was sent to, if it has the form of its kind.
 #[tactic(auto, using(crate::proofs::PollsKeep::lines_after_input))]
 fn give_datagram<I: IceAgent, D: DtlsInstance, S: Association, M: MediaSession, N: Ids>(
     rtc: &mut Rtc<I, D, S, M, N>,

@@ -38,7 +38,7 @@ fn add_line<I: IceAgent, D: DtlsInstance, S: Association, M: MediaSession, N: Id
     }
 }
 
-// The mid of the media line at a place, if one stands there.
+// The mid of the media line at a place, if there is one.
 fn find_line(rows: &[LineRow], place: u32) -> Option<Mid>
     ensures { result ≡ media_mid (slice_get rows.now place) }
 {
@@ -90,7 +90,7 @@ fn stop_line<I: IceAgent, D: DtlsInstance, S: Association, M: MediaSession, N: I
     }
 }
 
-// The answer where no channel is staged.
+// The result if no channel is staged.
 fn answer_refusal(error: &RtcError) -> OpAnswer
     ensures { result ≡ refused_channel error.now }
 {
@@ -156,7 +156,7 @@ fn perform_op<I: IceAgent, D: DtlsInstance, S: Association, M: MediaSession, N: 
     }
 }
 
-// Performs ops in order, up to the first that answers `Alloc`.
+// Performs ops in order, up to the first that returns `Alloc`.
 fn perform_ops<I: IceAgent, D: DtlsInstance, S: Association, M: MediaSession, N: Ids>(
     api: &mut SdpApi<'_, I, D, S, M, N>,
     ops: &[Op],

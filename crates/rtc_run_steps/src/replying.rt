@@ -71,7 +71,7 @@ fn has_fewer_channels<I: IceAgent, D: DtlsInstance, S: Association, M: MediaSess
     rtc.channel_row(most - 1).is_none()
 }
 
-/// Room for the row of one more channel, where there is room for those of all channels.
+/// Room for the row of one more channel, if there is room for those of all channels.
 pub fn make_channel_room<I: IceAgent, D: DtlsInstance, S: Association, M: MediaSession, N: Ids>(
     rtc: &Rtc<I, D, S, M, N>,
     channels: &mut Vec<ChannelRow>,

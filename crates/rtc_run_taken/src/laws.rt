@@ -4,9 +4,9 @@ ghost use Rattle.rtc_run_taken.specs.Taken.{RunsTakeTexts};
 
 use rtc_peer::{Association, DtlsInstance, IceAgent, Ids, MediaSession};
 
-/// In a run of formed peers each session description that was accepted left the lines of its side taken by what it said: an offer or
-/// an answer of the other side, by the rows that this side had as it made it and those that its step added; a text that anybody wrote,
-/// by what is read of it.
+/// In a run of formed peers each session description that was accepted left the lines of its side taken by what it
+/// said. Of an offer or an answer of the other side, that is by the rows that this side had as it made it and those
+/// that its step added. Of a text that anybody wrote, it is by what is read of it.
 pub fn accepted_texts_are_taken<
     I: IceAgent,
     D: DtlsInstance,

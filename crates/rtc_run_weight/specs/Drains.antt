@@ -26,7 +26,7 @@ HaveMoments [] = Unit {0}
 HaveMoments (step ∷ steps) = HasMoment step × HaveMoments steps
 
 module _ {I D S M E X T W N : Type 0} (m : Meanings I D S M E X T W N) where
-  -- no threshold is set at a stream of a peer, and it was told that its handshake is finished, if it is
+  -- no stream of a peer has a threshold, and the end of its handshake was reported, if it is finished
   abbrev pub IsUndriven : PolledPeer I D S M N → Type 0
   IsUndriven p = HasNoThreshold m p.core × IsHandshakeTold p
 

@@ -15,8 +15,8 @@ use rtc_part_ice::IceAgent;
 use rtc_part_media::MediaSession;
 use rtc_part_values::Ids;
 
-/// In a run of a pair at which no threshold is set, a drain shows at most as many outputs as its peer weighs before it. No step sets a
-/// threshold, and no step leaves it to be told that a handshake is finished.
+/// In a run of a pair at which no threshold is set, a drain shows at most as many outputs as its peer weighs before it.
+/// No step sets a threshold, and after no step the end of a handshake is still to be reported.
 pub fn drains_show_at_most_their_weight<
     I: IceAgent,
     D: DtlsInstance,
