@@ -9,7 +9,7 @@ use Rattle.rtc_file_records.specs.Receiving.{ReceivedFile, TakesMessage}
 pub data ReceiverEvent : Type 0 where
   -- a session begins
   SessionBegins : ReceiverEvent
-  -- a message comes and gets this answer
+  -- a message is received and gets this result
   MessageComes : List ℕ → Result Bool FileError → ReceiverEvent
 
 -- what an event makes of a receiver
@@ -31,7 +31,7 @@ abbrev pub WasEndTaken : List ℕ → List ReceiverEvent → Type 0
 WasEndTaken digest [] = ⊥
 WasEndTaken digest (event ∷ rest) = IsEndTaken digest event ⊎ WasEndTaken digest rest
 
--- A receiver is whole exactly where an End was taken, and then the SHA-256 of what it holds is the digest in it.
+-- A receiver is whole exactly if an End was taken, and then the SHA-256 of what it holds is the digest in it.
 pub record IsWholeByEnds (events : List ReceiverEvent) (file : ReceivedFile) : Type 0 where
   pub only : file.whole ≡ true → (digest : List ℕ) × WasEndTaken digest events
   pub then : (digest : List ℕ) → WasEndTaken digest events → (file.whole ≡ true) × (sha256 file.held ≡ digest)

@@ -34,13 +34,13 @@ use Rattle.rtc_file_records.specs.declared.file_error.FileError.{FileError}
 use Rattle.rtc_file_records.specs.declared.file_error.FileError.TheVariants.{BadRecord, Order, OtherFile, Gap}
 use Rattle.rtc_file_records.specs.declared.file_error.FileError.TheVariants.{TooMuch, Short, Mismatch, Alloc}
 
--- a file as it comes
+-- a file as it is received
 pub record ReceivedFile : Type 0 where
   -- what the first Begin announced
   pub announced : Option Announced
-  -- whether a Begin came in this session
+  -- whether a Begin was received in this session
   pub begun : Bool
-  -- the bytes that came
+  -- the received bytes
   pub held : List ℕ
   -- whether an End was taken
   pub whole : Bool
@@ -51,12 +51,12 @@ nothing_received = record { announced = None; begun = false; held = []; whole = 
 abbrev pub is_announced : Announced → List ℕ → ℕ → Bool
 is_announced announced name total = bytes_eq announced.name name && announced.total == total
 
--- a cause, where it holds
+-- a cause, if it holds
 abbrev pub cause_if : Bool → FileError → Option FileError
 cause_if true why = Some why
 cause_if false why = None
 
--- The file is whole, or a Begin comes again in its session, or another record before it; a Resume never comes to a receiver.
+-- The file is whole, or a Begin is received again in its session, or another record before it; a receiver never gets a Resume.
 abbrev pub is_out_of_order : ReceivedFile → FileRecord → Bool
 is_out_of_order file (Begin name total) = file.whole || file.begun
 is_out_of_order file (Piece offset bytes) = file.whole || not file.begun
@@ -131,7 +131,7 @@ is_end (Piece offset bytes) = false
 is_end (End total digest) = true
 is_end (Resume offset) = false
 
--- An answer to a message: a record that has no cause against it is taken, or memory is lacking; a refusal changes nothing.
+-- A result for a message: a record that has no cause against it is taken, or memory runs out; a refusal changes nothing.
 abbrev pub TakesMessage : Result Bool FileError → ReceivedFile → Option FileRecord → ReceivedFile → Type 0
 TakesMessage (Ok ended) old None new = ⊥
 TakesMessage (Ok ended) old (Some made) new = (refusal_by old (Some made) ≡ None) × (ended ≡ is_end made) × (new ≡ with_record old made)

@@ -11,7 +11,7 @@ pub enum FileError {
     /// The bytes are no record.
     #[error("not a record of a file")]
     BadRecord,
-    /// The record may not come now.
+    /// The record is not expected now.
     #[error("record out of order")]
     Order,
     /// The name or the total is not that of the first session.
@@ -23,10 +23,10 @@ pub enum FileError {
     /// A piece passes the total.
     #[error("{would} bytes of a file of {total}")]
     TooMuch { total: u64, would: u64 },
-    /// The file ends before all of it came.
+    /// The file ends before all of it was received.
     #[error("file of {total} bytes ends at {held}")]
     Short { total: u64, held: u64 },
-    /// The SHA-256 of the bytes that are held, `kept`, is not the one that came.
+    /// The SHA-256 of the bytes that are held, `kept`, is not the received one.
     #[error("digest differs")]
     Mismatch { kept: [u8; 32], got: [u8; 32] },
     /// There was too little memory.

@@ -1,4 +1,4 @@
-//! The end that a file comes to.
+//! The receiving end of a file.
 ghost use Rattle.std.specs.Prelude.{◌≡◌, false, length, Some};
 ghost use Rattle.sha2.specs.Sha256.{sha256};
 ghost use Rattle.rtc_file_records.specs.Receiving.{nothing_received, refusal_by, TakesMessage};
@@ -14,7 +14,7 @@ use std::marker::Model;
 
 /// Takes the records of a file, over as many sessions as it needs.
 ///
-/// The name and the total of the first Begin stay for all sessions, and what came is kept between them.
+/// The name and the total of the first Begin hold for all sessions, and what was received is kept between them.
 #[derive(Debug, Drop)]
 pub struct FileReceiver {
     announced: Option<Announced>,
@@ -34,7 +34,7 @@ impl Model for FileReceiver {
 }
 
 impl FileReceiver {
-    /// A receiver that nothing came to.
+    /// A receiver that received nothing.
     pub fn new(alloc: Global) -> FileReceiver
         ensures { result ≡ nothing_received }
     {
@@ -62,7 +62,7 @@ impl FileReceiver {
         }
     }
 
-    /// The bytes that came, lent: a front of the file as its sender sends it.
+    /// The received bytes, lent: a front of the file as its sender sends it.
     pub fn held(&self) -> &[u8]
         ensures { result.now ≡ self.now.held }
     {
@@ -165,7 +165,7 @@ impl FileReceiver {
         }
     }
 
-    /// Takes a message; answers true where it was the End, and the file is whole.
+    /// Takes a message; returns true if it was the End, and the file is whole.
     pub fn take(&mut self, message: &[u8]) -> Result<bool, FileError>
         ensures { TakesMessage result self.old (record_in message.now) self.new }
     {

@@ -94,7 +94,7 @@ fn resume_bytes(alloc: Global, offset: u64) -> Result<Bytes, AllocError>
 }
 
 impl FileRecord {
-    /// Reads a record. A refusal comes before memory is taken.
+    /// Reads a record. A refusal is made before memory is taken.
     pub fn read(alloc: Global, bytes: &[u8]) -> Result<FileRecord, FileError>
         ensures is { IfOk result (λ made. IsRecord bytes.now made) }
         ensures bad { IsErrOf result FileError.BadRecord ↔ (record_in bytes.now ≡ None) }

@@ -1,4 +1,4 @@
-//! The end that a file comes from.
+//! The sending end of a file.
 ghost use Rattle.std.specs.Prelude.{◌≡◌, ◌≤◌, ◌<◌, length, take, drop, slice_get, nat_le, if◌then◌else◌, IfOk, IfSome, OnOk, OnErr, Some};
 ghost use Rattle.rtc_file_records.specs.Records.{CanBeSent};
 ghost use Rattle.rtc_file_records.specs.declared.file_record.FileRecord.TheVariants.{Piece};
@@ -10,12 +10,12 @@ use sha2::{Digest, Sha256};
 use std::alloc::{AllocError, Global};
 use std::marker::Model;
 
-/// Where a session stands.
+/// The progress of a session.
 #[derive(Clone, Copy, Debug, PartialEq, Eq)]
 enum Stage {
     /// The Begin is next.
     Begin,
-    /// The piece at the offset is next, or the End where no byte is left.
+    /// The piece at the offset is next, or the End if no byte is left.
     Pieces,
     /// The End was given.
     Done,
@@ -73,7 +73,7 @@ impl<'a> FileSender<'a> {
         })
     }
 
-    /// Starts a session at an offset, which a Resume of the receiver says; false where that is behind the end of the file.
+    /// Starts a session at an offset, which a Resume of the receiver gives; false if that is behind the end of the file.
     pub fn resume(&mut self, offset: u64) -> bool
         ensures answer { result ≡ nat_le offset (length self.old.file) }
         ensures after { self.new

@@ -10,8 +10,8 @@ pub fn records_read_back()
     ensures { (bytes : List ℕ) (made : FileRecord) → IsRecord bytes made → record_in bytes ≡ Some made }
 {}
 
-/// For all messages of any sender, over any sessions: a receiver is whole exactly where it took an End, and then holds the bytes
-/// whose SHA-256 that End told.
+/// For all messages of any sender, over any sessions: a receiver is whole exactly if it took an End, and then holds the
+/// bytes with that End's SHA-256.
 pub fn whole_where_an_end_was_taken()
     ensures { (events : List ReceiverEvent) (file : ReceivedFile) → ReceivesAll events nothing_received file → IsWholeByEnds events file }
 {}

@@ -1,4 +1,4 @@
-//! The records of a file, each a message of a data channel: what gives them, and what takes them and keeps what came.
+//! The records of a file, each a message of a data channel: what gives them, and what takes them and keeps what was received.
 #![tactic(auto)]
 
 mod announced;

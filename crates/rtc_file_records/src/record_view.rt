@@ -113,7 +113,7 @@ fn read_resume(bytes: &[u8]) -> Option<RecordView<'_>>
 }
 
 impl<'a> RecordView<'a> {
-    /// The record that a message is; None where it is none.
+    /// The record that a message is; None if it is none.
     #[tactic(auto, unfolding(crate::specs::Records::record_in))]
     pub fn read(bytes: &'a [u8]) -> Option<RecordView<'a>>
         ensures read { option_map record_of result ≡ record_in bytes.now }

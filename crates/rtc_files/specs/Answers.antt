@@ -1,4 +1,4 @@
--- What the program does and answers.
+-- What the program does and returns.
 use Rattle.std.specs.Prelude.{◌≡◌, ◌≤◌, ◌<◌, ◌^◌, ◌⊎◌, ℕ, List, length, codes, Option, IfSome}
 use Rattle.std.specs.Io.KnownBytes.{Appends, IsAtEnd}
 use Rattle.rtc_io.specs.Faults.{Rose}
@@ -20,13 +20,13 @@ pub record ReadsFile (left left' : Option (List ℕ)) (file : List ℕ) : Type 0
   pub at_end : IsAtEnd left'
   pub read : IfTold left (λ bytes. (length bytes ≤ 2 ^ 20) × (bytes ≡ file))
 
--- A file came over whole, with its End, and was written.
+-- A file was received whole, with its End, and was written.
 pub record WritesWhole (file sizes : List ℕ) (written written' : Option (List ℕ)) : Type 0 where
   pub ended : EndIsTaken file sizes
   pub all : front_sent file sizes ≡ file
   pub told : Appends written written' file
 
--- No End came over, and the front of the file that did was written.
+-- No End was received, and the received front of the file was written.
 pub record WritesFront (file sizes : List ℕ) (written written' : Option (List ℕ)) : Type 0 where
   pub unended : ¬ (EndIsTaken file sizes)
   pub told : Appends written written' (front_sent file sizes)
@@ -36,22 +36,22 @@ pub record ReadsToSend (words : List (List ℕ)) (left left' : Option (List ℕ)
   pub asked : AskFor words sizes
   pub read : ReadsFile left left' file
 
--- The file that was read came over whole.
+-- The file that was read was received whole.
 pub record SendsWhole (words : List (List ℕ)) (left left' written written' : Option (List ℕ)) : Type 0 where
   pub sizes : List ℕ
   pub file : List ℕ
   pub reads : ReadsToSend words left left' sizes file
   pub writes : WritesWhole file sizes written written'
 
--- A front of the file that was read came over.
+-- A front of the file that was read was received.
 pub record SendsFront (words : List (List ℕ)) (left left' written written' : Option (List ℕ)) : Type 0 where
   pub sizes : List ℕ
   pub file : List ℕ
   pub reads : ReadsToSend words left left' sizes file
   pub writes : WritesFront file sizes written written'
 
--- Which text is due, whether the sink takes it or not: the usage where the words ask for no sessions; else the line of the
--- source's fault, that of the length, or what came over.
+-- Which text is due, whether the sink takes it or not: the usage if the words ask for no sessions; else the line of the source's fault,
+-- that of the length, or what was received.
 abbrev pub IsFileDue : List (List ℕ) → Option (List ℕ) → Option (List ℕ) → ℕ → ℕ → List ℕ → Type 0
 IsFileDue words left left' faults faults' text =
     ((¬ (AskForSessions words)) × (text ≡ files_usage_line))

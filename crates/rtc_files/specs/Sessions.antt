@@ -1,4 +1,4 @@
--- What comes over in sessions that end early.
+-- What is received in sessions that end early.
 use Rattle.std.specs.Prelude.{
   ℕ,
   ◌≡◌,
@@ -31,11 +31,11 @@ use Rattle.rtc_file_records.specs.declared.file_error.FileError.TheVariants.{All
 use Rattle.rtc_file_records.specs.Receiving.{ReceivedFile, TakesMessage, refusal_by}
 use Rattle.rtc_file_records.specs.Sending.{SentFile, piece_count}
 
--- how many pieces sessions of these sizes take, where none of them reaches the End: a Begin comes before them in each
+-- how many pieces sessions of these sizes take, if none of them reaches the End: a Begin is before them in each
 abbrev pub pieces_taken : List ℕ → ℕ
 pieces_taken sizes = sum_by (λ size. size - 1) sizes
 
--- the front of a file that comes over in sessions of these sizes
+-- the front of a file that is received in sessions of these sizes
 abbrev pub front_sent : List ℕ → List ℕ → List ℕ
 front_sent file sizes = take (16384 * pieces_taken sizes) file
 
@@ -52,7 +52,7 @@ pub record CanGoOn (sender : SentFile) (receiver : ReceivedFile) : Type 0 where
   pub announced : IfSome receiver.announced (λ announced. (announced.name ≡ sender.name) × (announced.total ≡ length sender.file))
   pub held : receiver.held ≡ take (length receiver.held) sender.file
 
--- One record goes over, where one is left.
+-- One record is passed on, if one is left.
 abbrev pub SendsRecord : Result Bool FileError → SentFile → ReceivedFile → SentFile → ReceivedFile → Type 0
 SendsRecord (Ok true) sender receiver sender' receiver' =
     (made : FileRecord) × (ended : Bool) × (slice_get sender.left 0 ≡ Some made) × (sender' ≡ record sender { left = drop 1 sender.left })
@@ -61,7 +61,7 @@ SendsRecord (Ok false) sender receiver sender' receiver' = (sender.left ≡ []) 
 SendsRecord (Err why) sender receiver sender' receiver' =
     (why ≡ Alloc) ⊎ ((made : FileRecord) × (slice_get sender.left 0 ≡ Some made) × (refusal_by receiver (Some made) ≡ Some why))
 
--- what a session of a size leaves that started where so many bytes were held
+-- what a session of a size leaves that started with so many bytes held
 pub record HoldsSession (file : List ℕ) (start size : ℕ) (receiver : ReceivedFile) : Type 0 where
   pub held : receiver.held ≡ take (start + 16384 * (size - 1)) file
   pub ended : ((receiver.whole ≡ true) × (2 + piece_count (length file - start) ≤ size) × (receiver.held ≡ file))

@@ -20,7 +20,7 @@ fn session_size(word: &str) -> Option<u32>
     Some(size as u32)
 }
 
-// The sizes that words write. Where memory is lacking, the words behind are still looked at.
+// The sizes that words write. If memory runs out, the words behind are still looked at.
 fn sizes_of(alloc: Global, words: &[String]) -> Result<Option<Vec<u32>>, AllocError>
     ensures sizes { IfOk result (λ sizes. MatchOption sizes (¬ ((sizes : List ℕ)
         × AreSizes (bytes_of_words words.now) sizes))
@@ -43,7 +43,7 @@ fn sizes_of(alloc: Global, words: &[String]) -> Result<Option<Vec<u32>>, AllocEr
     Ok(Some(sizes))
 }
 
-/// How many records the receiver is to take in each session; None where the words do not ask for sessions.
+/// How many records the receiver is to take in each session; None if the words do not ask for sessions.
 pub fn session_sizes(alloc: Global, words: &[String]) -> Result<Option<Vec<u32>>, AllocError>
     ensures sizes { IfOk result (λ sizes. MatchOption sizes (¬ (AskForSessions (bytes_of_words words.now)))
         (λ sizes. AskFor (bytes_of_words words.now) sizes.items)) }

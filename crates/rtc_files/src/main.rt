@@ -1,4 +1,4 @@
-//! Sends a file in pieces, over sessions that break off, and writes what came.
+//! Sends a file in pieces, over sessions that break off, and writes what was received.
 #![tactic(auto)]
 
 mod asking;

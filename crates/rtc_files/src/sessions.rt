@@ -5,7 +5,7 @@ ghost use Rattle.rtc_files.specs.Sessions.{front_sent, EndIsTaken, CanGoOn, Send
 use rtc_file_records::{FileError, FileReceiver, FileRecord, FileSender};
 use std::alloc::Global;
 
-// One record goes over; false where none is left.
+// Passes one record on; false if none is left.
 fn send_record(
     alloc: Global,
     sender: &mut FileSender<'_>,

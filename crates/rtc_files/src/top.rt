@@ -23,7 +23,7 @@ use std::alloc::Global;
 /// The status of a program that ran out of memory.
 pub const OUT_OF_MEMORY: u8 = 6;
 
-// Sends a file that was read, and writes what came over.
+// Sends a file that was read, and writes what was received.
 fn send_and_write<W: Sink>(alloc: Global, file: &[u8], sizes: &[u32], output: &mut W) -> u8
     ensures whole { result ≡ 0 → WritesWhole file.now sizes.now (W.written output.old) (W.written output.new) }
     ensures front { result ≡ 8 → WritesFront file.now sizes.now (W.written output.old) (W.written output.new) }
@@ -43,10 +43,10 @@ fn send_and_write<W: Sink>(alloc: Global, file: &[u8], sizes: &[u32], output: &m
     }
 }
 
-/// Reads a file from `input`, sends it to a receiver in the sessions that the words ask for, and writes what came over to
-/// `output`; answers the status to end with.
+/// Reads a file from `input`, sends it to a receiver in the sessions that the words ask for, and writes what was
+/// received to `output`. Returns the status.
 ///
-/// A fault of the sink (5) may come in place of any other status, and out of memory (6) in place of any but 2.
+/// A fault of the sink (5) may replace any other status, and out of memory (6) any but 2.
 pub fn file_main<R: Source, W: Sink>(
     alloc: Global,
     words: &[String],

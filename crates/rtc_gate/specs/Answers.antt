@@ -1,4 +1,4 @@
--- What the program does and answers.
+-- What the program does and returns.
 use Rattle.std.specs.Prelude.{◌≡◌, ℕ, List, codes, Option}
 use Rattle.std.specs.Io.KnownBytes.{Appends}
 use Rattle.rtc_io.specs.Programs.{Program, ReadsInput}
@@ -17,7 +17,7 @@ pub record AreRepliesTo (calls : List GateCall) (text : List ℕ) : Type 0 where
   pub runs : RunsCalls calls replies gate
   pub is : text ≡ reply_lines replies
 
--- the texts of the program: it reads scripts, and answers each with the replies to its calls
+-- the texts of the program: it reads scripts, and prints for each the replies to its calls
 abbrev pub gate_program : Program (List GateCall)
 gate_program = record {
   usage = codes "usage: rtc_gate run\n";

@@ -32,11 +32,11 @@ AreFirstCallLines (first ∷ lines) calls = (first ≡ gate_header) × HaveCallL
 abbrev pub BeginsGateScript : List (List ℕ) → ℕ → Type 0
 BeginsGateScript cut count = (count < length cut) × ((calls : List GateCall) × AreFirstCallLines (take count cut) calls)
 
--- the least line that may not stand behind those before it
+-- the least line that may not follow those before it
 abbrev pub IsLeastRefused : List (List ℕ) → ℕ → Type 0
 IsLeastRefused cut n = ((k : ℕ) → k < n → BeginsGateScript cut k) × (BeginsGateScript cut n → ⊥)
 
--- pieces are refused at their least refused line, exactly where they are of no script; a number past 2 ^ 32 - 1 is told as that
+-- pieces are refused at their least refused line, exactly if they are of no script; a number past 2 ^ 32 - 1 is reported as that
 abbrev pub AreRefusedPieces : List (List ℕ) → ScriptError → Type 0
 AreRefusedPieces cut (Line told) =
     ((calls : List GateCall) → AreGatePieces cut calls → ⊥) × ((n : ℕ) × IsLeastRefused cut n × (told ≡ min n (2 ^ 32 - 1)))

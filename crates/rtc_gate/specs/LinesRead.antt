@@ -1,4 +1,4 @@
--- Where the lines behind a header stop being lines of calls.
+-- The place at which the lines behind a header stop being lines of calls.
 use Rattle.std.specs.Prelude.{ℕ, List}
 use Rattle.rtc_gate.specs.GateScript.{StopsAt}
 use Rattle.rtc_gate.specs.declared.call_lines.LinesError.{LinesError}

@@ -1,4 +1,4 @@
-//! Reads a script of calls of a signalling gateway, performs it, and prints what each call answers.
+//! Reads a script of calls of a signalling gateway, performs it, and prints what each call returns.
 #![tactic(auto)]
 
 mod asking;

@@ -4,7 +4,7 @@ ghost use Rattle.rtc_gate_frames.specs.Signal.{utf8_text_in as text_of_word};
 
 use std::str;
 
-/// A word as a text, where it is UTF-8.
+/// A word as a text, if it is UTF-8.
 pub fn utf8_text_in(word: &[u8]) -> Option<&str>
     ensures { option_map (λ text. text.now) result ≡ text_of_word word.now }
 {

@@ -10,7 +10,7 @@ use rtc_wire::Seq;
 use rtc_wire_text::pieces;
 use std::alloc::Global;
 
-// The number of a line, as far as a `u32` goes.
+// The number of a line, at most `u32::MAX`.
 fn line_number(n: usize) -> u32
     ensures { result ≡ min n (2 ^ 32 - 1) }
 {
@@ -23,7 +23,7 @@ fn is_header(line: &[u8]) -> bool
     line == b"str0m-gate 1".as_slice()
 }
 
-// Reads the lines of a text; `end` is what stands behind the last line feed.
+// Reads the lines of a text; `end` is what is behind the last line feed.
 fn read_pieces(alloc: Global, lines: &[&[u8]], end: &[u8]) -> Result<Seq<GateCall>, ScriptError>
     ensures some { IfOk result (λ calls. AreGatePieces (map (λ line. line.now) lines.now ++ end.now ∷ []) calls) }
     ensures none { IfErr result (λ error. AreRefusedPieces (map (λ line. line.now) lines.now ++ end.now ∷ []) error) }

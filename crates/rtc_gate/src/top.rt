@@ -33,9 +33,9 @@ fn perform_calls<W: Sink>(alloc: Global, calls: &[GateCall], output: &mut W) -> 
     say(output, text.as_slice(), 0)
 }
 
-/// Reads a script of calls from `input`, performs them on a gateway, and writes the replies to `output`; answers the status to end with.
+/// Reads a script of calls from `input`, performs them on a gateway, writes the replies to `output`, and returns the status.
 ///
-/// A fault of the sink (5) may come in place of any other status, and `OUT_OF_MEMORY` (6) in place of any but 2.
+/// A fault of the sink (5) may replace any other status, and `OUT_OF_MEMORY` (6) any but 2.
 pub fn gate_main<R: Source, W: Sink>(
     alloc: Global,
     words: &[String],

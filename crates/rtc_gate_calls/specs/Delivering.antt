@@ -31,7 +31,7 @@ after_parcels parcels connection = record {
   queue = connection.queue ++ frames_for connection.number parcels;
 }
 
--- A delivery of one frame knows where its connection stands, whose queue has room for so many more.
+-- A delivery of one frame knows the place of its connection, whose queue has room for so many more.
 pub record IsPlaced (connections : List ConnectionState) (more : ℕ) (delivery : Delivery) : Type 0 where
   pub one : length delivery.frames ≡ 1
   pub there : IsSomeAnd (slice_get connections delivery.place) (λ connection. (connection.number ≡ delivery.to)
@@ -45,13 +45,13 @@ pub record ArePlaced (connections : List ConnectionState) (deliveries : List Del
   pub numbered : AreNumbered 0 connections (2 ^ 32)
   pub each : EachPlaced connections (length deliveries) deliveries
 
--- The frames of a sender can be sent on: the numbers rise, the map finds each name, and the sender stands at its place.
+-- The frames of a sender can be sent on: the numbers rise, the map finds each name, and the sender is at its place.
 pub record CanRoute (connections : List ConnectionState) (names : BTreeMap (List ℕ) ℕ) (sender : Sender) : Type 0 where
   pub numbered : AreNumbered 0 connections (2 ^ 32)
   pub index : IsIndex names (roster_of connections)
   pub there : IsSomeAnd (slice_get connections sender.place) (λ connection. connection.number ≡ sender.number)
 
--- The bytes of a sender are split: what goes out, what follows the whole frames, and whether that may come in.
+-- The bytes of a sender are split: what is sent, what follows the whole frames, and whether that may be received.
 pub record Sorts (connections : List ConnectionState) (sender : Sender) (bytes : List ℕ) (sorted : Sorted) : Type 0 where
   pub parcels : map parcel_of sorted.deliveries.items
       ≡ map parcel_with (map (letter_of (roster_of connections) sender.number sender.name) (signals_in bytes))
@@ -67,7 +67,7 @@ HasRoom connections sender piece =
     IsSomeAnd (slice_get connections sender.place) (λ connection. (connection.name ≡ sender.name)
     × (connection.incoming.done + length connection.incoming.kept + length piece < 2 ^ 64))
 
--- The connection with a number stands at a place.
+-- The connection with a number is at a place.
 pub record IsAt (connections : List ConnectionState) (place number : ℕ) : Type 0 where
   pub numbered : AreNumbered 0 connections (2 ^ 32)
   pub there : IsSomeAnd (slice_get connections place) (λ connection. connection.number ≡ number)
@@ -83,7 +83,7 @@ with_piece piece connection = record connection { incoming = record connection.i
 abbrev pub cut_to : ℕ → ConnectionState → ConnectionState
 cut_to count connection = record connection { incoming = record connection.incoming { kept = take count connection.incoming.kept } }
 
--- the stream without so many bytes at the front of what is kept, and without the rest where it is stuck
+-- the stream without so many bytes at the front of what is kept, and without the rest if it is stuck
 abbrev pub advanced : ℕ → Bool → ConnectionState → ConnectionState
 advanced size stuck connection = record connection {
   incoming =

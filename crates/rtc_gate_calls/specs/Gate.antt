@@ -16,7 +16,7 @@ abbrev pub HaveOwnNames : List (ℕ × List ℕ) → Type 0
 HaveOwnNames [] = Unit {0}
 HaveOwnNames (entry ∷ roster) = (number_named roster entry.1 ≡ None) × HaveOwnNames roster
 
--- the map finds a name where the roster has it
+-- the map finds the place that a name has in the roster
 abbrev pub IsIndex : BTreeMap (List ℕ) ℕ → List (ℕ × List ℕ) → Type 0
 IsIndex names roster = (name : List ℕ) → get (slice_cmp nat_cmp) names name ≡ number_named roster name
 

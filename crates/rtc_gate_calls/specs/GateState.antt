@@ -1,4 +1,4 @@
--- The state of the gateway, and what each call answers and leaves.
+-- The state of the gateway, and what each call returns and leaves.
 use Rattle.std.specs.Prelude.{
   ◌≡◌,
   ℕ,
@@ -32,8 +32,8 @@ use Rattle.rtc_gate_calls.specs.Routing.{Letter, join_answer, letter_of, mail_fo
 use Rattle.rtc_gate_calls.specs.declared.gate_error.GateError.{GateError}
 use Rattle.rtc_gate_calls.specs.declared.gate_error.GateError.TheVariants.{BadName, NameTaken, Full, NoSuch, BadFrame, Alloc}
 
--- A stream that came in so far: how many bytes its whole frames have, the bytes of the next one that are there, and whether it is
--- stuck at what may not come in.
+-- A stream that was received so far: how many bytes its whole frames have, the bytes of the next one that are there, and whether it is
+-- stuck at what is no incoming frame.
 pub record Incoming : Type 0 where
   pub done : ℕ
   pub kept : List ℕ
@@ -85,7 +85,7 @@ resumed incoming piece = if incoming.stuck then incoming else incoming_behind in
 abbrev pub arriving : Incoming → List ℕ → List Signal
 arriving incoming piece = if incoming.stuck then [] else signals_in (incoming.kept ++ piece)
 
--- how many frames became whole, or where the stream is stuck
+-- how many frames became whole, or the place at which the stream is stuck
 abbrev pub fed_answer : Incoming → List Signal → Result ℕ GateError
 fed_answer incoming signals = if incoming.stuck then Err (BadFrame incoming.done) else Ok (length signals)
 
@@ -147,7 +147,7 @@ after_feed gate number piece = record {
 abbrev pub after_take : GateState → ℕ → GateState
 after_take gate number = record { joined = gate.joined; connections = map (without_first number) gate.connections }
 
--- what each call on a connection answers
+-- what each call on a connection returns
 abbrev pub leave_answer : Option ConnectionState → Result Unit GateError
 leave_answer None = Err NoSuch
 leave_answer (Some connection) = Ok tt
@@ -160,7 +160,7 @@ abbrev pub take_answer : Option ConnectionState → Result (Option (List ℕ)) G
 take_answer None = Err NoSuch
 take_answer (Some connection) = Ok (slice_get connection.queue 0)
 
--- The answer is the expected one and what was `old` is as it is expected; or memory ran out, and it is as it was.
+-- The result is the expected one and what was `old` is as it is expected; or memory ran out, and it is unchanged.
 abbrev pub IsAnswered : {T S : Type 0} → Result T GateError → Result T GateError → S → S → S → Type 0
 IsAnswered (Ok answer) expected old new after = (expected ≡ Ok answer) × (new ≡ after)
 IsAnswered (Err BadName) expected old new after = (expected ≡ Err BadName) × (new ≡ after)

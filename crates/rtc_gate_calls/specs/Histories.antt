@@ -27,8 +27,8 @@ abbrev pub NeverRanOut : List GateEvent → Type 0
 NeverRanOut [] = Unit {0}
 NeverRanOut (event ∷ past) = (ran_out event.reply ≡ false) × NeverRanOut past
 
--- What a past leaves to each connection: one that is here took what is due to it, up to what waits for it; one that has left took a
--- front of what was due; and the stream of one that is here is read as if it had come in one piece.
+-- What a past leaves to each connection. One that is here took what is due to it, up to what waits for it. One that has left took a front
+-- of what was due. The stream of one that is here is read as if it had been received in one piece.
 pub record DeliversDue (past : List GateEvent) : Type 0 where
   pub here : (number : ℕ) (connection : ConnectionState) → connection_numbered (gate_after past).connections number ≡ Some connection
       → frames_taken number past ++ connection.queue ≡ due number past

@@ -1,5 +1,5 @@
--- What a past of calls says of each connection, by the calls and replies alone: the stream that came in, the frames that were taken,
--- and those that were due. No state of a gate and no queue occurs in it.
+-- What a past of calls says of each connection, by the calls and replies alone: the received stream, the frames that were taken, and those
+-- that were due. No state of a gate and no queue occurs in it.
 use Rattle.std.specs.Prelude.{
   ◌≡◌,
   ◌==◌,
@@ -37,7 +37,7 @@ pub record GateEvent : Type 0 where
   pub call : GateCall
   pub reply : GateReply
 
--- the calls of a past, and its replies, in the order in which they came
+-- the calls of a past, and its replies, in order
 abbrev pub calls_made : List GateEvent → List GateCall
 calls_made [] = []
 calls_made (event ∷ past) = calls_made past ++ event.call ∷ []
@@ -81,7 +81,7 @@ is_bad_frame NoSuch = false
 is_bad_frame (BadFrame at) = true
 is_bad_frame Alloc = false
 
--- whether a piece came in: it was refused neither for lack of memory nor because nobody has the number
+-- whether a piece was received: it was refused neither for lack of memory nor because nobody has the number
 abbrev pub came_in : GateReply → Bool
 came_in (Joined number) = false
 came_in Left = false
@@ -96,7 +96,7 @@ bytes_from number (Leave other) reply = []
 bytes_from number (Feed sender piece) reply = if came_in reply && sender == number then piece else []
 bytes_from number (Take other) reply = []
 
--- the pieces of a connection that came in, joined
+-- the received pieces of a connection, joined
 abbrev pub stream_from : ℕ → List GateEvent → List ℕ
 stream_from number [] = []
 stream_from number (event ∷ past) = stream_from number past ++ bytes_from number event.call event.reply

@@ -36,7 +36,7 @@ abbrev pub took_reply : Result (Option (List ℕ)) GateError → GateReply
 took_reply (Ok frame) = Took frame
 took_reply (Err error) = Refused error
 
--- what a call is answered, running out of memory aside
+-- what a call returns, running out of memory aside
 abbrev pub reply_to : GateState → GateCall → GateReply
 reply_to gate (Join name) = joined_reply (join_answer gate.joined (roster_of gate.connections) name)
 reply_to gate (Leave number) = left_reply (leave_answer (connection_numbered gate.connections number))
@@ -66,7 +66,7 @@ ran_out (Fed count) = false
 ran_out (Took frame) = false
 ran_out (Refused error) = is_alloc error
 
--- the gate behind a call with its reply: as it was where memory ran out
+-- the gate behind a call with its reply: unchanged if memory ran out
 abbrev pub gate_behind : GateState → GateCall → GateReply → GateState
 gate_behind gate call reply = if ran_out reply then gate else after_call gate call
 

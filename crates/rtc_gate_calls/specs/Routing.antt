@@ -1,4 +1,4 @@
--- Where the gateway sends a frame. The roster is the connections that are here: the number and the name of each.
+-- To which connection the gateway sends a frame. The roster is the connections that are here: the number and the name of each.
 use Rattle.std.specs.Prelude.{
   ℕ,
   ◌==◌,
@@ -34,12 +34,12 @@ abbrev pub number_named : List (ℕ × List ℕ) → List ℕ → Option ℕ
 number_named [] name = None
 number_named (entry ∷ roster) name = if bytes_eq entry.1 name then Some entry.0 else number_named roster name
 
--- a connection may join under a name that nobody has, where fewer than 1024 are here
+-- a connection may join under a name that nobody has, if fewer than 1024 are here
 abbrev pub admission : ℕ → List (ℕ × List ℕ) → Option ℕ → Result ℕ GateError
 admission next roster (Some taken) = Err NameTaken
 admission next roster None = if nat_le 1024 (length roster) then Err Full else Ok next
 
--- the answer to a join where `next` connections joined before
+-- the reply to a join if `next` connections joined before
 abbrev pub join_answer : ℕ → List (ℕ × List ℕ) → List ℕ → Result ℕ GateError
 join_answer next roster name = if is_short_token name then admission next roster (number_named roster name) else Err BadName
 
@@ -54,11 +54,11 @@ holds_description NotInGrammar = false
 abbrev pub is_ungrammatical : Signal → Bool
 is_ungrammatical signal = holds_description signal.kind && not (is_description signal.text)
 
--- what goes back to the sender: why, the name that it wrote to, and no text
+-- what is sent back to the sender: why, the name that it wrote to, and no text
 abbrev pub returned : SignalKind → Signal → Signal
 returned why signal = record { kind = why; name = signal.name; text = [] }
 
--- a frame that goes out, and the number of the connection that it is for
+-- a frame that is sent, and the number of the connection that it is for
 pub record Letter : Type 0 where
   pub to : ℕ
   pub frame : List ℕ
@@ -71,7 +71,7 @@ addressed (Some number) sender name signal = record {
 }
 addressed None sender name signal = record { to = sender; frame = signal_bytes (returned NobodyThere signal) }
 
--- the frame that a signal of a sender goes out as: to the connection that has its name, with the sender's name in its place, or back
+-- the frame that a signal of a sender is sent as: to the connection that has its name, with the sender's name in its place, or back
 abbrev pub letter_of : List (ℕ × List ℕ) → ℕ → List ℕ → Signal → Letter
 letter_of roster sender name signal =
     if is_ungrammatical signal then record { to = sender; frame = signal_bytes (returned NotInGrammar signal) }

@@ -57,7 +57,7 @@ pub fn take_from(connections: &mut [Connection], conn: u32) -> Result<Option<Byt
     Ok(next_at(connections, place))
 }
 
-// Takes the connection at a place out, and answers its name.
+// Takes the connection at a place out, and returns its name.
 #[tactic(auto, using(crate::proofs::ConnectionLemmas::got))]
 fn take_out(connections: &mut Vec<Connection>, place: usize) -> ShortToken
     requires { place < length connections.old.items }
@@ -68,7 +68,7 @@ fn take_out(connections: &mut Vec<Connection>, place: usize) -> ShortToken
     connection.name()
 }
 
-/// Lets a connection go, and answers its name.
+/// Drops a connection, and returns its name.
 pub fn leave_from(connections: &mut Vec<Connection>, conn: u32) -> Result<ShortToken, NotHere>
     requires { AreNumbered 0 connections.old.items (2 ^ 32) }
     ensures name { MatchResult result (λ name. (connection : ConnectionState)
@@ -83,7 +83,7 @@ pub fn leave_from(connections: &mut Vec<Connection>, conn: u32) -> Result<ShortT
     Ok(name)
 }
 
-/// Whether the stream of a connection stays shorter than 2^64 bytes with so many more; true where nobody has the number.
+/// Whether the stream of a connection stays shorter than 2^64 bytes with so many more; true if nobody has the number.
 pub fn room_for(connections: &[Connection], conn: u32, count: usize) -> bool
     requires { AreNumbered 0 connections.now (2 ^ 32) }
     ensures { IsTrue result → IfSome (connection_numbered connections.now conn)

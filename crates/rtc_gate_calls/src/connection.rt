@@ -1,4 +1,4 @@
-//! One connection: the stream that comes in, and the frames that wait for it.
+//! One connection: the received stream, and the frames that wait for it.
 ghost use Rattle.std.specs.Prelude.{
   ◌≡◌,
   ℕ,
@@ -26,7 +26,7 @@ use std::alloc::{AllocError, Global};
 use std::collections::LinkedList;
 use std::marker::Model;
 
-/// One connection: the stream that comes in, and the frames that wait for it.
+/// One connection: the received stream, and the frames that wait for it.
 #[derive(Drop)]
 pub struct Connection {
     number: u32,
@@ -114,7 +114,7 @@ impl Connection {
         self.kept.truncate(count);
     }
 
-    /// Lets the whole frames at the front of what is kept go, and the rest too where the stream is stuck.
+    /// Drops the whole frames at the front of what is kept, and the rest too if the stream is stuck.
     pub fn advance(&mut self, size: usize, stuck: bool)
         requires within { size ≤ length self.old.incoming.kept }
         requires fits { self.old.incoming.done + size < 2 ^ 64 }

@@ -89,7 +89,7 @@ impl Gate {
         }
     }
 
-    /// A connection leaves. What waits for it goes.
+    /// A connection leaves. What waits for it is dropped.
     pub fn leave(&mut self, conn: u32) -> Result<(), GateError>
         ensures { IsAnswered result (leave_answer (connection_numbered self.old.connections conn)) self.old self.new
             (after_leave self.old conn) }
@@ -114,7 +114,7 @@ impl Gate {
         }
     }
 
-    /// A piece of the stream of a connection comes in, and the frames that become whole are sent on. Answers how many these are.
+    /// Receives a piece of the stream of a connection; the frames that become whole are sent on. Returns how many these are.
     pub fn feed(&mut self, conn: u32, piece: &[u8]) -> Result<u32, GateError>
         requires { IfSome (connection_numbered self.old.connections conn)
             (λ connection. connection.incoming.done + length connection.incoming.kept + length piece.now < 2 ^ 64) }
@@ -136,7 +136,7 @@ impl Gate {
         self.joined
     }
 
-    /// Whether a connection's stream stays shorter than 2^64 bytes with so many more; true where nobody has the number.
+    /// Whether a connection's stream stays shorter than 2^64 bytes with so many more; true if nobody has the number.
     pub fn has_room(&self, conn: u32, count: usize) -> bool
         ensures { IsTrue result → IfSome (connection_numbered self.now.connections conn)
             (λ connection. connection.incoming.done + length connection.incoming.kept + count < 2 ^ 64) }

@@ -8,7 +8,7 @@ pub enum GateCall {
     Join { name: Text },
     /// A connection leaves.
     Leave { conn: u32 },
-    /// A piece of a connection's stream comes in.
+    /// A piece of a connection's stream is received.
     Feed { conn: u32, piece: Bytes },
     /// A connection takes the frame that waited longest for it.
     Take { conn: u32 },

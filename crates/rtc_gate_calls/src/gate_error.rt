@@ -20,7 +20,7 @@ pub enum GateError {
     /// The connection never joined, or has left.
     #[error("no such connection")]
     NoSuch,
-    /// The stream goes on, behind so many bytes, with what is no frame that may come in. The stream cannot be taken up again.
+    /// Behind so many bytes the stream has what is no incoming frame. The stream cannot be taken up again.
     #[error("bad frame behind {at} bytes")]
     BadFrame { at: u64 },
     /// There was too little memory; the call did nothing.

@@ -1,11 +1,11 @@
-//! Answers of a gateway, as values.
+//! Results of a gateway, as values.
 ghost use Rattle.std.specs.Prelude.{◌≡◌};
 ghost use Rattle.rtc_gate_calls.specs.Replies.{ran_out};
 
 use crate::GateError;
 use rtc_wire::Bytes;
 
-/// What a call of a gateway answers.
+/// What a call of a gateway returns.
 #[derive(Debug, PartialEq, Eq, Drop)]
 pub enum GateReply {
     /// The number that a connection got.

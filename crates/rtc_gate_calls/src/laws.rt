@@ -12,8 +12,8 @@ pub fn due_is_delivered()
     ensures { (past : List GateEvent) → WereAnswered past → DeliversDue past }
 {}
 
-/// Two lists of calls that differ only in how one feed was cut into neighbouring feeds leave the same gate, queues and all, where
-/// memory ran out in none.
+/// Two lists of calls that differ only in how one feed was cut into neighbouring feeds leave the same gate, queues and
+/// all, if memory ran out in neither.
 pub fn same_wherever_cut()
     ensures { (past cut : List GateEvent) → NeverRanOut past → NeverRanOut cut → AreCutApart (calls_made past) (calls_made cut)
         → gate_after past ≡ gate_after cut }

@@ -41,7 +41,7 @@ fn took_reply(answer: Result<Option<Bytes>, GateError>) -> GateReply
     }
 }
 
-/// Whether a gate can perform a call: fewer than 2^32 joined before, and the stream that a piece belongs to stays shorter than 2^64.
+/// Whether a gate can perform a call: fewer than 2^32 joined before, and the stream of a piece stays shorter than 2^64.
 pub fn can_perform(gate: &Gate, call: &GateCall) -> bool
     ensures { IsTrue result → spec.IsPossible gate.now call.now }
 {

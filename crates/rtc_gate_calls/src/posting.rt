@@ -1,4 +1,4 @@
-//! Where a frame that came in goes.
+//! The connection that a received frame is for.
 ghost use Rattle.std.specs.Prelude.{◌≡◌, ◌<◌, ◌^◌, [], ◌∷◌, IfOk, IsSomeAnd, slice_get, length};
 ghost use Rattle.rtc_gate_frames.specs.Signal.{signal_of, signal_bytes};
 ghost use Rattle.rtc_gate_calls.specs.Routing.{is_ungrammatical as IsUngrammatical, letter_of};
@@ -64,7 +64,7 @@ fn post(
     Ok(Delivery { to, place, frames })
 }
 
-/// The frame that goes out for one that came in, to the connection that has its name or back to the sender.
+/// The frame that is sent for a received one, to the connection of its name or back to the sender.
 pub fn route(
     alloc: Global,
     connections: &[Connection],

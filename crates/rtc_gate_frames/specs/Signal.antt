@@ -37,7 +37,7 @@ kind_byte Candidate = 3
 kind_byte NobodyThere = 4
 kind_byte NotInGrammar = 5
 
--- the kind of a frame that comes in
+-- the kind of an incoming frame
 abbrev pub incoming_kind : ℕ → Option SignalKind
 incoming_kind byte =
     if byte == 1 then Some Offer
@@ -70,12 +70,12 @@ utf8_text_in bytes = if is_utf8 bytes then Some bytes else None
 abbrev pub signal_name_in : List ℕ → Option (List ℕ)
 signal_name_in bytes = if is_short_token bytes then Some bytes else None
 
--- a kind that may come in, a name of 1 to 32 token characters, and a text in UTF-8
+-- a kind of incoming frames, a name of 1 to 32 token characters, and a text in UTF-8
 abbrev pub signal_with : Option SignalKind → Option (List ℕ) → Option (List ℕ) → Option Signal
 signal_with (Some kind) (Some name) (Some text) = Some (record { kind = kind; name = name; text = text })
 signal_with _ _ _ = None
 
--- what a body says, where it may come in
+-- what a body says, if it is that of an incoming frame
 abbrev pub signal_in : List ℕ → Option Signal
 signal_in [] = None
 signal_in (kind ∷ []) = None

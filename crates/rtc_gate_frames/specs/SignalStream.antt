@@ -4,7 +4,7 @@ use Rattle.rtc_gate_frames.specs.declared.extent.FrameExtent.{FrameExtent}
 use Rattle.rtc_gate_frames.specs.declared.extent.FrameExtent.TheVariants.{Partial, OutOfRange, Whole}
 use Rattle.rtc_gate_frames.specs.Signal.{Signal, signal_in, frame_extent}
 
--- what stands at the front of a stream: less than a whole frame, what may not come in, or a frame of so many bytes
+-- what is at the front of a stream: less than a whole frame, no incoming frame, or a frame of so many bytes
 pub data SignalFront : Type 0 where
   Unfinished : SignalFront
   Malformed : SignalFront
@@ -59,11 +59,11 @@ signals_in bytes = (split_of bytes).signals
 abbrev pub tail_of : List ℕ → List ℕ
 tail_of bytes = (split_of bytes).tail
 
--- what follows them may not come in
+-- what follows them is no incoming frame
 abbrev pub is_malformed : List ℕ → Bool
 is_malformed bytes = is_malformed_front (signal_front (tail_of bytes))
 
--- a stream may be cut anywhere: what is left of its front stands before what comes later
+-- a stream may be cut anywhere: what is left of its front is before what follows later
 pub record IsCutAnywhere (front later : List ℕ) : Type 0 where
   pub signals : signals_in (front ++ later) ≡ signals_in front ++ signals_in (tail_of front ++ later)
   pub tail : tail_of (front ++ later) ≡ tail_of (tail_of front ++ later)

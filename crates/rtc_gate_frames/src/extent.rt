@@ -6,9 +6,9 @@ ghost use Rattle.rtc_gate_frames.specs.Signal as spec;
 /// How much of the first frame of a stream is there, by the length that it begins with.
 #[derive(Clone, Copy, Debug, PartialEq, Eq)]
 pub enum FrameExtent {
-    /// Some of its bytes are still to come.
+    /// Some of its bytes are still missing.
     Partial,
-    /// Its length is not that of a body that may come in.
+    /// Its length is not that of an incoming body.
     OutOfRange,
     /// All of it: so many bytes, those of the length among them.
     Whole(usize),

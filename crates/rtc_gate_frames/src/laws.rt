@@ -2,7 +2,7 @@
 ghost use Rattle.std.specs.Prelude.{◌≡◌, ◌++◌, List, ℕ};
 ghost use Rattle.rtc_gate_frames.specs.SignalStream.{IsCutAnywhere};
 
-/// A stream has the frames of its front, and behind them those of what is left with what comes later.
+/// A stream has the frames of its front, and behind them those of the rest with what follows later.
 pub fn frames_wherever_cut()
     ensures { (front later : List ℕ) → IsCutAnywhere front later }
 {}

@@ -36,7 +36,7 @@ fn frame_with<'a>(kind: SignalKind, name: &[u8], text: &'a [u8]) -> Option<Signa
     }
 }
 
-/// The frame that a body is, where it may come in.
+/// Parses an incoming frame from its body.
 pub fn frame_in(body: &[u8]) -> Option<SignalFrame>
     ensures signal { option_map spec.signal_of result ≡ spec.signal_in body.now }
     ensures short { IfSome result (λ frame. length frame.text.now ≤ length body.now) }

@@ -31,7 +31,7 @@ impl SignalKind {
         }
     }
 
-    /// The kind that a byte says in a frame that comes in.
+    /// The kind that a byte denotes in an incoming frame.
     pub fn incoming(byte: u8) -> Option<SignalKind>
         ensures { result ≡ spec.incoming_kind byte }
     {

@@ -1,21 +1,21 @@
-//! What stands at the front of a stream.
+//! The front of a stream.
 ghost use Rattle.std.specs.Prelude.{◌≡◌};
 ghost use Rattle.rtc_gate_frames.specs.ReadFront.{IsReadFront};
 
 use crate::{FrameExtent, SignalFrame, frame_extent, frame_in};
 
-/// What stands at the front of a stream.
+/// What is at the front of a stream.
 #[derive(Debug, Drop)]
 pub enum StreamFront<'a> {
     /// Less than a whole frame.
     Unfinished,
-    /// What may not come in.
+    /// No incoming frame.
     Malformed,
     /// A frame, and how many bytes it has with those of its length.
     Arrived(SignalFrame<'a>, usize),
 }
 
-/// What stands at the front of a stream. The work is in the bytes of one frame, and none where it is not whole.
+/// What is at the front of a stream. The work is in the bytes of one frame, and none if it is not whole.
 #[tactic(auto, unfolding(crate::specs::SignalStream::signal_front))]
 pub fn read_front(bytes: &[u8]) -> StreamFront<'_>
     ensures { IsReadFront result bytes.now }

@@ -1,4 +1,4 @@
--- What the program does and answers.
+-- What the program does and returns.
 use Rattle.std.specs.Prelude.{◌≡◌, ◌≤◌, ◌^◌, ◌⊎◌, ℕ, Bool, List, [], ◌∷◌, length, codes, Option, Some, None}
 use Rattle.std.specs.declared.alloc.Global.{Global}
 use Rattle.std.specs.Io.KnownBytes.{Appends}
@@ -14,7 +14,7 @@ use Rattle.rtc_pair.specs.Performed.{IsReport, PerformsScript}
 abbrev pub run_words : List (List ℕ)
 run_words = codes "run" ∷ []
 
--- the texts of the program: it reads scripts, and answers each with the report of its run
+-- the texts of the program: it reads scripts, and prints for each the report of its run
 abbrev pub script_program : Global → Program Script
 script_program alloc = record {
   usage = codes "usage: rtc_pair run | rtc_pair demo N S\n";
@@ -39,12 +39,12 @@ pub record RunsScript (alloc : Global) (lacking : Bool) (left left' written writ
   pub read : ReadsInput left left' (λ bytes. IsScript bytes script)
   pub performs : PerformsScript alloc lacking script written written' last
 
--- what is left of a source is known to be a script that is not too long
+-- what is left of the input is known to be a script that is not too long
 abbrev pub TellsScript : Option (List ℕ) → Type 0
 TellsScript None = ⊥
 TellsScript (Some bytes) = (length bytes ≤ 2 ^ 20) × ((script : Script) × IsScript bytes script)
 
--- A script is performed, unless memory runs out, where neither the source nor the sink fails.
+-- A script is performed, unless memory runs out, if neither the source nor the sink fails.
 abbrev pub CompletesRun : Option (List ℕ) → (faults faults' taken taken' status : ℕ) → Type 0
 CompletesRun left faults faults' taken taken' status =
     TellsScript left → (Rose faults faults' → ⊥) → (Rose taken taken' → ⊥) → (status ≡ 0) ⊎ (status ≡ 6)

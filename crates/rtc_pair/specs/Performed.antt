@@ -26,7 +26,7 @@ use Rattle.rtc_script.specs.declared.script.Script.{Script}
 use Rattle.rtc_script.specs.Settings.{sets_lite, sets_snap, buffer_set, interval_set, max_message_set, role_set}
 use Rattle.rtc_script.specs.declared.setting.Setting.{Setting}
 
--- whether a reply tells that memory ran out
+-- whether a reply reports that memory ran out
 abbrev pub lack_memory : {E : Type 0} → List (Reply E) → Bool
 lack_memory replies = list_any lacks_memory replies
 
@@ -46,12 +46,12 @@ abbrev pub IsPairOf : Global → Script → PlainPairState → Type 0
 IsPairOf alloc script pair =
     IsProgramPair alloc (peer_settings Left script.settings) (peer_settings Right script.settings) pair
 
--- A script was run on the program's pair, which is formed, with these replies, which left this pair, and each description that was made is
--- read back, as it was written where each source was unused when it was drawn. No reply tells that a part failed: those in memory never
--- do. Where no step brings in a text or bytes of anybody, and none rolls an offer back, channels hand out what the other side sent, and of
--- those that were opened in-band each is announced at most once; where the run leaves the pair settled, one that is open at a side, over a
--- stream that both keep, is open at both, and was announced at both. Offers that cross between a polite and an impolite side that are in
--- step meet. A drain shows at most as many outputs as its peer weighs before it.
+-- A script was run on the program's pair, which is formed, with these replies, which left this pair. Each description that was made is read
+-- back as it was written, if each SSRC was unused when it was drawn. No reply reports that a part failed: those in memory never do. If no
+-- step brings in a text or bytes of anybody, and none rolls an offer back, channels hand out what the other side sent, and of those that
+-- were opened in-band each is announced at most once. If the run then leaves the pair settled, a channel that is open at a side, over a
+-- stream that both keep, is open at both, and was announced at both. On glare a polite and an impolite side that are in step meet. A drain
+-- shows at most as many outputs as its peer weighs before it.
 pub record RanScript (alloc : Global) (script : Script) (replies : List (Reply PlainMediaEvent)) (pair : PlainPairState) : Type 0 where
   pub start : PlainPairState
   pub program : IsPairOf alloc script start

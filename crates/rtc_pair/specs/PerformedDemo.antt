@@ -1,4 +1,4 @@
--- What a demo does and tells.
+-- What a demo does and reports.
 use Rattle.std.specs.Prelude.{◌≡◌, ℕ, true, false, List, [], Option, Some}
 use Rattle.std.specs.declared.alloc.Global.{Global}
 use Rattle.std.specs.Io.KnownBytes.{Appends}
@@ -21,15 +21,15 @@ demo_script rounds seed = record { settings = []; steps = demo_steps rounds seed
 abbrev pub demo_text : ℕ → List Step → List (Reply PlainMediaEvent) → List ℕ
 demo_text rounds steps replies = counts_text (counts_in rounds steps replies)
 
--- The lines of a demo were written, no reply tells that memory ran out, and what the steps were performed on is kept.
+-- The lines of a demo were written, no reply reports that memory ran out, and what the steps were performed on is kept.
 pub record TellsCounts {P : Type 0} (rounds : ℕ) (steps : List Step) (replies : List (Reply PlainMediaEvent)) (performed : P)
     (written written' : Option (List ℕ)) (last : Option P) : Type 0 where
   pub told : Appends written written' (demo_text rounds steps replies)
   pub kept : last ≡ Some performed
   pub memory : lack_memory replies ≡ false
 
--- The steps of a demo, which are orderly and roll nothing back, were performed on the program's pair; each of its rounds was finished, and
--- what was counted over the replies was written. The pair is left.
+-- The steps of a demo, which are orderly and roll nothing back, were performed on the program's pair. Each of its rounds was finished, and
+-- the counts over the replies were written. The pair is left.
 pub record PerformsDemo (alloc : Global) (rounds seed : ℕ) (written written' : Option (List ℕ)) (last : Option PlainPairState)
     : Type 0 where
   pub replies : List (Reply PlainMediaEvent)

@@ -27,7 +27,7 @@ fn demo_script(alloc: Global, rounds: u32, seed: u32) -> Result<Script, AllocErr
     })
 }
 
-// Writes what is counted over the replies, where none of them tells that memory ran out, and then keeps what the steps were performed on.
+// Writes the counts over the replies, unless one of them reports that memory ran out, and then keeps what the steps were performed on.
 fn tell_counts<W: Sink, P: Drop>(
     alloc: Global,
     rounds: u32,
@@ -60,8 +60,8 @@ fn tell_counts<W: Sink, P: Drop>(
     0
 }
 
-/// Performs a demo of so many rounds, which a seed determines, on the pair of the program, and writes what is counted over the replies;
-/// answers the status to end with.
+/// Performs a demo of so many rounds, which a seed determines, on the pair of the program; writes the counts over the
+/// replies, and returns the status.
 pub fn perform_demo<W: Sink>(
     alloc: Global,
     rounds: u32,

@@ -1,5 +1,6 @@
-//! Reads a script of steps for two peers, performs it, and prints each reply with the acting peer's lines and channels; or performs a
-//! demo of rounds that a seed determines, and prints what is counted over them.
+//! Reads a script of steps for two peers, performs it, and prints each reply with the acting peer's lines and channels.
+//!
+//! Or performs a demo of rounds that a seed determines, and prints its counts.
 #![tactic(auto)]
 
 mod asking;

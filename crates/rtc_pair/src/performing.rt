@@ -47,7 +47,7 @@ fn report_steps<W: Sink, P: Drop>(
     }
 }
 
-/// Runs a script, and writes its report to `output`; answers the status to end with.
+/// Runs a script, writes its report to `output`, and returns the status.
 pub fn perform_script<W: Sink>(
     alloc: Global,
     script: &Script,

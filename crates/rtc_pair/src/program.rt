@@ -16,11 +16,11 @@ use rtc_io::{Sink, Source, USAGE, say};
 use rtc_run_plain::PlainPair;
 use std::alloc::Global;
 
-/// Does what the words ask for, and answers the status to end with: `run` reads a script from `input`, performs it, and writes its report
-/// to `output`; `demo` with a number of rounds and a seed performs the demo that they settle, and writes what is counted over the replies.
+/// Does what the words ask for, and returns the status. `run` reads a script from `input`, performs it, and writes its
+/// report to `output`. `demo` performs the demo of a number of rounds and a seed, and writes its counts.
 ///
-/// With status 0, and with 6 where a report was written, `last` has the pair on which the steps were performed; else it stays as it
-/// was. A fault of the sink (5) may come in place of any other status, and `OUT_OF_MEMORY` (6) in place of any but 2.
+/// With status 0, and with 6 if a report was written, `last` has the pair on which the steps were performed; else it is
+/// unchanged. A fault of the sink (5) may replace any other status, and `OUT_OF_MEMORY` (6) any but 2.
 pub fn pair_main<R: Source, W: Sink>(
     alloc: Global,
     words: &[String],

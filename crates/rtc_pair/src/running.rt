@@ -11,7 +11,7 @@ use rtc_script::Script;
 use rtc_wire::Seq;
 use std::alloc::{AllocError, Global};
 
-/// Whether a reply tells that memory ran out.
+/// Whether a reply reports that memory ran out.
 pub fn lack_memory(replies: &[Reply<PlainMediaEvent>]) -> bool
     ensures { result ≡ lack_memory replies.now }
 {

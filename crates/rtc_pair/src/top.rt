@@ -10,7 +10,7 @@ use rtc_run_plain::PlainPair;
 use rtc_script::{ScriptError, read_script};
 use std::alloc::Global;
 
-/// Reads a script from `input`, performs it, and writes its report to `output`; answers the status to end with.
+/// Reads a script from `input`, performs it, writes its report to `output`, and returns the status.
 pub fn run_main<R: Source, W: Sink>(
     alloc: Global,
     input: &mut R,

@@ -1,4 +1,4 @@
--- What one report of two lists of replies tells of them.
+-- What one report of two lists of replies says of them.
 use Rattle.std.specs.Prelude.{◌≡◌, ◌<◌, ◌^◌, ◌==◌, ℕ, Bool, false, List, [], ◌∷◌, ◌++◌, map, Option, Some, None}
 use Rattle.std.specs.List.{AllByRecursion, AllZip, list_any}
 use Rattle.rtc_channels.specs.declared.channel_row.ChannelRow.{ChannelRow}
@@ -42,7 +42,7 @@ abbrev pub ends_of : Outcome PlainMediaEvent → List (List ℕ)
 ends_of (Polled outputs end) = end_lines end
 ends_of outcome = []
 
--- the rows and the channels of a table, where there is one
+-- the rows and the channels of a table, if there is one
 abbrev pub rows_of : Option Table → List LineRow
 rows_of None = []
 rows_of (Some table) = table.lines
@@ -66,7 +66,7 @@ pub record IsWhole (reply : Reply PlainMediaEvent) : Type 0 where
 abbrev pub AreReplies : List Step → List (Reply PlainMediaEvent) → Type 0
 AreReplies steps replies = AllZip (λ step reply. IsWhole reply) steps replies
 
--- outcomes of one kind, with one number where they have one; where memory ran out, the words do not tell whether the peer was called
+-- outcomes of one kind, with one number if they have one; if memory ran out, the words do not say whether the peer was called
 abbrev pub AreAlikeOutcomes : Outcome PlainMediaEvent → Outcome PlainMediaEvent → Type 0
 AreAlikeOutcomes (Negotiated answers made) (Negotiated answers' made') = Unit {0}
 AreAlikeOutcomes (Answered k) (Answered j) = k < 2 ^ 64 → j < 2 ^ 64 → k ≡ j

@@ -1,4 +1,4 @@
-//! What the report of a run tells of its replies.
+//! What the report of a run shows of its replies.
 #![tactic(auto)]
 
 mod laws;

@@ -19,7 +19,7 @@ reliability_text Reliable = codes "reliable"
 reliability_text (MaxRetransmits retransmits) = codes "retransmits=" ++ decimal retransmits
 reliability_text (MaxPacketLifetime lifetime) = codes "lifetime=" ++ decimal lifetime
 
--- the stream that both ends settled; none where the open message settles it
+-- the stream of a channel that is negotiated out-of-band; none if the open message determines it
 abbrev pub settled_text : Option ℕ → List ℕ
 settled_text None = codes "inband"
 settled_text (Some stream) = decimal stream

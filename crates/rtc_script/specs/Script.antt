@@ -47,11 +47,11 @@ AreFirstLines (first ∷ lines) script = (first ≡ header) × HaveLines lines s
 abbrev pub BeginsScript : List (List ℕ) → ℕ → Type 0
 BeginsScript cut count = (count < length cut) × ((script : Script) × AreFirstLines (take count cut) script)
 
--- the least line that may not stand behind those before it
+-- the least line that may not follow those before it
 abbrev pub IsRefusedLine : List (List ℕ) → ℕ → Type 0
 IsRefusedLine cut n = ((k : ℕ) → k < n → BeginsScript cut k) × (BeginsScript cut n → ⊥)
 
--- pieces are refused at their least refused line, exactly where they are of no script; a number past 2 ^ 32 - 1 is told as that
+-- pieces are refused at their least refused line, exactly if they are of no script; a number past 2 ^ 32 - 1 is reported as that
 abbrev pub AreRefused : List (List ℕ) → ScriptError → Type 0
 AreRefused cut (Line told) = ((script : Script) → ArePieces cut script → ⊥) × ((n : ℕ) × IsRefusedLine cut n × (told ≡ min n (2 ^ 32 - 1)))
 AreRefused cut Alloc = Unit {0}

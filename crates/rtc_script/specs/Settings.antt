@@ -54,7 +54,7 @@ buffer_by (MaxMessage set) size = size
 buffer_by (Stats millis) size = size
 buffer_by (Polite polite) size = size
 
--- how many bytes a side may buffer by the settings, 131072 where none says so
+-- how many bytes a side may buffer by the settings, 131072 if none says so
 abbrev pub buffer_set : Side → List (Side × Setting) → ℕ
 buffer_set at settings = number_from buffer_by at settings 131072
 
@@ -67,7 +67,7 @@ max_message_by (MaxMessage set) size = set
 max_message_by (Stats millis) size = size
 max_message_by (Polite polite) size = size
 
--- the longest message that a side takes by the settings, 262144 bytes where none says so
+-- the longest message that a side takes by the settings, 262144 bytes if none says so
 abbrev pub max_message_set : Side → List (Side × Setting) → ℕ
 max_message_set at settings = number_from max_message_by at settings 262144
 
@@ -87,11 +87,11 @@ abbrev pub interval_from : Side → List (Side × Setting) → Option ℕ → Op
 interval_from at [] interval = interval
 interval_from at (setting ∷ settings) interval = interval_from at settings (interval_after at setting interval)
 
--- the nanoseconds between two rounds of statistics of a side by the settings; none are reported where none says so
+-- the nanoseconds between two rounds of statistics of a side by the settings; none are reported if none says so
 abbrev pub interval_set : Side → List (Side × Setting) → Option ℕ
 interval_set at settings = interval_from at settings None
 
--- the role where two offers cross by a setting, or else as before
+-- the role on glare by a setting, or else as before
 abbrev pub role_by : Setting → Option Bool → Option Bool
 role_by Lite role = role
 role_by Snap role = role
@@ -107,7 +107,7 @@ abbrev pub role_from : Side → List (Side × Setting) → Option Bool → Optio
 role_from at [] role = role
 role_from at (setting ∷ settings) role = role_from at settings (role_after at setting role)
 
--- the role of a side where two offers cross by the settings; it has none where none says so
+-- the role of a side on glare by the settings; it has none if none says so
 abbrev pub role_set : Side → List (Side × Setting) → Option Bool
 role_set at settings = role_from at settings None
 

@@ -1,4 +1,4 @@
--- Where the lines behind a header stop being lines of settings, and then of steps.
+-- The places at which the lines behind a header stop being lines of settings, and then of steps.
 use Rattle.std.specs.Prelude.{◌+◌, ◌<◌, ◌≤◌, ℕ, List, [], length, take, get_or}
 use Rattle.std.specs.List.{AllZip}
 use Rattle.rtc_script.specs.Lines.{IsSetting}

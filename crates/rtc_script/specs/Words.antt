@@ -40,7 +40,7 @@ abbrev pub keep_text : Bool → List ℕ
 keep_text true = codes "keep"
 keep_text false = codes "new"
 
--- the role of a side where two offers cross
+-- the role of a side on glare
 abbrev pub role_text : Bool → List ℕ
 role_text true = codes "polite"
 role_text false = codes "impolite"

@@ -26,14 +26,14 @@ fn read_order(word: &[u8]) -> Option<bool>
     }
 }
 
-// What stands behind a prefix.
+// What is behind a prefix.
 fn behind<'a>(word: &'a [u8], prefix: &[u8]) -> Option<&'a [u8]>
     ensures { MatchOption result ((rest : List ℕ) → word.now ≢ prefix.now ++ rest) (λ rest. word.now ≡ prefix.now ++ rest.now) }
 {
     word.strip_prefix(prefix)
 }
 
-// The number below 2^16 whose decimal stands behind a prefix.
+// The number below 2^16 whose decimal is behind a prefix.
 fn read_behind(word: &[u8], prefix: &[u8]) -> Option<u16>
     ensures some { IfSome result (λ n. word.now ≡ prefix.now ++ decimal n) }
     ensures none { IfNone result ((n : ℕ) → n < 2 ^ 16 → word.now ≢ prefix.now ++ decimal n) }
@@ -72,7 +72,7 @@ fn read_reliability(word: &[u8]) -> Option<Reliability>
     Some(Reliability::MaxPacketLifetime { lifetime })
 }
 
-// The stream that both ends settled, if they did.
+// The stream, if the channel is negotiated out-of-band.
 #[tactic(auto, using(crate::proofs::ChannelPartLemmas::no_settled))]
 fn read_settled(word: &[u8]) -> Option<Option<u16>>
     ensures some { IfSome result (λ stream. (word.now ≡ settled_text stream) × IsSettled stream) }

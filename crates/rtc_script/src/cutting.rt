@@ -5,7 +5,7 @@ ghost use Rattle.rtc_wire_text.specs.Words.{parts, words};
 
 use std::alloc::{AllocError, Global};
 
-/// The lines of a text, and what stands behind its last line feed.
+/// The lines of a text, and what is behind its last line feed.
 pub fn cut_lines<'a>(alloc: Global, text: &'a [u8]) -> Result<Vec<&'a [u8]>, AllocError>
     ensures pieces { IfOk result (λ cut. map (λ piece. piece.now) cut.items ≡ pieces text.now) }
     ensures some { IfOk result (λ cut. 0 < length cut.items) }

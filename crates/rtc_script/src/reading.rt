@@ -10,7 +10,7 @@ use crate::{Script, ScriptError, cut_lines};
 use rtc_wire::Seq;
 use std::alloc::Global;
 
-// The number of a line, as far as a `u32` goes.
+// The number of a line, at most `u32::MAX`.
 fn line_number(n: usize) -> u32
     ensures { result ≡ min n (2 ^ 32 - 1) }
 {
@@ -41,7 +41,7 @@ fn read_behind(alloc: Global, lines: &[&[u8]]) -> Result<Script, StepsError>
     }
 }
 
-// Reads the lines of a text; `end` is what stands behind the last line feed.
+// Reads the lines of a text; `end` is what is behind the last line feed.
 fn read_pieces(alloc: Global, lines: &[&[u8]], end: &[u8]) -> Result<Script, ScriptError>
     ensures some { IfOk result (λ script. ArePieces (map (λ line. line.now) lines.now ++ end.now ∷ []) script) }
     ensures none { IfErr result (λ error. AreRefused (map (λ line. line.now) lines.now ++ end.now ∷ []) error) }
@@ -63,7 +63,7 @@ fn read_pieces(alloc: Global, lines: &[&[u8]], end: &[u8]) -> Result<Script, Scr
     Ok(script)
 }
 
-/// Reads a script, or answers the first line that is refused.
+/// Reads a script, or returns the first line that is refused.
 pub fn read_script(alloc: Global, bytes: &[u8]) -> Result<Script, ScriptError>
     ensures some { IfOk result (λ script. IsScript bytes.now script) }
     ensures few { length bytes.now ≤ 2 ^ 20 → IfOk result (λ script. steps_size script.steps < 2 ^ 32) }

@@ -8,7 +8,7 @@ use thiserror::Error;
 /// Why bytes are no script.
 #[derive(Clone, Copy, Debug, PartialEq, Eq, Error)]
 pub enum ScriptError {
-    /// The number of the first refused line, counted from 1; `u32::MAX` where it is greater.
+    /// The number of the first refused line, counted from 1; `u32::MAX` if it is greater.
     #[error("script refused at line {0}")]
     Line(u32),
     /// There was too little memory.

@@ -141,7 +141,7 @@ fn read_setting(alloc: Global, line: &[u8]) -> Result<Option<(Side, Setting)>, A
     Ok(read_words(words.as_slice()))
 }
 
-/// The settings that stand in front of all other lines.
+/// The settings in front of all other lines.
 pub fn read_settings(alloc: Global, lines: &[&[u8]]) -> Result<Seq<(Side, Setting)>, AllocError>
     ensures { IfOk result (λ settings. AreAllSettings (map (λ line. line.now) lines.now) settings) }
 {

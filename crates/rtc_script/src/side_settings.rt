@@ -18,9 +18,9 @@ pub struct SideSettings {
     pub max_buffered: usize,
     /// The longest message that it takes, in bytes (RFC 8841, section 6.1).
     pub max_message_size: u32,
-    /// The time between two rounds of statistics, where they are reported.
+    /// The time between two rounds of statistics, if they are reported.
     pub stats_interval: Option<Span>,
-    /// Its role where two offers cross, if one is set: whether it is the polite one (RFC 3264, section 4).
+    /// Its role on glare, if one is set: whether it is the polite one (RFC 3264, section 4).
     pub polite: Option<bool>,
 }
 
@@ -47,7 +47,7 @@ impl SideSettings {
         }
     }
 
-    // A setting counts where it is one of this side.
+    // A setting counts if it is one of this side.
     pub(crate) fn take_at(&mut self, at: Side, setting: &(Side, Setting))
         ensures { self.new ≡ record {
           lite = makes_lite at setting.now || self.old.lite;

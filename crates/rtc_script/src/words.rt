@@ -1,4 +1,4 @@
-//! Words that are told by their letters.
+//! Words that are distinguished by their letters.
 ghost use Rattle.std.specs.Prelude.{◌≡◌, ◌↔◌, IsTrue};
 
 /// Whether a word has these letters.

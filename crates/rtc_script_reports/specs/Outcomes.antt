@@ -14,7 +14,7 @@ use Rattle.rtc_run_history.specs.declared.outcome.Outcome.{Outcome}
 use Rattle.rtc_run_history.specs.declared.outcome.Outcome.TheVariants.{Negotiated, Answered, Finished, Done, Wrote, Polled}
 use Rattle.rtc_run_history.specs.declared.outcome.Outcome.TheVariants.{Refused, NoSuch, Alloc}
 
--- the word where memory ran out
+-- the word for running out of memory
 abbrev pub no_memory : List ℕ
 no_memory = codes "nomemory"
 
@@ -23,7 +23,7 @@ abbrev pub truth_text : Bool → List ℕ
 truth_text true = codes "true"
 truth_text false = codes "false"
 
--- the answer to an op
+-- the result of an operation
 abbrev pub op_answer_text : OpAnswer → List ℕ
 op_answer_text (Mid mid) = mid
 op_answer_text (Changed changed) = truth_text changed
@@ -33,16 +33,16 @@ op_answer_text NoChannel = codes "bad"
 op_answer_text (Creds creds) = creds.ufrag
 op_answer_text OpAlloc = no_memory
 
--- answers behind the first, each behind a comma
+-- results behind the first, each behind a comma
 abbrev pub more_answers : List OpAnswer → List ℕ
 more_answers answers = flat_map (λ answer. codes "," ++ op_answer_text answer) answers
 
--- answers parted by commas; a dash for none
+-- results parted by commas; a dash for none
 abbrev pub answers_text : List OpAnswer → List ℕ
 answers_text [] = codes "-"
 answers_text (first ∷ answers) = op_answer_text first ++ more_answers answers
 
--- the number of the offer that was made; a dash where none was
+-- the number of the offer that was made; a dash if none was
 abbrev pub made_text : Made → List ℕ
 made_text NotAsked = codes "-"
 made_text Nothing = codes "-"

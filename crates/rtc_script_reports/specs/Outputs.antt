@@ -48,7 +48,7 @@ output_line (Event event) = codes "out event " ++ event_text event ++ codes "\n"
 abbrev pub outputs_lines : List (Shown PlainMediaEvent) → List ℕ
 outputs_lines outputs = flat_map output_line outputs
 
--- an error that a poll told: its number, and what it prints
+-- an error that a poll returned: its number, and what it prints
 abbrev pub error_line : RtcError → List ℕ
 error_line (RemoteSdp why) = codes "error 1 " ++ rtc_error_text (RemoteSdp why) ++ codes "\n"
 error_line (Sdp error) = codes "error 2 " ++ rtc_error_text (Sdp error) ++ codes "\n"
@@ -61,13 +61,13 @@ error_line BadChannel = codes "error 8 " ++ rtc_error_text BadChannel ++ codes "
 error_line PeerAlloc = no_memory ++ codes "\n"
 error_line Glare = codes "error 10 " ++ rtc_error_text Glare ++ codes "\n"
 
--- the line of what ended polls; none where that was the last output
+-- the line of what ended polls; none if that was the last output
 abbrev pub end_line : PollEnd → List ℕ
 end_line Ended = []
 end_line (EndRefused error) = error_line error
 end_line NoRoom = no_memory ++ codes "\n"
 
--- what stands behind the line of an outcome: the outputs of polls, and what ended them
+-- what follows the line of an outcome: the outputs of polls, and what ended them
 abbrev pub polled_lines : Outcome PlainMediaEvent → List ℕ
 polled_lines (Negotiated answers made) = []
 polled_lines (Answered text) = []

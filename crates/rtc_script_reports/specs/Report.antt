@@ -12,7 +12,7 @@ use Rattle.rtc_run_history.specs.declared.step.Step.{Step}
 use Rattle.rtc_run_history.specs.declared.table.Table.{Table}
 use Rattle.rtc_script.specs.Words.{side_text}
 
--- the lines and then the channels of a table, where there is one
+-- the lines and then the channels of a table, if there is one
 abbrev pub table_lines : Option Table → List ℕ
 table_lines None = []
 table_lines (Some table) = row_lines table.lines ++ channel_lines table.channels

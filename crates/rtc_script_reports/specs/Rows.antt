@@ -18,7 +18,7 @@ row_report_line (App place mid) = codes "line " ++ decimal place ++ codes " " ++
 abbrev pub row_lines : List LineRow → List ℕ
 row_lines rows = flat_map row_report_line rows
 
--- the number of a stream; a dash where there is none
+-- the number of a stream; a dash if there is none
 abbrev pub stream_text : Option ℕ → List ℕ
 stream_text None = codes "-"
 stream_text (Some stream) = decimal stream

@@ -22,7 +22,7 @@ fn push_answer(out: &mut String, answer: &OpAnswer) -> Result<(), AllocError>
     }
 }
 
-// Answers behind the first, each behind a comma.
+// Results behind the first, each behind a comma.
 fn push_more_answers(out: &mut String, answers: &[OpAnswer]) -> Result<(), AllocError>
     ensures { OnOk result (string_bytes out.new ≡ string_bytes out.old ++ more_answers answers.now) }
 {

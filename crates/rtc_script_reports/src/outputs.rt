@@ -119,7 +119,7 @@ fn push_end(out: &mut String, end: &PollEnd) -> Result<(), AllocError>
     }
 }
 
-/// Puts behind a text what stands behind the line of an outcome: the outputs of polls, and what ended them.
+/// Puts behind a text what follows the line of an outcome: the outputs of polls, and what ended them.
 pub fn push_polled(
     alloc: Global,
     out: &mut String,
