@@ -1,4 +1,4 @@
-//! Answers of calls. A call that was refused, or for which there was no memory, gives nothing of what is expected.
+//! Results of calls. A call that was refused, or that ran out of memory, gives nothing of what is expected.
 
 /// Whether all of these hold.
 pub fn every(answers: &[bool]) -> bool {
@@ -15,7 +15,7 @@ pub fn is_ok<T: Drop, E: Drop>(answer: Result<T, E>) -> bool {
     answer.is_ok()
 }
 
-/// Whether a call answered that something holds.
+/// Whether a call returned that something holds.
 pub fn is_true<E: Drop>(answer: Result<bool, E>) -> bool {
     match answer {
         Ok(holds) => holds,
@@ -23,7 +23,7 @@ pub fn is_true<E: Drop>(answer: Result<bool, E>) -> bool {
     }
 }
 
-/// Whether a call answered this.
+/// Whether a call returned this.
 pub fn gives<T: PartialEq + Drop, E: Drop>(answer: Result<T, E>, expected: &T) -> bool {
     match answer {
         Ok(given) => given == *expected,

@@ -1,4 +1,4 @@
-//! What programs of stored examples share: they read the lines that name examples, make calls, and compare what these answer.
+//! What programs of stored examples share: they read the lines that name examples, make calls, and compare what these return.
 #![tactic(auto)]
 
 mod answers;

@@ -65,7 +65,7 @@ fn last_table<'a>(
     last
 }
 
-// Whether the left peer goes on from a place as a closed one.
+// Whether the left peer continues from a place as a closed one.
 fn rests(steps: &[Step], replies: &[Reply<PlainMediaEvent>], place: usize) -> bool {
     for k in place..steps.len() {
         if let (Some(step), Some(reply)) = (steps.get(k), replies.get(k)) {
@@ -111,8 +111,8 @@ impl Case<'_> {
         is_fault_of(error, self.part) & (after.faults.of(self.part) > before.faults.of(self.part))
     }
 
-    // A refusal at a place: whether it has its cause, leaves the lines if an acceptance was refused, and is followed by what may follow; and
-    // whether a timer of DTLS failed in a poll, which closes the peer.
+    // A refusal at a place: whether it has its cause, leaves the lines if an acceptance was refused, and is followed by
+    // what may follow. Also whether a timer of DTLS failed in a poll, which closes the peer.
     fn judge_refusal(
         &self,
         alloc: Global,
@@ -131,7 +131,7 @@ impl Case<'_> {
         let Some(after) = self.run(alloc, place.saturating_add(1))? else {
             return Ok(BROKEN);
         };
-        // A certificate meets no fingerprint where the answer that announced it was refused. The peer is then closed.
+        // A certificate has no fingerprint to match if the answer that announced it was refused. The peer is then closed.
         let unannounced = is_unannounced(error)
             & is_poll(step)
             & !has_accepted(steps, replies, place)

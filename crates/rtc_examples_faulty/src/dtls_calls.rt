@@ -42,7 +42,7 @@ fn make<D: DtlsInstance>(part: &mut D, call: Call) -> Result<(), DtlsError> {
     }
 }
 
-// Whether the active side of a connection answers calls so.
+// Whether the active side of a connection returns this from calls.
 fn answers<D: DtlsInstance>(part: &mut D, calls: &[(Call, Result<(), DtlsError>)]) -> bool {
     part.set_active(true);
     for (call, answer) in calls {

@@ -16,7 +16,7 @@ const MOST_ROUNDS: usize = 64;
 // Time passes before so many of them. Later no timer becomes due.
 const TIMED_ROUNDS: usize = 8;
 
-/// What both sides were told up to now.
+/// What was reported to both sides so far.
 #[derive(Clone, Copy)]
 pub struct Told {
     pub connected: usize,
@@ -26,7 +26,7 @@ pub struct Told {
 }
 
 impl Told {
-    // Adds what an event tells: of a channel, whether it is that of the offer.
+    // Adds what an event reports: of a channel, whether it is that of the offer.
     fn add(&mut self, event: &Event<PlainMediaEvent>) {
         match event {
             Event::Connected => self.connected = self.connected.saturating_add(1),
@@ -46,7 +46,7 @@ impl Told {
     }
 }
 
-/// A course, the moment of its last round, and what was told.
+/// A course, the moment of its last round, and what was reported.
 #[derive(Drop)]
 pub struct Growth {
     pub course: Course,
@@ -71,7 +71,7 @@ impl Growth {
         })
     }
 
-    // Hands on what a reply shows, and answers whether it showed neither an event nor a datagram.
+    // Passes on what a reply shows, and returns whether it showed neither an event nor a datagram.
     fn take(
         &mut self,
         to: Side,
@@ -97,7 +97,7 @@ impl Growth {
         Ok(silent)
     }
 
-    // Both sides are given a moment and polled, and what they sent is delivered. Answers whether both were silent.
+    // Both sides are given a moment and polled, and what they sent is delivered. Returns whether both were silent.
     fn round(&mut self, alloc: Global, span: Span) -> Result<bool, AllocError> {
         self.now = self.now.plus(span);
         let start = self.course.len();
@@ -118,7 +118,7 @@ impl Growth {
         Ok(left & right)
     }
 
-    /// Rounds up to one in which both sides are silent; so much time passes before each of the first ones. Answers whether there was one.
+    /// Rounds up to one in which both sides are silent; so much time passes before each of the first ones. Returns whether there was one.
     pub fn settle(&mut self, alloc: Global, span: Span) -> Result<bool, AllocError> {
         for number in 0..MOST_ROUNDS {
             let passed = if number < TIMED_ROUNDS {
@@ -135,8 +135,8 @@ impl Growth {
     }
 }
 
-/// The course of two peers that connect, while so much time passes before each round, and then at that moment exchange a message each way,
-/// close the channel and close; None if they do not.
+/// The course of two peers that connect, while so much time passes before each round. At that moment they exchange a
+/// message each way, close the channel and close. None if they do not.
 pub fn grow(alloc: Global, span: Span) -> Result<Option<Course>, AllocError> {
     let still = Span::from_nanos(0);
     let mut growth = Growth::new(alloc)?;

@@ -1,9 +1,9 @@
 //! Runs tables of two peers of which one part fails at listed calls, and examples of how such parts number their calls.
 //!
-//! Each line of the input names a subject and an example of it, and is printed again behind `agrees` or `differs`: `single PART SPAN`
-//! connects two peers whose left DTLS part, association or media part fails at one call, for each number from 0 to 63, and
-//! `pairs PART SPAN COUNT SEED` at two, for so many pairs of numbers that the seed determines. So many milliseconds pass before each
-//! round. `numbers` are calls of a part alone.
+//! Each line of the input names a subject and an example of it, and is printed again behind `agrees` or `differs`.
+//! `single PART SPAN` connects two peers whose left DTLS part, association or media part fails at one call, for each
+//! number from 0 to 63. `pairs PART SPAN COUNT SEED` does so at two calls, for so many pairs of numbers that the seed
+//! determines. So many milliseconds pass before each round. `numbers` are calls of a part alone.
 #![tactic(auto)]
 
 mod checking;

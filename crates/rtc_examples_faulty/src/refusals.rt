@@ -68,7 +68,7 @@ pub fn have_same_lines(before: Option<&Table>, after: Option<&Table>) -> bool {
     }
 }
 
-// A closed peer waits for what never comes.
+// A closed peer waits for a moment that is never reached.
 fn waits_for_nothing(outputs: &[Shown<PlainMediaEvent>]) -> bool {
     match outputs {
         [Shown::Timeout(moment, reason)] => {
@@ -78,7 +78,7 @@ fn waits_for_nothing(outputs: &[Shown<PlainMediaEvent>]) -> bool {
     }
 }
 
-/// Whether a closed peer may reply so to a step: it ignores inputs and closes, polls a timeout that never comes, and has no channel.
+/// Whether a closed peer may reply so to a step: it ignores inputs and closes, polls a timeout that is never reached, and has no channel.
 pub fn is_of_closed(step: &Step, reply: &Reply<PlainMediaEvent>) -> bool {
     match step {
         Step::Time { .. } | Step::Close { .. } => reply.outcome == Outcome::Done,

@@ -64,14 +64,14 @@ fn judge_pairs(
     Ok(sum)
 }
 
-// Whether every rule held in all runs, and some were refused; where time passes, some polls by a timer of DTLS.
+// Whether every rule held in all runs, and some were refused; if time passes, some polls by a timer of DTLS.
 fn hold(sum: Judged, part: Part, span: Span) -> bool {
     let timed = (part != Part::Dtls) | (span.nanos() == 0) | (sum.timers > 0);
     sum.holds & (sum.refusals > 0) & timed
 }
 
-/// Whether the rules hold where a part fails at one call, for each number of a call. The line names the part, and the milliseconds that
-/// pass before each of the first rounds.
+/// Whether the rules hold if a part fails at one call, for each number of a call. The line names the part, and the
+/// milliseconds that pass before each of the first rounds.
 pub fn does_hold_once(alloc: Global, line: &str) -> Result<bool, AllocError> {
     let mut words = line.split(' ');
     let part = words.next();
@@ -83,7 +83,7 @@ pub fn does_hold_once(alloc: Global, line: &str) -> Result<bool, AllocError> {
     Ok(hold(sum, part, span))
 }
 
-/// The same where it fails at two calls, for so many pairs of numbers that a seed determines.
+/// The same if it fails at two calls, for so many pairs of numbers that a seed determines.
 pub fn does_hold_twice(alloc: Global, line: &str) -> Result<bool, AllocError> {
     let mut words = line.split(' ');
     let part = words.next();

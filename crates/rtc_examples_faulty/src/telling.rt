@@ -1,4 +1,4 @@
-//! What replies tell.
+//! What replies report.
 use rtc_plain::PlainMediaEvent;
 use rtc_run_history::{Outcome, Reply, Shown};
 

@@ -1,4 +1,4 @@
-//! Streams that the channels of one side are given, hold and let go.
+//! Streams that the channels of one side are given, hold and drop.
 use crate::scenes::fresh;
 use crate::work::Work;
 use rtc_channels::{ChannelError, ChannelHandler};
@@ -26,7 +26,7 @@ fn confirm(channels: &mut ChannelHandler, id: ChannelId, config: ChannelConfig) 
     }
 }
 
-// Makes a channel and confirms it, for a stream that is settled, if there is one.
+// Makes a channel and confirms it, for a stream that is negotiated out-of-band, if there is one.
 fn make(
     alloc: Global,
     channels: &mut ChannelHandler,
@@ -43,7 +43,7 @@ fn makes(alloc: Global, channels: &mut ChannelHandler, settled: Option<u16>, num
     gives(make(alloc, channels, settled), &ChannelId::new(number))
 }
 
-// Holds a stream once more: a channel of it goes while its reset is pending.
+// Holds a stream once more: its channel is removed while its reset is pending.
 fn hold(channels: &mut ChannelHandler, stream: u16) -> bool {
     let taken = is_ok(channels.ensure_channel_id_for(stream));
     match channels.channel_id_by_stream_id(stream) {
@@ -68,7 +68,7 @@ fn hold_twice(channels: &mut ChannelHandler) -> bool {
     every(&[held, twice, once, none, again, channels.held_count(4) == 0])
 }
 
-// However often streams are given, one that is held stays so.
+// However often streams are given, one that is held stays held.
 fn hold_on(alloc: Global, channels: &mut ChannelHandler) -> bool {
     let mut given = hold(channels, 4) & makes(alloc, channels, Some(4), 1);
     for _ in 0..100u8 {
@@ -103,7 +103,7 @@ fn is_labelled<S: Association>(sctp: &RtcSctp<S>, stream: u16) -> bool {
     }
 }
 
-// A settled stream that is held is given once its reset is complete, and then opened.
+// A negotiated stream that is held is given once its reset is complete, and then opened.
 fn wait<S: Association>(
     alloc: Global,
     channels: &mut ChannelHandler,
@@ -123,7 +123,7 @@ fn wait<S: Association>(
     every(&[held, passed, waits, still, wakes, opened, given, closed])
 }
 
-// Where every stream of a side is held, a channel gets none, and no moment is wanted.
+// If every stream of a side is held, a channel gets none, and no moment is wanted.
 fn get_none<S: Association>(
     alloc: Global,
     channels: &mut ChannelHandler,
@@ -158,7 +158,7 @@ pub fn does_agree(alloc: Global, example: &str) -> bool {
     agrees(alloc, fresh(alloc, false), example)
 }
 
-/// Whether so many channels of a client, which are given streams so often, have this stream at the last of them; 0 where it has none.
+/// Whether so many channels of a client, which are given streams so often, have this stream at the last of them; 0 if it has none.
 pub fn is_done(alloc: Global, work: &Work<'_>) -> bool {
     let mut channels = ChannelHandler::new(alloc);
     let mut done = true;

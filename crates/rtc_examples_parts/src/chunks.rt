@@ -1,4 +1,4 @@
-//! The INIT chunks of both ends of an association, as session descriptions tell them (draft-hancke-tsvwg-snap).
+//! The INIT chunks of both ends of an association, as session descriptions carry them (draft-hancke-tsvwg-snap).
 use rtc_examples_cases::{every, is_list, is_ok, is_refused, is_text, prints};
 use rtc_plain::CountIds;
 use rtc_sctp::{ProtoError, SctpError, SctpInitData};
@@ -15,7 +15,7 @@ fn is_told<E: Drop>(told: Result<Option<String>, E>, text: &str) -> bool {
     }
 }
 
-// Whether the chunk of an end is drawn once, with its tag and first number (RFC 9260, section 3.3.2), and is told as base64.
+// Whether the chunk of an end is drawn once, with its tag and first number (RFC 9260, section 3.3.2), and is carried as base64.
 fn is_drawn(halves: &mut SctpInitData) -> bool {
     let mut ids = CountIds::starting(7);
     let bytes = [

@@ -3,7 +3,7 @@ use crate::scripts::{Do, L, R, Says, is_played};
 use rtc_parts::{AssocError, AssocEvent, Ppi};
 use std::alloc::Global;
 
-// The left end writes and closes, the right end reads and is told, both are reset, and the right end opens again.
+// The left end writes and closes, the right end reads and reports it, both are reset, and the right end opens again.
 static RESET: [(Do, Says); 44] = [
     (Do::Connect(L), Says::Done),
     (Do::Accept(R), Says::Done),

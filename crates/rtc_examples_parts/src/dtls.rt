@@ -21,7 +21,7 @@ fn waits_for_nothing<D: DtlsInstance>(end: &mut Dtls<D>, buf: &mut [u8]) -> bool
     }
 }
 
-// Whether data has to wait without a role and with one, no moment is waited for, and the first role stays.
+// Whether data has to wait without a role and with one, no moment is waited for, and the first role is kept.
 fn is_blocked<D: DtlsInstance>(end: &mut Dtls<D>, buf: &mut [u8]) -> bool {
     let early = is_refused(end.handle_input(b"hi"), &DtlsError::WouldBlock);
     let idle = waits_for_nothing(end, buf);

@@ -51,7 +51,7 @@ fn length(message: &Option<(Ppi, Bytes)>) -> usize {
     }
 }
 
-// The length of the next message of a stream; 0 where there is none.
+// The length of the next message of a stream; 0 if there is none.
 fn read<A: Association>(end: &mut A, id: u16) -> Result<usize, AssocError> {
     if !end.is_started() {
         return Err(AssocError::Closing);
@@ -87,7 +87,7 @@ fn drop_events<A: Association>(end: &mut A) {
     }
 }
 
-// Hands over what each end has to send, twice, and drops the events.
+// Passes on what each end has to send, twice, and drops the events.
 fn exchange<A: Association>(left: &mut A, right: &mut A) -> Result<(), AssocError> {
     for _ in 0..2 {
         carry(left, right)?;
@@ -104,7 +104,7 @@ fn content(alloc: Global, bytes: u32) -> Result<Vec<u8>, AllocError> {
     Ok(content)
 }
 
-// A message of so many bytes over the first of so many open streams. It answers the length of what was read.
+// A message of so many bytes over the first of so many open streams. It returns the length of what was read.
 fn message<A: Association>(
     left: &mut A,
     right: &mut A,
@@ -132,7 +132,7 @@ fn reset<A: Association>(left: &mut A, right: &mut A, id: u16) -> Result<bool, A
     Ok((left.generation(id) == 1) & (right.generation(id) == 1))
 }
 
-// So many streams, each reset before the next is opened. It answers how many were reset.
+// So many streams, each reset before the next is opened. It returns how many were reset.
 fn resets<A: Association>(left: &mut A, right: &mut A, streams: u32) -> Result<usize, AssocError> {
     let mut count = 0usize;
     for id in 0..streams.min(65_536) {
@@ -161,7 +161,7 @@ fn fill(
     Ok(())
 }
 
-// Gives an end a data packet with 100 bytes of a message that somebody else made, and drops what it tells and what it sends first.
+// Gives an end a data packet with 100 bytes of a message that somebody else made, and drops what it reports and what it sends first.
 fn give_piece<A: Association>(
     alloc: Global,
     end: &mut A,
@@ -176,8 +176,8 @@ fn give_piece<A: Association>(
     Ok(())
 }
 
-// Gives an end so many packets under the number that it waits for, each with a message of another generation to come of stream 0. It
-// answers how many streams that makes.
+// Gives an end so many packets under the number that it waits for, each with a message of a later generation of stream
+// 0. Returns how many streams that makes.
 fn forge<A: Association>(alloc: Global, end: &mut A, packets: u32) -> Result<usize, AssocError> {
     for generation in 1..=packets {
         give_piece(alloc, end, 1, (0, generation, 1))?;
@@ -200,8 +200,8 @@ fn give_pieces<A: Association>(
     Ok(())
 }
 
-// Gives an end a message of two pieces on each of so many streams, first every first piece and then every last one. It answers how many of
-// the messages are read whole.
+// Gives an end a message of two pieces on each of so many streams, first every first piece and then every last one. It
+// returns how many of the messages are read whole.
 fn interleave<A: Association>(
     alloc: Global,
     end: &mut A,
@@ -218,7 +218,7 @@ fn interleave<A: Association>(
     Ok(count)
 }
 
-// What two ends answer to some work: the bytes that were read, or how many messages or streams came through.
+// What two ends return for some work: the bytes that were read, or how many messages or streams were passed on.
 fn answer<A: Association>(
     alloc: Global,
     left: &mut A,
@@ -240,7 +240,7 @@ fn answer<A: Association>(
     }
 }
 
-/// Whether two ends of an association give what some work is to answer.
+/// Whether two ends of an association give the expected result of some work.
 pub fn is_done(alloc: Global, work: &Work<'_>) -> bool {
     let mut left = PlainAssociation::new(alloc);
     let mut right = PlainAssociation::new(alloc);

@@ -1,7 +1,7 @@
-//! What is told of streams.
+//! What is reported of streams.
 use std::alloc::Global;
 
-/// What was told, a line for each thing, and whether something failed that was to succeed, as want of memory.
+/// What was reported, a line for each thing, and whether something failed that was to succeed, as out of memory.
 #[derive(Drop)]
 pub struct Log {
     text: String,

@@ -53,7 +53,7 @@ fn add_stream<M: MediaSession>(
     Ok(())
 }
 
-// How often the last of so many streams is found: by its ssrc, which is in use, or by line and layer.
+// How often the last of so many streams is found: by its SSRC, which is in use, or by line and layer.
 fn count_found<M: MediaSession>(
     part: &mut M,
     by_ssrc: bool,

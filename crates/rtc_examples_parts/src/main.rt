@@ -1,8 +1,8 @@
-//! Runs stored examples of the parts of a peer in memory: DTLS connections, associations, streams and channels; and given amounts of work
-//! for them, so that a tool that counts instructions sees what they cost.
+//! Runs stored examples of the parts of a peer in memory: DTLS connections, associations, streams and channels. It also
+//! gives them amounts of work, so that a tool that counts instructions sees what they cost.
 //!
-//! Each line of the input names a subject and an example of it, or `work`, what it is to answer, a subject, a word and amounts. It is
-//! printed again behind `agrees` or `differs`.
+//! Each line of the input names a subject and an example of it, or `work`, the expected result, a subject, a word and
+//! amounts. It is printed again behind `agrees` or `differs`.
 #![tactic(auto)]
 
 mod channels;

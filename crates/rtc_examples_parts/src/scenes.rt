@@ -16,7 +16,7 @@ fn start<T: Streams>(left: &mut T, right: &mut T, log: &mut Log) {
     exchange(left, right, log);
 }
 
-// A settled stream is closed behind a message that nobody reads, and opened again.
+// A negotiated stream is closed behind a message that nobody reads, and opened again.
 fn opened_again<T: Streams>(alloc: Global, left: &mut T, right: &mut T, log: &mut Log) {
     start(left, right, log);
     log.need(settle(alloc, left, 0, "first") & settle(alloc, right, 0, "first"));
@@ -34,7 +34,7 @@ const OPENED_AGAIN: &str =
     "left open first\nright open first\nleft close, reset pending\nright close, reset pending\nleft reset complete\n\
     right reset complete\nleft open second\nright open second\nright text hello\n";
 
-// A settled stream that was closed here is opened once its reset is complete, and not before.
+// A negotiated stream that was closed here is opened once its reset is complete, and not before.
 fn wait_for_reset<T: Streams>(alloc: Global, left: &mut T, right: &mut T, log: &mut Log) {
     start(left, right, log);
     log.need(settle(alloc, left, 0, "first") & settle(alloc, right, 0, "first"));
@@ -51,7 +51,7 @@ const WAIT_FOR_RESET: &str =
     "left open first\nright open first\nleft close, reset pending\nright close, reset pending\nleft open second\n\
     left reset complete\nright reset complete\n";
 
-// A stream of the other end, which has no channel here, went before it is settled here.
+// A stream of the other end, which has no channel here, went before it is negotiated here.
 fn went<T: Streams>(alloc: Global, left: &mut T, right: &mut T, log: &mut Log) {
     start(left, right, log);
     log.need(settle(alloc, right, 1, "theirs"));
@@ -82,7 +82,7 @@ fn given_up<T: Streams>(alloc: Global, left: &mut T, right: &mut T, log: &mut Lo
 // The text of a chunk of the other end.
 const OTHER_CHUNK: &str = "AQAAFAAAAAsAEAAA/////wAAAAw=";
 
-// Whether a text of a chunk is told, or none.
+// Whether a text of a chunk is carried, or none.
 fn tells(told: Result<Option<String>, AllocError>, text: Option<&str>) -> bool {
     match told {
         Ok(Some(told)) => text == Some(told.as_str()),
@@ -124,7 +124,7 @@ fn refuse_chunks<S: Association>(sctp: &mut RtcSctp<S>) -> bool {
     ])
 }
 
-// Whether this is told of what two sides do.
+// Whether two sides report this of what they do.
 fn are_told<T: Streams>(alloc: Global, left: &mut T, right: &mut T, example: &str) -> bool {
     let mut log = Log::new(alloc);
     match example {

@@ -26,7 +26,7 @@ pub enum Do {
     Read(bool, u16),
 }
 
-/// What it is to answer, a generation first where there is one.
+/// The expected result, a generation first if there is one.
 #[derive(Clone, Copy)]
 pub enum Says {
     Done,
@@ -138,7 +138,7 @@ fn plays(
     Ok(is_list(given, replies.as_slice()))
 }
 
-/// Whether each step of a script is answered as it says.
+/// Whether each step of a script has the reply that it names.
 pub fn is_played(alloc: Global, script: &[(Do, Says)]) -> bool {
     let mut steps = Vec::new(alloc);
     let mut replies = Vec::new(alloc);

@@ -8,7 +8,7 @@ use std::alloc::AllocError;
 
 /// What examples ask of the streams of one peer. A function over it is checked without what the streams consist of.
 pub trait Streams {
-    /// Starts the association, as the client or as the server. It answers whether that succeeded, as the calls below do.
+    /// Starts the association, as the client or as the server. It returns whether that succeeded, as the calls below do.
     fn start(&mut self, client: bool) -> bool;
 
     /// Opens a stream with a config whose texts are short.
@@ -25,7 +25,7 @@ pub trait Streams {
     /// Takes a moment, in nanoseconds.
     fn pass(&mut self, nanos: u64) -> bool;
 
-    /// What there is to tell or to send.
+    /// What there is to report or to send.
     fn next(&mut self) -> Result<Option<SctpEvent>, AllocError>;
 
     /// How many resets of a stream are complete.

@@ -1,4 +1,4 @@
-//! The streams of two peers in one process. Every packet arrives, and what each is told is noted.
+//! The streams of two peers in one process. Every packet arrives, and what each reports is noted.
 use crate::log::Log;
 use crate::streams::Streams;
 use rtc_sctp::SctpEvent;
@@ -6,7 +6,7 @@ use rtc_wire::{Bytes, ChannelConfig, Seq, Text};
 use rtc_wire_drops::release;
 use std::alloc::{AllocError, Global};
 
-// A config of a channel: in-band, or settled by other means.
+// A config of a channel: in-band, or negotiated out-of-band.
 fn config(alloc: Global, label: &str, settled: Option<u16>) -> Result<ChannelConfig, AllocError> {
     let label = Text::from_str(alloc, label)?;
     let mut config = ChannelConfig::new(alloc);
@@ -23,7 +23,7 @@ pub fn open<T: Streams>(alloc: Global, peer: &mut T, id: u16, label: &str) -> bo
     }
 }
 
-/// Opens a channel with a label at a side, settled by other means.
+/// Opens a channel with a label at a side, negotiated out-of-band.
 pub fn settle<T: Streams>(alloc: Global, peer: &mut T, id: u16, label: &str) -> bool {
     match config(alloc, label, Some(id)) {
         Ok(config) => peer.open(id, config),
@@ -39,7 +39,7 @@ fn deliver<T: Streams>(packets: &Seq<Bytes>, to: &mut T) -> bool {
     taken
 }
 
-// Notes what a side is told, as a line behind the name of the side.
+// Notes what a side reports, as a line behind the name of the side.
 fn note(name: &str, event: &SctpEvent, log: &mut Log) {
     match event {
         SctpEvent::Open { label, .. } => log.add_line(name, "open ", label.as_str()),
@@ -60,7 +60,7 @@ fn note(name: &str, event: &SctpEvent, log: &mut Log) {
     }
 }
 
-// Hands on what a side gave. It answers whether more may come.
+// Passes on what a side gave. Returns whether there may be more.
 fn hand_on<T: Streams>(
     name: &str,
     given: &Result<Option<SctpEvent>, AllocError>,
@@ -84,14 +84,14 @@ fn hand_on<T: Streams>(
     }
 }
 
-/// Hands over a packet of a side, or notes an event. It answers whether more may come.
+/// Passes on a packet of a side, or notes an event. Returns whether there may be more.
 pub fn carry_one<T: Streams>(name: &str, from: &mut T, to: &mut T, log: &mut Log) -> bool {
     let given = from.next();
     let more = hand_on(name, &given, to, log);
     release(given, more)
 }
 
-/// Polls one side to its end, and hands its packets to the other one.
+/// Polls one side to its end, and passes its packets to the other one.
 pub fn carry<T: Streams>(name: &str, from: &mut T, to: &mut T, log: &mut Log) {
     for _ in 0..u32::MAX {
         if !carry_one(name, from, to, log) {

@@ -1,6 +1,6 @@
 //! Amounts of work, so that a tool that counts instructions sees what they cost.
 
-/// Some work of a subject, with up to three amounts, and what it is to answer.
+/// Some work of a subject, with up to three amounts, and the expected result.
 #[derive(Clone, Copy)]
 pub struct Work<'a> {
     pub answer: usize,
@@ -9,7 +9,7 @@ pub struct Work<'a> {
     pub amounts: (u32, u32, u32),
 }
 
-// A number of a line; 0 where it is none.
+// A number of a line; 0 if it is none.
 fn number(word: Option<&str>) -> u32 {
     match word {
         Some(word) => word.parse::<u32>().unwrap_or(0),
@@ -18,7 +18,7 @@ fn number(word: Option<&str>) -> u32 {
 }
 
 impl<'a> Work<'a> {
-    /// By the words of a line, the answer first.
+    /// By the words of a line, the result first.
     pub fn read(line: &'a str) -> Work<'a> {
         let mut words = line.split(' ');
         let answer = number(words.next()) as usize;

@@ -17,7 +17,7 @@ const OTHER_CERTIFICATE: &str =
 // One by a function that peers do not know.
 const UNKNOWN_HASH: &str = "md5 90:01:50:98:3C:D2:4F:B0:D6:96:3F:7D:28:E1:7F:72";
 
-// Whether two peers do not connect, and the one that was answered tells this cause.
+// Whether two peers do not connect, and the one that got the answer reports this cause.
 fn is_refused<P: Signals + Polled>(
     alloc: Global,
     left: &mut P,
@@ -34,7 +34,7 @@ fn is_refused<P: Signals + Polled>(
     Ok(met & !connected & (wire.left.fault == Some(fault)))
 }
 
-/// Whether two peers do not connect, and one of them tells why.
+/// Whether two peers do not connect, and one of them reports why.
 pub fn does_refuse<P: Signals + Polled>(
     alloc: Global,
     left: &mut P,

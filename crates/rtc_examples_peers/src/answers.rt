@@ -1,4 +1,4 @@
-//! What a peer answers to offers that come as text.
+//! The answers of a peer to offers that are received as text.
 use crate::reply::Reply;
 use crate::signals::Signals;
 use crate::turn::Turn;

@@ -6,8 +6,8 @@ use rtc_peer::{Association, DtlsInstance, IceAgent, Ids, MediaSession, Rtc, RtcC
 use rtc_wire::Moment;
 use std::alloc::{AllocError, Global};
 
-/// A peer of a config, or of the default one, at moment 0 over these parts, where there was memory for the config. It is over any parts,
-/// so that its check does not go through what those in memory consist of.
+/// A peer of a config, or of the default one, at moment 0 over these parts, if there was memory for the config. It is
+/// over any parts, so that its check does not go through what those in memory consist of.
 pub fn build<
     I: IceAgent + Drop,
     D: DtlsInstance + Drop,

@@ -11,7 +11,7 @@ fn with_codecs(
     Ok(Some(config))
 }
 
-// The certificate `abc`, and starts that may be told by session descriptions, or not.
+// The certificate `abc`, and SNAP enabled or not.
 fn certified(
     alloc: Global,
     config: RtcConfig,
@@ -26,7 +26,7 @@ fn with_room(config: RtcConfig) -> Option<RtcConfig> {
     Some(config.set_sctp_max_buffered_amount(262_144))
 }
 
-/// The config of the left peer, where it is not the default one.
+/// The config of the left peer, if it is not the default one.
 pub fn left_config(
     alloc: Global,
     subject: &str,
@@ -41,7 +41,7 @@ pub fn left_config(
     }
 }
 
-/// The config of the right peer, where it is not the default one.
+/// The config of the right peer, if it is not the default one.
 pub fn right_config(alloc: Global, subject: &str) -> Result<Option<RtcConfig>, AllocError> {
     match subject {
         "work" => Ok(with_room(RtcConfig::new(alloc)?)),

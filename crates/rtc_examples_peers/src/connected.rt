@@ -35,7 +35,7 @@ fn have_lengths(messages: &[Bytes], first: usize, second: usize) -> bool {
     }
 }
 
-// Whether a channel takes as many bytes as are buffered, no byte more, and an empty text, and both messages come.
+// Whether a channel takes as many bytes as are buffered, no byte more, and an empty text, and both messages are received.
 fn fill<P: Polled>(
     alloc: Global,
     left: &mut P,
@@ -52,7 +52,7 @@ fn fill<P: Polled>(
     Ok(taken & !over & empty & came)
 }
 
-/// Whether two peers connect, and answer as is expected.
+/// Whether two peers connect, and return what is expected.
 pub fn does_succeed<P: Signals + Polled>(
     alloc: Global,
     left: &mut P,

@@ -19,7 +19,7 @@ fn is_answer_copied(alloc: Global, text: &str) -> Result<bool, SdpError> {
     release(answer, Ok(copied))
 }
 
-/// Whether a description that comes as text is copied.
+/// Whether a description that is received as text is copied.
 pub fn are_copied(alloc: Global, turns: &[Turn]) -> Result<bool, SdpError> {
     match turns {
         [turn] => {

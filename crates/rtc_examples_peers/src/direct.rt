@@ -6,14 +6,14 @@ use std::alloc::AllocError;
 /// What examples ask of a peer without session descriptions, a call or two each. A function over it is checked without what a peer consists
 /// of.
 pub trait Direct {
-    /// Takes the controlling role in ICE and these credentials, and tells whether they have this user fragment.
+    /// Takes the controlling role in ICE and these credentials, and returns whether they have this user fragment.
     fn set_own(&mut self, own: IceCreds, ufrag: &str) -> bool;
 
     /// Takes the credentials of the other side.
     fn set_other(&mut self, other: IceCreds);
 
-    /// Takes the fingerprint of the other side. It answers whether the own one is by SHA-256, and no certificate of the other side and no
-    /// version is known yet.
+    /// Takes the fingerprint of the other side. It returns whether the own one is by SHA-256, and no certificate of the
+    /// other side and no version is known yet.
     fn announce(&mut self, announced: Fingerprint) -> bool;
 
     /// Whether an address of the other side is taken.
@@ -28,7 +28,7 @@ pub trait Direct {
     /// Whether the association starts as a client, or as a server.
     fn begin_sctp(&mut self, client: bool) -> bool;
 
-    /// Whether it starts with the halves of a description.
+    /// Whether it starts with the SNAP INIT chunks of a description.
     fn begin_with(&mut self, client: bool, halves: SctpInitData) -> bool;
 
     /// Whether a channel is made with a number.
@@ -39,12 +39,12 @@ pub trait Direct {
 
     fn close_one(&mut self, number: u64) -> bool;
 
-    /// Declares a line. It answers whether its mid is new.
+    /// Declares a line. It returns whether its mid is new.
     fn declare(&mut self, mid: Mid, kind: MediaKind) -> Result<bool, AllocError>;
 
     fn remove(&mut self, mid: Mid) -> bool;
 
-    /// The next source that is not in use.
+    /// The next unused SSRC.
     fn draw(&mut self) -> u32;
 
     /// Whether a stream that is received is expected, which is then marked.
@@ -56,13 +56,13 @@ pub trait Direct {
     /// Whether a stream that is received is made, and one that is sent.
     fn make_both(&mut self, mid: Mid, received: u32, sent: u32) -> bool;
 
-    /// Whether a source is received with a mark, by its number and by its line.
+    /// Whether an SSRC is received with a mark, by its number and by its line.
     fn has_received(&mut self, mid: Mid, ssrc: u32, mark: u64) -> bool;
 
-    /// Whether a source is sent with a mark, by its number and by its line.
+    /// Whether an SSRC is sent with a mark, by its number and by its line.
     fn has_sent(&mut self, mid: Mid, ssrc: u32, mark: u64) -> bool;
 
-    /// Whether the stream that a line sends gets another source.
+    /// Whether the stream that a line sends gets another SSRC.
     fn renumber(&mut self, mid: Mid, ssrc: u32) -> bool;
 
     fn is_sent(&mut self, ssrc: u32) -> bool;

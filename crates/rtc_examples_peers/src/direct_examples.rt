@@ -40,7 +40,7 @@ fn is_announced<P: Direct>(alloc: Global, peer: &mut P) -> Result<bool, AllocErr
     }
 }
 
-// The half of a start of this side, of the numbers 1 and 2.
+// This side's SNAP INIT chunk, of the numbers 1 and 2.
 fn half(alloc: Global) -> Result<SctpInitData, AllocError> {
     let mut halves = SctpInitData::new(alloc);
     let mut ids = CountIds::starting(1);
@@ -48,7 +48,7 @@ fn half(alloc: Global) -> Result<SctpInitData, AllocError> {
     Ok(halves)
 }
 
-// A half alone starts nothing.
+// One SNAP INIT chunk alone starts nothing.
 fn is_half_refused<P: Direct>(alloc: Global, peer: &mut P) -> Result<bool, AllocError> {
     let half = half(alloc)?;
     Ok(!peer.begin_with(true, half))
@@ -69,7 +69,7 @@ fn channel(alloc: Global, stream: Option<u16>) -> ChannelConfig {
     config
 }
 
-// Channels are numbered from 0. One that is settled for a stream that another claims is refused. None has a stream before a poll.
+// Channels are numbered from 0. One that is negotiated for a stream that another claims is refused. None has a stream before a poll.
 fn are_channels_made<P: Direct>(alloc: Global, peer: &mut P) -> bool {
     let started = peer.begin_sctp(true);
     let first = peer.create(channel(alloc, Some(4)), 0);
@@ -79,7 +79,7 @@ fn are_channels_made<P: Direct>(alloc: Global, peer: &mut P) -> bool {
     every(&[started, first, !again, second, !used, peer.close_one(0)])
 }
 
-// A mid is declared once. The first line is stopped and keeps its mid; the last one goes once, and may be declared again.
+// A mid is declared once. The first line is stopped and keeps its mid; the last one is removed once, and may be declared again.
 fn are_lines_declared<P: Direct>(peer: &mut P, first: Mid, last: Mid) -> bool {
     let once = gives(peer.declare(first, MediaKind::Audio), &true);
     let twice = gives(peer.declare(first, MediaKind::Video), &false);
@@ -99,7 +99,7 @@ fn is_passed_over<P: Direct>(peer: &mut P, mid: Mid) -> bool {
     line & made & (peer.draw() == 6)
 }
 
-// A stream is made where a row of media has its mid, and keeps what is written to its mark.
+// A stream is made if a row of media has its mid, and keeps what is written to its mark.
 fn are_marks_kept<P: Direct>(peer: &mut P, mid: Mid) -> bool {
     let early = peer.expect(mid, 7, 5);
     let line = gives(peer.declare(mid, MediaKind::Video), &true);
@@ -115,7 +115,7 @@ fn are_marks_kept<P: Direct>(peer: &mut P, mid: Mid) -> bool {
     ])
 }
 
-// A stream is dropped by its source, and with its line.
+// A stream is dropped by its SSRC, and with its line.
 fn are_streams_dropped<P: Direct>(peer: &mut P, mid: Mid) -> bool {
     let line = gives(peer.declare(mid, MediaKind::Audio), &true);
     let made = peer.expect(mid, 7, 0) & peer.declare_sent(mid, 8, None, 0);
@@ -125,8 +125,8 @@ fn are_streams_dropped<P: Direct>(peer: &mut P, mid: Mid) -> bool {
     every(&[line, made, dropped, !again, stopped, !peer.drop_sent(8)])
 }
 
-// The half of a start without session descriptions, with a budget of 1 MiB, is told by those that come later. The answer of a side that
-// has another half than the one that was given is refused.
+// The SNAP INIT chunk of a start without session descriptions, with a budget of 1 MiB, is carried by later ones. The
+// answer of a side with another chunk than the given one is refused.
 fn tell_halves<P: Signals + Direct>(alloc: Global, left: &mut P, right: &mut P) -> bool {
     let started = is_true(is_started(alloc, left));
     let mut texts = Texts::new(alloc);

@@ -17,7 +17,7 @@ fn drain<P: Polled>(peer: &mut P, outputs: &mut Outputs) {
     }
 }
 
-// A datagram comes so often, and the peer is polled after each.
+// A datagram is received so often, and the peer is polled after each.
 fn arrive<P: Polled>(
     peer: &mut P,
     now: Moment,
@@ -31,7 +31,7 @@ fn arrive<P: Polled>(
     }
 }
 
-// Gives a peer what comes of the datagrams that the other one sent.
+// Gives a peer what arrives of the datagrams that the other one sent.
 fn hear<P: Polled>(
     peer: &mut P,
     now: Moment,
@@ -44,7 +44,7 @@ fn hear<P: Polled>(
     }
 }
 
-/// Polls both peers, and hands on what comes of their datagrams, until neither has one to send.
+/// Polls both peers, and passes on what arrives of their datagrams, until neither has one to send.
 pub fn settle<P: Polled>(left: &mut P, right: &mut P, wire: &mut Wire) {
     drain(left, &mut wire.left);
     drain(right, &mut wire.right);
@@ -79,7 +79,7 @@ pub fn pass<P: Polled>(left: &mut P, right: &mut P, wire: &mut Wire, span: Span)
     settle(left, right, wire);
 }
 
-/// Gives two peers the addresses of the hosts 1 and 2, and has them agree on so many channels without a label. It answers whether they do.
+/// Gives two peers the addresses of the hosts 1 and 2, and has them agree on so many channels without a label. It returns whether they do.
 pub fn meet<P: Signals>(
     alloc: Global,
     left: &mut P,

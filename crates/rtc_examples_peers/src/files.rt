@@ -11,7 +11,7 @@ use rtc_wire::Span;
 use rtc_wire_drops::release;
 use std::alloc::{AllocError, Global};
 
-// The rounds in which each file of a stored example comes over.
+// The rounds in which each file of a stored example is received.
 const ROUNDS: usize = 1000;
 
 // The file whose bytes are their places modulo 251.
@@ -33,7 +33,7 @@ fn send_all<P: Polled>(left: &mut P, right: &mut P, wire: &mut Wire, transfer: &
     }
 }
 
-// Whether two peers agree on a channel, over which a file goes on a way, and neither fails.
+// Whether two peers agree on a channel, over which a file is sent on a way, and neither fails.
 fn carry<P: Signals + Polled>(
     alloc: Global,
     left: &mut P,
@@ -48,7 +48,7 @@ fn carry<P: Signals + Polled>(
     met & wire.is_faultless()
 }
 
-/// Whether a file of a size comes over whole on a way of a seed, by the four numbers of a line.
+/// Whether a file of a size is received whole on a way of a seed, by the four numbers of a line.
 pub fn does_come_over<P: Signals + Polled>(
     alloc: Global,
     left: &mut P,

@@ -1,12 +1,12 @@
-//! Runs stored examples of peers over parts in memory: calls without session descriptions, offers and changes of lines, offers of other
-//! stacks with what a fresh peer answers, two peers that are connected, or are not since one announces another fingerprint, and files
-//! that go over a data channel while datagrams are lost and repeated.
+//! Runs stored examples of peers over parts in memory: calls without session descriptions; offers and changes of lines;
+//! offers of other stacks with what a fresh peer answers; two peers that are connected, or are not since one announces
+//! another fingerprint; and files that are sent over a data channel while datagrams are lost and repeated.
 //!
-//! Each line of the input names a subject and an example of it, and is printed again behind `agrees` or `differs`: `answer PATH` gives a
-//! fresh peer the offer `PATH.offer`, whose answer has the lines of `PATH.answer`, as `codecs` and `starts` do with `PATH.text` and
-//! `PATH.told`; `copy PATH` copies what is read of an offer; `file SIZE SEED LOST TWICE` sends a file, `work one C M B` and
-//! `work turn C M B` so many messages over channels, and `work idle C M 0` gives so many moments, so that a tool that counts instructions
-//! sees what they cost.
+//! Each line of the input names a subject and an example of it, and is printed again behind `agrees` or `differs`.
+//! `answer PATH` gives a fresh peer the offer `PATH.offer`, whose answer has the lines of `PATH.answer`, as `codecs`
+//! and `starts` do with `PATH.text` and `PATH.told`. `copy PATH` copies what is read of an offer. `file SIZE SEED LOST
+//! TWICE` sends a file. `work one C M B` and `work turn C M B` send so many messages over channels, and `work idle C M
+//! 0` gives so many moments, so that a tool that counts instructions sees what they cost.
 #![tactic(auto)]
 
 mod announced;

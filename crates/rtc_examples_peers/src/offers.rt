@@ -7,8 +7,8 @@ use rtc_examples_cases::is_true;
 use rtc_wire::Text;
 use std::alloc::{AllocError, Global};
 
-// The offer of a peer whose numbers count up from 1, with the certificate "abc" (its hash is in FIPS 180-2, appendix B.1), one host
-// candidate, and a line for data channels.
+// The offer of a peer whose numbers count up from 1, with the certificate "abc" (its hash is in FIPS 180-2, appendix
+// B.1), one host candidate, and an m-line of data channels.
 const CHANNEL_OFFER: &str = "v=0\r\n\
     o=str0m 1 2 IN IP4 0.0.0.0\r\n\
     s=-\r\n\
@@ -28,7 +28,7 @@ const CHANNEL_OFFER: &str = "v=0\r\n\
     a=sctp-port:5000\r\n\
     a=max-message-size:262144\r\n";
 
-// Whether a text has a line once, and tells so many sources with those of their retransmissions.
+// Whether a text has a line once, and carries so many SSRCs with their RTX SSRCs.
 fn tells(alloc: Global, text: Result<Text, AllocError>, wanted: &str, sources: usize) -> bool {
     match text {
         Ok(text) => {
@@ -75,7 +75,7 @@ fn tell_roles<P: Signals>(alloc: Global, left: &mut P, right: &mut P) -> bool {
     agreed & left_open & taken & later
 }
 
-// Whether the offer of a channel tells the chunk of the numbers 4 and 5 (draft-hancke-tsvwg-snap).
+// Whether the offer of a channel carries the chunk of the numbers 4 and 5 (draft-hancke-tsvwg-snap).
 fn tells_start<P: Signals>(alloc: Global, left: &mut P, right: &mut P) -> bool {
     let mut texts = Texts::new(alloc);
     let agreed = left.agree(right, alloc, 1, &mut texts);

@@ -7,11 +7,11 @@ use rtc_wire::{Bytes, Transmit};
 use rtc_wire_drops::release;
 use std::alloc::Global;
 
-/// The datagrams that a peer has sent and the other one did not get yet, what it told, and why it failed first.
+/// The datagrams that a peer has sent and the other one did not get yet, what it reported, and why it failed first.
 #[derive(Drop)]
 pub struct Outputs {
     pub sent: Vec<Transmit>,
-    /// The messages that came.
+    /// The received messages.
     pub messages: Vec<Bytes>,
     /// How many of them are text.
     pub texts: usize,
@@ -46,7 +46,7 @@ impl Outputs {
         }
     }
 
-    // Where there is no memory for what a peer gave, it has failed. It answers whether more may come.
+    // If memory runs out for what a peer gave, it has failed. Returns whether there may be more.
     fn note(&mut self, kept: bool) -> bool {
         if !kept {
             self.fail(Fault::Other);
@@ -54,7 +54,7 @@ impl Outputs {
         kept
     }
 
-    /// Notes why an input was refused. It answers whether it was taken.
+    /// Notes why an input was refused. It returns whether it was taken.
     pub fn note_input(&mut self, answer: Result<(), RtcError>) -> bool {
         match answer {
             Ok(()) => true,
@@ -103,7 +103,7 @@ impl Outputs {
         }
     }
 
-    /// Keeps what a poll gave. It answers whether more may come.
+    /// Keeps what a poll gave. Returns whether there may be more.
     pub fn keep(&mut self, given: Result<Output<PlainMediaEvent>, RtcError>) -> bool {
         match given {
             Ok(output) => self.keep_output(output),

@@ -20,7 +20,7 @@ fn read_turn<R: Files + AllocGlobal>(
     Ok(())
 }
 
-// The endings of the files of a subject: an offer, and what is told of its answer.
+// The endings of the files of a subject: an offer, and what is expected of its answer.
 fn endings(subject: &str) -> Option<(&'static str, &'static str)> {
     match subject {
         "answer" => Some(("offer", "answer")),
@@ -31,7 +31,7 @@ fn endings(subject: &str) -> Option<(&'static str, &'static str)> {
     }
 }
 
-/// Reads the offers that the peer of an example is given in turn, by their paths. It answers whether those that there are to be are there.
+/// Reads the offers that the peer of an example is given in turn, by their paths. It returns whether those that there are to be are there.
 pub fn read_turns<R: Files + AllocGlobal>(
     rt: &R,
     turns: &mut Vec<Turn>,

@@ -23,7 +23,7 @@ fn refusal(alloc: Global, error: &RtcError) -> Result<String, AllocError> {
 }
 
 impl Reply {
-    /// The reply by what the calls of a peer answered.
+    /// The reply by what the calls of a peer returned.
     pub fn new(alloc: Global, answered: Result<Text, RtcError>) -> Reply {
         match answered {
             Ok(text) => Reply::Answer(text),

@@ -14,7 +14,7 @@ use std::rt::Files;
 
 type Peer = Rtc<PlainIce, PlainDtls, PlainAssociation, PlainMedia, CountIds>;
 
-// Whether an example gives what is expected, where its files are there.
+// Whether an example gives what is expected, if its files are there.
 fn agrees<R: Files + AllocGlobal, P: Signals + Polled + Direct>(
     rt: &R,
     left: &mut P,
@@ -37,7 +37,7 @@ fn agrees<R: Files + AllocGlobal, P: Signals + Polled + Direct>(
     )
 }
 
-// The same where there was memory for both peers.
+// The same if there was memory for both peers.
 fn agrees_made<R: Files + AllocGlobal, P: Signals + Polled + Direct + Drop>(
     rt: &R,
     left: Result<P, AllocError>,
@@ -50,8 +50,8 @@ fn agrees_made<R: Files + AllocGlobal, P: Signals + Polled + Direct + Drop>(
     Ok(agrees(rt, &mut left, &mut right, subject, name))
 }
 
-/// Whether an example gives what is expected, with peers that draw numbers from 1 and from 1,000,001 on. This function alone names parts
-/// in memory, and hands peers over them to one over any peers, which is dear to check.
+/// Whether an example gives what is expected, with peers that draw numbers from 1 and from 1,000,001 on. This function
+/// alone names parts in memory. It passes peers over them to one over any peers, which is costly to check.
 pub fn does_agree<R: Files + AllocGlobal>(
     rt: &R,
     subject: &str,

@@ -5,7 +5,7 @@ use rtc_wire_drops::release;
 use rtc_wire_text::lines;
 use std::alloc::{AllocError, Global};
 
-/// The text of an offer of a made pair, or no text where none was made.
+/// The text of an offer of a made pair, or no text if none was made.
 pub fn write_offer(
     alloc: Global,
     made: Option<(SdpOffer, SdpPendingOffer)>,
@@ -17,8 +17,8 @@ pub fn write_offer(
     release(made, text)
 }
 
-/// The texts of a round as they go to the other side, and the fingerprint that the answer is to announce, where it is another one than that
-/// of its side.
+/// The texts of a round as the other side receives them, and the fingerprint that the answer is to announce, if it is
+/// another one than that of its side.
 #[derive(Drop)]
 pub struct Texts {
     pub offer: String,
@@ -27,7 +27,7 @@ pub struct Texts {
 }
 
 impl Texts {
-    /// The texts of a round to come.
+    /// The texts of a round that is not yet done.
     pub fn new(alloc: Global) -> Texts {
         Texts {
             offer: String::new(alloc),

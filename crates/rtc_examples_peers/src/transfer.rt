@@ -1,4 +1,4 @@
-//! A file that is sent, and what comes of it.
+//! A file that is sent, and what is received of it.
 use crate::outputs::Outputs;
 use crate::polled::Polled;
 use rtc_file_records::{FileReceiver, FileSender};
@@ -8,7 +8,7 @@ use std::alloc::{AllocError, Global};
 // No file of a stored example has so many records.
 const RECORDS: usize = 1000;
 
-/// A file that goes over the first channel of two peers, the record that it did not take, and what takes the records at the other side.
+/// A file that is sent over the first channel of two peers, the record that it did not take, and what takes the records at the other side.
 #[derive(Drop)]
 pub struct Transfer<'a> {
     alloc: Global,
@@ -31,12 +31,12 @@ impl<'a> Transfer<'a> {
         })
     }
 
-    /// Whether the End of the file came.
+    /// Whether the End of the file was received.
     pub fn is_whole(&self) -> bool {
         self.receiver.is_whole()
     }
 
-    /// Whether a file came whole, and each message was a record of it.
+    /// Whether a file was received whole, and each message was a record of it.
     pub fn has(&self, file: &[u8]) -> bool {
         self.receiver.is_whole() & !self.is_faulty & (self.receiver.held() == file)
     }
@@ -85,7 +85,7 @@ impl<'a> Transfer<'a> {
         }
     }
 
-    /// Takes the messages that came.
+    /// Takes the received messages.
     pub fn take(&mut self, outputs: &mut Outputs) {
         for message in outputs.messages.as_slice() {
             if self.receiver.take(message.as_slice()).is_err() {

@@ -1,6 +1,6 @@
 //! The way of datagrams between two peers.
 
-/// A way on which some of ten datagrams are lost, and some come twice, as numbers from a seed say.
+/// A way on which some of ten datagrams are lost, and some are received twice, as numbers from a seed say.
 #[derive(Clone, Copy, Debug, PartialEq, Eq)]
 pub struct Way {
     pub seed: u32,
@@ -9,7 +9,7 @@ pub struct Way {
 }
 
 impl Way {
-    /// A way on which each datagram comes once.
+    /// A way on which each datagram is received once.
     pub fn plain() -> Way {
         Way {
             seed: 0,
@@ -18,7 +18,7 @@ impl Way {
         }
     }
 
-    /// How often the next datagram comes.
+    /// How often the next datagram is received.
     pub fn arrivals(&mut self) -> u32 {
         self.seed = self.seed.wrapping_mul(1_103_515_245).wrapping_add(12_345);
         let drawn = (self.seed >> 16) % 10;

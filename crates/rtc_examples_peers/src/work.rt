@@ -10,7 +10,7 @@ use rtc_wire::{Bytes, ChannelId, Span};
 use rtc_wire_drops::release;
 use std::alloc::{AllocError, Global};
 
-// Checks, the handshake and the openings of channels come one after another.
+// Checks, the handshake and the openings of channels follow each other.
 const WAKES: usize = 4;
 
 /// What two peers are to do.
@@ -92,7 +92,7 @@ fn all_have_length(messages: &[Bytes], length: usize) -> bool {
     true
 }
 
-// Whether all channels were opened at both ends, all messages came, and neither peer failed.
+// Whether all channels were opened at both ends, all messages were received, and neither peer failed.
 fn is_done(wire: &Wire, work: Work) -> bool {
     let channels = work.channels as usize;
     let opened = (wire.left.opened == channels) & (wire.right.opened == channels);
@@ -102,8 +102,8 @@ fn is_done(wire: &Wire, work: Work) -> bool {
     opened & came & whole & wire.is_faultless()
 }
 
-/// Whether two peers that buffer as much as the longest message is open so many channels, and so many messages of so many bytes come
-/// over the last one, or over all in turn, or none while they are given as many moments.
+/// Whether two peers that buffer as much as the longest message is open so many channels. They send so many messages of
+/// so many bytes over the last one, or over all in turn, or none while they are given as many moments.
 pub fn does_come<P: Signals + Polled>(
     alloc: Global,
     left: &mut P,

@@ -51,7 +51,7 @@ fn all_enabled<C: Config + Drop>(
     has_numbers(alloc, made?.without_codecs(), &ALL, expected.as_slice())
 }
 
-// Whether opus, enabled once more, goes last, and H264, disabled, goes.
+// Whether opus, enabled once more, becomes the last one, and H264, disabled, is removed.
 fn enabled_and_disabled<C: Config + Drop>(
     alloc: Global,
     made: Result<C, AllocError>,

@@ -1,4 +1,4 @@
-//! What stands in for a network and a clock.
+//! A network and a clock in memory.
 use crate::outbox::Outbox;
 use rtc::{Addr, Moment, Plain, PlainRtc, RtcError, Span, drive, receive};
 
