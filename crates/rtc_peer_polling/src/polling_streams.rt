@@ -1,7 +1,7 @@
 //! What a poll takes from the streams of the data channels.
 ghost use Rattle.std.specs.Prelude.{◌≡◌, None};
 ghost use Rattle.rtc_peer_core.specs.Meanings.{meanings};
-ghost use Rattle.rtc_peer_polling.specs.StreamStages.{OpensChannelOver};
+ghost use Rattle.rtc_peer_polling.specs.StreamStages.{ClosesChannelOver, OpensChannelOver, channel_over};
 ghost use Rattle.rtc_peer_polling.specs.StreamStages.{LosesAssociation, TakesStreamEvent, PollsStreamEvents, IsShortTransmit};
 
 use rtc_part_association::Association;
@@ -27,6 +27,22 @@ fn open_channel_over<I: IceAgent, D: DtlsInstance, S: Association, M: MediaSessi
     }
     match peer.core.channels.channel_id_by_stream_id(stream) {
         Some(id) => Met::Event(Event::ChannelOpen(id, label)),
+        None => Met::Again,
+    }
+}
+
+fn close_channel_over<I: IceAgent, D: DtlsInstance, S: Association, M: MediaSession, N: Ids>(
+    peer: &mut PolledPeer<I, D, S, M, N>,
+    stream: u16,
+    reset_pending: bool,
+) -> Met<M::E>
+    ensures { ClosesChannelOver (channel_over stream peer.old.core.channels) reset_pending peer.old result peer.new }
+{
+    match peer.core.channels.channel_id_by_stream_id(stream) {
+        Some(id) => {
+            peer.core.channels.remove_channel(id, reset_pending);
+            Met::Event(Event::ChannelClose(id))
+        }
         None => Met::Again,
     }
 }
@@ -58,15 +74,7 @@ fn take_stream_event<I: IceAgent, D: DtlsInstance, S: Association, M: MediaSessi
             Met::Nothing
         }
         SctpEvent::Open { id, label } => open_channel_over(peer, id, label),
-        SctpEvent::Close { id, reset_pending } => {
-            match peer.core.channels.channel_id_by_stream_id(id) {
-                Some(id) => {
-                    peer.core.channels.remove_channel(id, reset_pending);
-                    Met::Event(Event::ChannelClose(id))
-                }
-                None => Met::Again,
-            }
-        }
+        SctpEvent::Close { id, reset_pending } => close_channel_over(peer, id, reset_pending),
         SctpEvent::StreamResetComplete { id } => {
             peer.core.channels.stream_reset_complete(id);
             Met::Again

@@ -3,7 +3,7 @@ ghost use Rattle.std.specs.Prelude.{◌≡◌, ◌≤◌, if◌then◌else◌, l
 ghost use Rattle.rtc_peer_core.specs.Meanings.{meanings};
 ghost use Rattle.rtc_peer_transport.specs.Stages.{RepeatsStage};
 ghost use Rattle.rtc_peer_transport.specs.declared.met.Met.TheVariants.{Again, Nothing};
-ghost use Rattle.rtc_peer_polling.specs.Walk.{PollsPeer, Rests, TellsConnection};
+ghost use Rattle.rtc_peer_polling.specs.Walk.{PollsPeer, Rests, TellsArrivals, TellsConnection};
 ghost use Rattle.rtc_peer_polling.specs.Walk.{VisitsParts, Waits, Walks};
 
 use crate::polling_dtls::{has_come, poll_dtls_outputs, time_dtls};
@@ -67,6 +67,23 @@ fn tell_connection<I: IceAgent, D: DtlsInstance, S: Association, M: MediaSession
     }
 }
 
+#[tactic(auto, unfolding(crate::specs::Walk::TellsArrivals))]
+fn tell_arrivals<I: IceAgent, D: DtlsInstance, S: Association, M: MediaSession, N: Ids>(
+    peer: &mut PolledPeer<I, D, S, M, N>,
+) -> Met<M::E>
+    ensures { TellsArrivals (meanings I.ice D.dtls S.association M.media N.ids) peer.old result peer.new }
+{
+    match tell_media(peer) {
+        Met::Nothing => {}
+        met => return met,
+    }
+    match tell_fallible_media(peer) {
+        Met::Nothing => {}
+        met => return met,
+    }
+    peer.tell_statistics()
+}
+
 #[tactic(auto, unfolding(crate::specs::Walk::VisitsParts))]
 fn visit_parts<I: IceAgent, D: DtlsInstance, S: Association, M: MediaSession, N: Ids>(
     peer: &mut PolledPeer<I, D, S, M, N>,
@@ -87,15 +104,7 @@ fn visit_parts<I: IceAgent, D: DtlsInstance, S: Association, M: MediaSession, N:
         Met::Nothing => {}
         met => return met,
     }
-    match tell_media(peer) {
-        Met::Nothing => {}
-        met => return met,
-    }
-    match tell_fallible_media(peer) {
-        Met::Nothing => {}
-        met => return met,
-    }
-    match peer.tell_statistics() {
+    match tell_arrivals(peer) {
         Met::Nothing => {}
         met => return met,
     }

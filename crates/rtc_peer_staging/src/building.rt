@@ -210,14 +210,13 @@ pub fn build_peer<
 {
     let session_id = ids.draw();
     dtls.set_version(config.dtls_version());
-    let own = match draw_own(alloc, &config, &mut ids, dtls) {
+    let OwnSide { creds, dtls } = match draw_own(alloc, &config, &mut ids, dtls) {
         Ok(own) => own,
         Err(error) => {
             drop((config, ice, association, media, ids));
             return Err(error);
         }
     };
-    let OwnSide { creds, dtls } = own;
     set_times(&mut ice, &config);
     ice.set_ice_lite(config.ice_lite());
     ice.set_local_credentials(creds);

@@ -1,7 +1,7 @@
 use Rattle.std.proofs.Common.{refl}
 use Rattle.rtc_peer_transport.specs.Stages.{Stopped, WentOn}
 use Rattle.rtc_peer_polling.specs.StreamStages.{TellsStreams}
-use Rattle.rtc_peer_polling.specs.Walk.{SendsDatagrams, TellsArrivals, VisitsParts}
+use Rattle.rtc_peer_polling.specs.Walk.{SendsDatagrams, VisitsParts}
 use Rattle.rtc_peer_polling.proofs.walking.visit_parts.Goals as goal
 
 pub returns-in_default : goal.returns-in_default
@@ -18,42 +18,29 @@ unfolding VisitsParts TellsStreams
 returns-in_default-send_kept_packets g c =
     WentOn _ c.in-Nothing.ensures (Stopped c.in_default-send_kept_packets.not-Nothing (WentOn _ c.in-Nothing-poll_stream_events.ensures c.send_kept_packets.ensures))
 
-pub returns-in_default-tell_media : goal.returns-in_default-tell_media
-unfolding VisitsParts TellsStreams TellsArrivals
-returns-in_default-tell_media g c =
+pub returns-in_default-tell_arrivals : goal.returns-in_default-tell_arrivals
+unfolding VisitsParts TellsStreams
+returns-in_default-tell_arrivals g c =
     WentOn _ c.in-Nothing.ensures (WentOn _ (WentOn _ c.in-Nothing-poll_stream_events.ensures c.in-Nothing-send_kept_packets.ensures)
-    (Stopped c.in_default-tell_media.not-Nothing (Stopped c.in_default-tell_media.not-Nothing c.tell_media.ensures)))
-
-pub returns-in_default-tell_fallible_media : goal.returns-in_default-tell_fallible_media
-unfolding VisitsParts TellsStreams TellsArrivals
-returns-in_default-tell_fallible_media g c =
-    WentOn _ c.in-Nothing.ensures (WentOn _ (WentOn _ c.in-Nothing-poll_stream_events.ensures c.in-Nothing-send_kept_packets.ensures)
-    (Stopped c.in_default-tell_fallible_media.not-Nothing (WentOn _ c.in-Nothing-tell_media.ensures (Stopped c.in_default-tell_fallible_media.not-Nothing c.tell_fallible_media.ensures))))
-
-pub returns-in_default-tell_statistics : goal.returns-in_default-tell_statistics
-unfolding VisitsParts TellsStreams TellsArrivals
-returns-in_default-tell_statistics g c =
-    WentOn _ c.in-Nothing.ensures (WentOn _ (WentOn _ c.in-Nothing-poll_stream_events.ensures c.in-Nothing-send_kept_packets.ensures)
-    (Stopped c.in_default-tell_statistics.not-Nothing (WentOn _ c.in-Nothing-tell_media.ensures (WentOn _ c.in-Nothing-tell_fallible_media.ensures c.tell_statistics.ensures))))
+    (Stopped c.in_default-tell_arrivals.not-Nothing c.tell_arrivals.ensures))
 
 pub returns-in_default-send_checks : goal.returns-in_default-send_checks
-unfolding VisitsParts TellsStreams TellsArrivals SendsDatagrams
+unfolding VisitsParts TellsStreams SendsDatagrams
 returns-in_default-send_checks g c =
     WentOn _ c.in-Nothing.ensures (WentOn _ (WentOn _ c.in-Nothing-poll_stream_events.ensures c.in-Nothing-send_kept_packets.ensures)
-    (WentOn _ (WentOn _ c.in-Nothing-tell_media.ensures (WentOn _ c.in-Nothing-tell_fallible_media.ensures c.in-Nothing-tell_statistics.ensures))
+    (WentOn _ c.in-Nothing-tell_arrivals.ensures
     (Stopped c.in_default-send_checks.not-Nothing (Stopped c.in_default-send_checks.not-Nothing c.send_checks.ensures))))
 
 pub returns-in_default-send_by_pair : goal.returns-in_default-send_by_pair
-unfolding VisitsParts TellsStreams TellsArrivals SendsDatagrams
+unfolding VisitsParts TellsStreams SendsDatagrams
 returns-in_default-send_by_pair g c =
     WentOn _ c.in-Nothing.ensures (WentOn _ (WentOn _ c.in-Nothing-poll_stream_events.ensures c.in-Nothing-send_kept_packets.ensures)
-    (WentOn _ (WentOn _ c.in-Nothing-tell_media.ensures (WentOn _ c.in-Nothing-tell_fallible_media.ensures c.in-Nothing-tell_statistics.ensures))
+    (WentOn _ c.in-Nothing-tell_arrivals.ensures
     (Stopped c.in_default-send_by_pair.not-Nothing (WentOn _ c.in-Nothing-send_checks.ensures c.send_by_pair.ensures))))
 
 pub returns : goal.returns
-unfolding VisitsParts TellsStreams TellsArrivals SendsDatagrams
+unfolding VisitsParts TellsStreams SendsDatagrams
 returns g c =
     WentOn _ c.in-Nothing.ensures (WentOn _ (WentOn _ c.in-Nothing-poll_stream_events.ensures c.in-Nothing-send_kept_packets.ensures)
-    (WentOn _ (WentOn _ c.in-Nothing-tell_media.ensures (WentOn _ c.in-Nothing-tell_fallible_media.ensures c.in-Nothing-tell_statistics.ensures))
-    (WentOn _ (WentOn _ c.in-Nothing-send_checks.ensures c.in-Nothing-send_by_pair.ensures)
+    (WentOn _ c.in-Nothing-tell_arrivals.ensures (WentOn _ (WentOn _ c.in-Nothing-send_checks.ensures c.in-Nothing-send_by_pair.ensures)
     (rw c.has_come.ensures at c.again_when.ensures, refl))))
