@@ -9,7 +9,8 @@ use std::alloc::{AllocError, Global};
 const SCRIPT: &[u8] = b"str0m-pair 1\nL offer audio:sendrecv\nR accept 0\nL answer 0 1\n";
 
 const REPORT: &[u8] =
-    b"step 0 L ops m3 text 0\nstep 1 R answered 1\nline 0 m3 audio sendrecv live remote\nstep 2 L finished\nline 0 m3 audio sendrecv live local\n";
+    b"step 0 L ops m3 text 0\nstep 1 R answered 1\nline 0 m3 audio sendrecv live remote\n\
+    step 2 L finished\nline 0 m3 audio sendrecv live local\n";
 
 // The status of a run of the script, and what it writes. The source gives so many bytes a call, the sink takes so many,
 // and each fails at the calls that are listed for it.

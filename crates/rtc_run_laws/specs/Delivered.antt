@@ -26,7 +26,8 @@ pub record AreDelivering {N : Type 0} (x : ChannelUse) (p : PlainPolled N) (y : 
   pub generation_is : x.generation ≡ y.generation
 
 -- if, besides, the writer has no unacknowledged item of the stream, all was got that was sent
-abbrev pub AreAllDelivered : {N : Type 0} → (readers : List ChannelUse) → PlainPolled N → (writers : List ChannelUse) → PlainPolled N → Type 0
+abbrev pub AreAllDelivered : {N : Type 0} → (readers : List ChannelUse) → PlainPolled N → (writers : List ChannelUse) → PlainPolled N
+    → Type 0
 AreAllDelivered readers p writers q =
     (x y : ChannelUse)
     → Member x readers

@@ -110,7 +110,8 @@ pub record HandsOut {N : Type 0} (draws : Draws N) (stun : List ℕ → Bool) (s
       (uses_in_run (plain_over draws) stun start steps replies pair run (other_side at)) (rtc_at (other_side at) pair)
   pub unsent : (at : Side)
       → AreToldOfSent
-      (sent_over (plain_over draws) stun start (other_side at) run.past pair (reached_by (plain_over draws) stun start run.past pair run.went))
+      (sent_over (plain_over draws) stun start (other_side at) run.past pair
+      (reached_by (plain_over draws) stun start run.past pair run.went))
       (told_over (plain_over draws) stun start at run.past pair (reached_by (plain_over draws) stun start run.past pair run.went))
   pub unannounced : start.sdps ≡ [] → AreInBandSteps steps
       → HaveNumbersLeft draws stun start run.past pair (reached_by (plain_over draws) stun start run.past pair run.went) → (at : Side)
