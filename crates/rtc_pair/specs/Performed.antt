@@ -23,7 +23,7 @@ use Rattle.rtc_run_plain.specs.ProgramPair.{counting, plain_parts, PlainPairStat
 use Rattle.rtc_run_plain.specs.declared.peer_settings.PeerSettings.{PeerSettings}
 use Rattle.rtc_script_reports.specs.Report.{report}
 use Rattle.rtc_script.specs.declared.script.Script.{Script}
-use Rattle.rtc_script.specs.Settings.{sets_lite, sets_snap, buffer_set, interval_set, max_message_set, role_set}
+use Rattle.rtc_script.specs.Settings.{sets_lite, sets_snap, buffer_set, interval_set, max_message_set, polite_set}
 use Rattle.rtc_script.specs.declared.setting.Setting.{Setting}
 
 -- whether a reply reports that memory ran out
@@ -38,7 +38,7 @@ peer_settings at settings = record {
   max_buffered = buffer_set at settings;
   max_message_size = max_message_set at settings;
   stats_interval = interval_set at settings;
-  polite = role_set at settings;
+  polite = polite_set at settings;
 }
 
 -- The pair of the program, as the settings of a script make it.

@@ -16,10 +16,11 @@ use Rattle.rtc_run_history.specs.declared.reply.Reply.{Reply}
 use Rattle.rtc_run_history.specs.declared.shown.Shown.{Shown}
 use Rattle.rtc_run_history.specs.declared.shown.Shown.TheVariants.{Timeout, Packet, Event}
 use Rattle.rtc_run_history.specs.declared.table.Table.{Table}
+use Rattle.rtc_run_history.specs.Past.{table_rows}
 use Rattle.rtc_script_reports.specs.Outputs.{end_line, error_line, output_line, polled_lines}
 use Rattle.rtc_script_reports.specs.Report.{table_lines}
 use Rattle.rtc_script_reports.specs.Rows.{channel_report_line, row_report_line}
-use Rattle.rtc_report_laws.specs.Alike.{channels_of, end_lines, ends_of, lines_behind, outputs_of, rows_of}
+use Rattle.rtc_report_laws.specs.Alike.{table_channels, end_lines, outcome_ends, lines_behind, outputs_of}
 use Rattle.rtc_report_laws.proofs.LineTexts.{AllBegin, first_of, text_of}
 
 -- ---- how lines begin
@@ -50,7 +51,7 @@ end_begins p b Ended e n = tt
 end_begins p b (EndRefused error) e n = (error_begins p b error e n, tt)
 end_begins p b NoRoom e n = (n, tt)
 
-ends_begin : (p : ℕ → Bool) (b : Bool) (outcome : Outcome PlainMediaEvent) → p 101 ≡ b → p 110 ≡ b → AllBegin p b (ends_of outcome)
+ends_begin : (p : ℕ → Bool) (b : Bool) (outcome : Outcome PlainMediaEvent) → p 101 ≡ b → p 110 ≡ b → AllBegin p b (outcome_ends outcome)
 ends_begin p b (Polled outputs end) e n = end_begins p b end e n
 ends_begin p b outcome e n = tt
 
@@ -71,32 +72,32 @@ all_append p b [] ys hx hy = hy
 all_append p b (x ∷ xs) ys hx hy = (hx.0, all_append p b xs ys hx.1 hy)
 
 -- the lines of rows and channels, behind what ended polls
-pub table_begins : (p : ℕ → Bool) (b : Bool) (table : Option Table) → p 108 ≡ b → p 99 ≡ b → AllBegin p b (map row_report_line (rows_of table) ++ map channel_report_line (channels_of table))
+pub table_begins : (p : ℕ → Bool) (b : Bool) (table : Option Table) → p 108 ≡ b → p 99 ≡ b → AllBegin p b (map row_report_line (table_rows table) ++ map channel_report_line (table_channels table))
 table_begins p b table row channel =
-    all_append p b (map row_report_line (rows_of table)) (map channel_report_line (channels_of table)) (rows_begin p b (rows_of table) row) (channels_begin p b (channels_of table) channel)
+    all_append p b (map row_report_line (table_rows table)) (map channel_report_line (table_channels table)) (rows_begin p b (table_rows table) row) (channels_begin p b (table_channels table) channel)
 
 pub rest_begins : (p : ℕ → Bool) (b : Bool) (reply : Reply PlainMediaEvent) → p 101 ≡ b → p 110 ≡ b → p 108 ≡ b → p 99 ≡ b
-    → AllBegin p b (ends_of reply.outcome ++ (map row_report_line (rows_of reply.table) ++ map channel_report_line (channels_of reply.table)))
+    → AllBegin p b (outcome_ends reply.outcome ++ (map row_report_line (table_rows reply.table) ++ map channel_report_line (table_channels reply.table)))
 rest_begins p b reply error none row channel =
-    all_append p b (ends_of reply.outcome) (map row_report_line (rows_of reply.table) ++ map channel_report_line (channels_of reply.table)) (ends_begin p b reply.outcome error none)
+    all_append p b (outcome_ends reply.outcome) (map row_report_line (table_rows reply.table) ++ map channel_report_line (table_channels reply.table)) (ends_begin p b reply.outcome error none)
     (table_begins p b reply.table row channel)
 
 pub behind_begins : (p : ℕ → Bool) (b : Bool) (reply : Reply PlainMediaEvent) → p 111 ≡ b → p 101 ≡ b → p 110 ≡ b → p 108 ≡ b → p 99 ≡ b → AllBegin p b (lines_behind reply)
 behind_begins p b reply output error none row channel =
-    all_append p b (map output_line (outputs_of reply.outcome)) (ends_of reply.outcome ++ (map row_report_line (rows_of reply.table) ++ map channel_report_line (channels_of reply.table)))
+    all_append p b (map output_line (outputs_of reply.outcome)) (outcome_ends reply.outcome ++ (map row_report_line (table_rows reply.table) ++ map channel_report_line (table_channels reply.table)))
     (outputs_begin p b (outputs_of reply.outcome) output) (rest_begins p b reply error none row channel)
 
 pub outputs_all : (p : ℕ → Bool) (b : Bool) (outcome : Outcome PlainMediaEvent) → p 111 ≡ b → AllBegin p b (map output_line (outputs_of outcome))
 outputs_all p b outcome h = outputs_begin p b (outputs_of outcome) h
 
-pub ends_all : (p : ℕ → Bool) (b : Bool) (outcome : Outcome PlainMediaEvent) → p 101 ≡ b → p 110 ≡ b → AllBegin p b (ends_of outcome)
+pub ends_all : (p : ℕ → Bool) (b : Bool) (outcome : Outcome PlainMediaEvent) → p 101 ≡ b → p 110 ≡ b → AllBegin p b (outcome_ends outcome)
 ends_all p b outcome e n = ends_begin p b outcome e n
 
-pub rows_all : (p : ℕ → Bool) (b : Bool) (table : Option Table) → p 108 ≡ b → AllBegin p b (map row_report_line (rows_of table))
-rows_all p b table h = rows_begin p b (rows_of table) h
+pub rows_all : (p : ℕ → Bool) (b : Bool) (table : Option Table) → p 108 ≡ b → AllBegin p b (map row_report_line (table_rows table))
+rows_all p b table h = rows_begin p b (table_rows table) h
 
-pub channels_all : (p : ℕ → Bool) (b : Bool) (table : Option Table) → p 99 ≡ b → AllBegin p b (map channel_report_line (channels_of table))
-channels_all p b table h = channels_begin p b (channels_of table) h
+pub channels_all : (p : ℕ → Bool) (b : Bool) (table : Option Table) → p 99 ≡ b → AllBegin p b (map channel_report_line (table_channels table))
+channels_all p b table h = channels_begin p b (table_channels table) h
 
 -- ---- their text
 
@@ -112,7 +113,7 @@ end_text Ended = refl
 end_text (EndRefused error) = append-nil (error_line error)
 end_text NoRoom = append-nil (end_line NoRoom)
 
-polled_text : (outcome : Outcome PlainMediaEvent) → text_of (map output_line (outputs_of outcome)) ++ text_of (ends_of outcome) ≡ polled_lines outcome
+polled_text : (outcome : Outcome PlainMediaEvent) → text_of (map output_line (outputs_of outcome)) ++ text_of (outcome_ends outcome) ≡ polled_lines outcome
 polled_text (Polled outputs end) =
     ap (λ (t : List ℕ). t ++ text_of (end_lines end)) (text_map output_line outputs) ∙ ap (λ (t : List ℕ). flat_map output_line outputs ++ t) (end_text end)
 polled_text (Negotiated answers made) = refl
@@ -124,7 +125,7 @@ polled_text (Refused error) = refl
 polled_text NoSuch = refl
 polled_text Alloc = refl
 
-table_text : (table : Option Table) → text_of (map row_report_line (rows_of table) ++ map channel_report_line (channels_of table)) ≡ table_lines table
+table_text : (table : Option Table) → text_of (map row_report_line (table_rows table) ++ map channel_report_line (table_channels table)) ≡ table_lines table
 table_text None = refl
 table_text (Some table) =
     text_append (map row_report_line table.lines) (map channel_report_line table.channels)
@@ -134,7 +135,7 @@ table_text (Some table) =
 pub behind_text : (reply : Reply PlainMediaEvent) → text_of (lines_behind reply) ≡ polled_lines reply.outcome ++ table_lines reply.table
 behind_text reply =
     let outs : List (List ℕ) = map output_line (outputs_of reply.outcome) in
-    let rest : List (List ℕ) = map row_report_line (rows_of reply.table) ++ map channel_report_line (channels_of reply.table) in
-    text_append outs (ends_of reply.outcome ++ rest) ∙ ap (λ (t : List ℕ). text_of outs ++ t) (text_append (ends_of reply.outcome) rest)
-    ∙ sym (append_assoc (text_of outs) (text_of (ends_of reply.outcome)) (text_of rest)) ∙ ap (λ (t : List ℕ). t ++ text_of rest) (polled_text reply.outcome)
+    let rest : List (List ℕ) = map row_report_line (table_rows reply.table) ++ map channel_report_line (table_channels reply.table) in
+    text_append outs (outcome_ends reply.outcome ++ rest) ∙ ap (λ (t : List ℕ). text_of outs ++ t) (text_append (outcome_ends reply.outcome) rest)
+    ∙ sym (append_assoc (text_of outs) (text_of (outcome_ends reply.outcome)) (text_of rest)) ∙ ap (λ (t : List ℕ). t ++ text_of rest) (polled_text reply.outcome)
     ∙ ap (λ (t : List ℕ). polled_lines reply.outcome ++ t) (table_text reply.table)

@@ -9,12 +9,13 @@ use Rattle.rtc_run_history.specs.Sides.{side_of}
 use Rattle.rtc_run_history.specs.declared.outcome.Outcome.{Outcome}
 use Rattle.rtc_run_history.specs.declared.reply.Reply.{Reply}
 use Rattle.rtc_run_history.specs.declared.step.Step.{Step}
+use Rattle.rtc_run_history.specs.Past.{table_rows}
 use Rattle.rtc_script.specs.Words.{side_text}
 use Rattle.rtc_script_reports.specs.Outcomes.{outcome_text}
 use Rattle.rtc_script_reports.specs.Outputs.{output_line, polled_lines}
 use Rattle.rtc_script_reports.specs.Report.{report_from, step_line, step_lines, table_lines}
 use Rattle.rtc_script_reports.specs.Rows.{channel_report_line, row_report_line}
-use Rattle.rtc_report_laws.specs.Alike.{AreAlike, AreReplies, ReportsTell, channels_of, ends_of, lines_behind, outputs_of, rows_of}
+use Rattle.rtc_report_laws.specs.Alike.{AreAlike, AreReplies, ReportsTell, table_channels, outcome_ends, lines_behind, outputs_of}
 use Rattle.rtc_report_laws.proofs.LineTexts.{GoesOn, cut_line, cut_text, split_by, text_of}
 use Rattle.rtc_report_laws.proofs.OutcomeKinds.{same_words}
 use Rattle.rtc_report_laws.proofs.ReplyLines.{behind_begins, behind_text, channels_all, ends_all, outputs_all, rest_begins, rows_all, table_begins}
@@ -26,11 +27,11 @@ same_behind : (reply other : Reply PlainMediaEvent) → outcome_text reply.outco
 same_behind reply other words same =
     let outputs = split_by (λ c. c == 111) (map output_line (outputs_of reply.outcome)) (map output_line (outputs_of other.outcome)) _ _ (outputs_all (λ c. c == 111) true reply.outcome refl)
     (outputs_all (λ c. c == 111) true other.outcome refl) (rest_begins (λ c. c == 111) false reply refl refl refl refl) (rest_begins (λ c. c == 111) false other refl refl refl refl) same in
-    let ends = split_by (λ c. (c == 101) || (c == 110)) (ends_of reply.outcome) (ends_of other.outcome) _ _ (ends_all (λ c. (c == 101) || (c == 110)) true reply.outcome refl refl)
+    let ends = split_by (λ c. (c == 101) || (c == 110)) (outcome_ends reply.outcome) (outcome_ends other.outcome) _ _ (ends_all (λ c. (c == 101) || (c == 110)) true reply.outcome refl refl)
     (ends_all (λ c. (c == 101) || (c == 110)) true other.outcome refl refl) (table_begins (λ c. (c == 101) || (c == 110)) false reply.table refl refl)
     (table_begins (λ c. (c == 101) || (c == 110)) false other.table refl refl) outputs.1 in
-    let rows = split_by (λ c. c == 108) (map row_report_line (rows_of reply.table)) (map row_report_line (rows_of other.table)) (map channel_report_line (channels_of reply.table))
-    (map channel_report_line (channels_of other.table)) (rows_all (λ c. c == 108) true reply.table refl) (rows_all (λ c. c == 108) true other.table refl)
+    let rows = split_by (λ c. c == 108) (map row_report_line (table_rows reply.table)) (map row_report_line (table_rows other.table)) (map channel_report_line (table_channels reply.table))
+    (map channel_report_line (table_channels other.table)) (rows_all (λ c. c == 108) true reply.table refl) (rows_all (λ c. c == 108) true other.table refl)
     (channels_all (λ c. c == 108) false reply.table refl) (channels_all (λ c. c == 108) false other.table refl) ends.1 in
     record {
       words = words;

@@ -4,7 +4,6 @@ use Rattle.std.specs.List.{AllByRecursion, AllZip, list_any}
 use Rattle.rtc_channels.specs.declared.channel_row.ChannelRow.{ChannelRow}
 use Rattle.rtc_peer_core.specs.declared.rtc_error.RtcError.TheVariants.{Alloc as PeerAlloc}
 use Rattle.rtc_plain_media.specs.declared.plain_media_event.PlainMediaEvent.{PlainMediaEvent}
-use Rattle.rtc_sdp_values.specs.declared.line_row.LineRow.{LineRow}
 use Rattle.rtc_run_history.specs.declared.outcome.Outcome.{Outcome}
 use Rattle.rtc_run_history.specs.declared.outcome.Outcome.TheVariants.{Negotiated, Answered, Finished, Done, Wrote, Polled, Refused}
 use Rattle.rtc_run_history.specs.declared.outcome.Outcome.TheVariants.{NoSuch, Alloc}
@@ -14,6 +13,7 @@ use Rattle.rtc_run_history.specs.declared.reply.Reply.{Reply}
 use Rattle.rtc_run_history.specs.declared.shown.Shown.{Shown}
 use Rattle.rtc_run_history.specs.declared.step.Step.{Step}
 use Rattle.rtc_run_history.specs.declared.table.Table.{Table}
+use Rattle.rtc_run_history.specs.Past.{table_rows}
 use Rattle.rtc_script_reports.specs.Outcomes.{outcome_text}
 use Rattle.rtc_script_reports.specs.Outputs.{end_line, output_line}
 use Rattle.rtc_script_reports.specs.Report.{report}
@@ -38,24 +38,21 @@ abbrev pub end_lines : PollEnd → List (List ℕ)
 end_lines Ended = []
 end_lines end = end_line end ∷ []
 
-abbrev pub ends_of : Outcome PlainMediaEvent → List (List ℕ)
-ends_of (Polled outputs end) = end_lines end
-ends_of outcome = []
+abbrev pub outcome_ends : Outcome PlainMediaEvent → List (List ℕ)
+outcome_ends (Polled outputs end) = end_lines end
+outcome_ends outcome = []
 
--- the rows and the channels of a table, if there is one
-abbrev pub rows_of : Option Table → List LineRow
-rows_of None = []
-rows_of (Some table) = table.lines
-
-abbrev pub channels_of : Option Table → List ChannelRow
-channels_of None = []
-channels_of (Some table) = table.channels
+-- the channels of a table, if there is one
+abbrev pub table_channels : Option Table → List ChannelRow
+table_channels None = []
+table_channels (Some table) = table.channels
 
 -- the lines behind that of the step
 abbrev pub lines_behind : Reply PlainMediaEvent → List (List ℕ)
 lines_behind reply =
     map output_line (outputs_of reply.outcome)
-    ++ (ends_of reply.outcome ++ (map row_report_line (rows_of reply.table) ++ map channel_report_line (channels_of reply.table)))
+    ++ (outcome_ends reply.outcome
+    ++ (map row_report_line (table_rows reply.table) ++ map channel_report_line (table_channels reply.table)))
 
 -- no text of a reply holds an end of line
 pub record IsWhole (reply : Reply PlainMediaEvent) : Type 0 where
@@ -87,9 +84,9 @@ pub record AreAlike (reply other : Reply PlainMediaEvent) : Type 0 where
   pub words : outcome_text reply.outcome ≡ outcome_text other.outcome
   pub outcomes : AreAlikeOutcomes reply.outcome other.outcome
   pub outputs : map output_line (outputs_of reply.outcome) ≡ map output_line (outputs_of other.outcome)
-  pub ends : ends_of reply.outcome ≡ ends_of other.outcome
-  pub rows : map row_report_line (rows_of reply.table) ≡ map row_report_line (rows_of other.table)
-  pub channels : map channel_report_line (channels_of reply.table) ≡ map channel_report_line (channels_of other.table)
+  pub ends : outcome_ends reply.outcome ≡ outcome_ends other.outcome
+  pub rows : map row_report_line (table_rows reply.table) ≡ map row_report_line (table_rows other.table)
+  pub channels : map channel_report_line (table_channels reply.table) ≡ map channel_report_line (table_channels other.table)
 
 -- replies to the same steps with one report agree
 abbrev pub ReportsTell : Type 0

@@ -7,8 +7,9 @@ use Rattle.rtc_sdp_values.specs.declared.direction.Direction.{Direction}
 use Rattle.rtc_sdp_values.specs.declared.line_row.LineRow.{LineRow}
 use Rattle.rtc_sdp_values.specs.declared.line_row.LineRow.TheVariants.{Media, App}
 use Rattle.rtc_peer_rows.specs.RowChanges.{RowChange, changed_at, directed_row, row_after_change, stopped_row}
+use Rattle.rtc_peer_core.specs.Sources.{is_number}
 use Rattle.rtc_run_history.specs.Sound.{Midway, OpsAnswered, having_channel, having_rows, holding_mid}
-use Rattle.rtc_run_history.specs.Undone.{is_number, places_changed, row_undone, rows_undone}
+use Rattle.rtc_run_history.specs.Undone.{places_changed, row_undone, rows_undone}
 use Rattle.rtc_run_history.specs.declared.op.Op.{Op}
 use Rattle.rtc_run_history.specs.declared.op.Op.TheVariants.{AddMedia, SetDirection, StopMedia, AddChannel, IceRestart}
 use Rattle.rtc_run_history.specs.declared.op_answer.OpAnswer.{OpAnswer}

@@ -63,6 +63,11 @@ rows_or true (Some table) earlier = table.lines
 rows_or true None earlier = earlier
 rows_or false table earlier = earlier
 
+-- the rows of a table, if there is one
+abbrev pub table_rows : Option Table → List LineRow
+table_rows None = []
+table_rows (Some table) = table.lines
+
 -- the rows of a side, as its last reply with a table shows them
 abbrev pub before : {E : Type 0} → Side → List (Entry E) → List LineRow
 before at [] = []

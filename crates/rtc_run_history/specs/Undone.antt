@@ -1,10 +1,10 @@
 -- What a side shows once it rolled an offer back (RFC 8829, section 5.7), read from the past: each row that the step of the offer changed
 -- is as it was before that step, and the channels that the step added are gone.
-use Rattle.std.specs.Prelude.{◌+◌, ◌==◌, not, ℕ, true, Bool, List, [], ◌∷◌, ◌++◌, filter, if◌then◌else◌, Option, Some, slice_get}
-use Rattle.std.specs.List.{list_any}
+use Rattle.std.specs.Prelude.{◌+◌, not, ℕ, true, List, [], ◌∷◌, ◌++◌, filter, if◌then◌else◌, Option, Some, slice_get}
 use Rattle.rtc_sdp_values.specs.declared.line_row.LineRow.{LineRow}
 use Rattle.rtc_sdp_values.specs.declared.line_row.LineRow.TheVariants.{Media}
 use Rattle.rtc_channels.specs.declared.channel_row.ChannelRow.{ChannelRow}
+use Rattle.rtc_peer_core.specs.Sources.{is_number}
 use Rattle.rtc_run_history.specs.declared.side.Side.{Side}
 use Rattle.rtc_run_history.specs.declared.op.Op.{Op}
 use Rattle.rtc_run_history.specs.declared.op.Op.TheVariants.{SetDirection, StopMedia}
@@ -17,10 +17,6 @@ use Rattle.rtc_run_history.specs.declared.step.Step.TheVariants.{Negotiate}
 use Rattle.rtc_run_history.specs.declared.table.Table.{Table}
 use Rattle.rtc_run_history.specs.Past.{Entry, before, channels_shown, makes, numbers_in}
 use Rattle.rtc_run_history.specs.Rounds.{before_last, makes_offer}
-
--- whether a number is among these
-abbrev pub is_number : ℕ → List ℕ → Bool
-is_number n numbers = list_any (λ own. own == n) numbers
 
 -- the place of the row that an op changed
 abbrev pub place_changed : Op → OpAnswer → List ℕ

@@ -11,9 +11,10 @@ use Rattle.rtc_channels.specs.Holds.{all_cancelled, cancelled_if, channels_witho
 use Rattle.rtc_channels.proofs.GivenLemmas.{rising_without}
 use Rattle.rtc_peer_core.specs.ChannelRows.{channel_row, channel_rows}
 use Rattle.rtc_peer_core.specs.Meanings.{Meanings}
+use Rattle.rtc_peer_core.specs.Sources.{is_number}
 use Rattle.rtc_peer_polling.specs.Numbers.{AreUnconfirmed}
 use Rattle.rtc_peer_polling.proofs.NumberedChannels.{unconfirmed_without}
-use Rattle.rtc_run_history.specs.Undone.{is_number, channels_but}
+use Rattle.rtc_run_history.specs.Undone.{channels_but}
 
 -- none of these channels was confirmed
 abbrev pub AreCancellable : List (ℕ × ChannelConfig) → List Channel → Type 0

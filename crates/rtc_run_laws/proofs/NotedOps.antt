@@ -17,6 +17,7 @@ use Rattle.rtc_peer_rows.specs.RowChanges.{RowChange, all_restored, changed_at, 
 use Rattle.rtc_peer_rows.specs.Table.{IsTable, Rising, row_of}
 use Rattle.rtc_peer_rows.proofs.RowChangeLemmas.{AreAlike, KeepsRow, alike_self, changed_of_alike, directed_row_keeps, stopped_row_keeps, table_alike}
 use Rattle.rtc_peer_core.specs.Calls.{noted_of}
+use Rattle.rtc_peer_core.specs.Sources.{is_number}
 use Rattle.rtc_peer_core.specs.Stance.{Stance}
 use Rattle.rtc_peer_core.specs.Undo.{RowBefore, undo_mids}
 use Rattle.rtc_peer_core.proofs.StanceCalls.{StanceChangesLine}
@@ -25,7 +26,7 @@ use Rattle.rtc_run_history.specs.declared.op.Op.TheVariants.{AddMedia, SetDirect
 use Rattle.rtc_run_history.specs.declared.op_answer.OpAnswer.{OpAnswer}
 use Rattle.rtc_run_history.specs.declared.op_answer.OpAnswer.TheVariants.{Mid, Changed, NoLine, Channel, BadChannel as NoChannel, Creds, Alloc as OpAlloc}
 use Rattle.rtc_run_history.specs.Performs.{CallsLine}
-use Rattle.rtc_run_history.specs.Undone.{is_number, places_changed, rows_undone}
+use Rattle.rtc_run_history.specs.Undone.{places_changed, rows_undone}
 use Rattle.rtc_run_laws.proofs.PlacedRows.{IsPlaced, placed}
 use Rattle.rtc_run_laws.proofs.UndoneRows.{alike_on, mid_alike, undone_alike, undone_same, none_undone, number_more, undone_more, restored-append, changed_elsewhere}
 use Rattle.rtc_run_laws.proofs.StanceSteps.{StancePerformsOps}

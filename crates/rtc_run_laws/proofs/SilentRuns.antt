@@ -38,7 +38,7 @@ use Rattle.rtc_run_laws.proofs.RunsTold.{PairTold, new_pair_told, reached_told}
 use Rattle.rtc_run_laws.proofs.StandingEntries.{AreBanded}
 use Rattle.rtc_run_laws.proofs.StandingSides.{Sent, SideSent}
 use Rattle.rtc_run_laws.proofs.StepsExchange.{plain_over_laws}
-use Rattle.rtc_run_laws.specs.Unannounced.{AreGotOfAnnounced, AreGotOfSent, AreSentOfAnnounced, AreToldOfAnnounced, AreToldOfSent, HaveNumbersLeft, IsAnnounced}
+use Rattle.rtc_run_laws.specs.Unannounced.{AreGotOfAnnounced, AreGotOfSent, AreSentOfAnnounced, AreToldOfAnnounced, AreToldOfSent, HaveNumbersLeft, IsAnnouncedOver}
 use Rattle.rtc_run_laws.proofs.Silence.{pair_got_sent, pair_told_sent}
 use Rattle.rtc_run_laws.proofs.SentUses.{IsSentOver, after_step}
 
@@ -56,7 +56,7 @@ same_is Right Left h = absurd (true≢false (sym h))
 some_is : (n k : ℕ) → Some n ≡ Some k → n ≡ k
 some_is n k h = cc
 
-announced_is : (s g : ℕ) (uses : List ChannelUse) → HasUseOver s (Some g) uses → IsAnnounced s g uses
+announced_is : (s g : ℕ) (uses : List ChannelUse) → HasUseOver s (Some g) uses → IsAnnouncedOver s g uses
 announced_is s g uses h =
     let use_found = found s (Some g) uses h in
     record {
@@ -67,12 +67,12 @@ announced_is s g uses h =
       generation_is = some_is use_found.use_over.generation g (sym use_found.is_over.2);
     }
 
-sent_is : (s g : ℕ) (sent : List (Bool × List ℕ)) (uses : List ChannelUse) → (sent ≡ []) ⊎ HasUseOver s (Some g) uses → (sent ≡ []) ⊎ IsAnnounced s g uses
+sent_is : (s g : ℕ) (sent : List (Bool × List ℕ)) (uses : List ChannelUse) → (sent ≡ []) ⊎ HasUseOver s (Some g) uses → (sent ≡ []) ⊎ IsAnnouncedOver s g uses
 sent_is s g sent uses (inl none) = inl none
 sent_is s g sent uses (inr over) = inr (announced_is s g uses over)
 
-told_is : (s g : ℕ) (sent told : List (Bool × List ℕ)) (others : List ChannelUse) → (sent ≡ [] → told ≡ []) → (sent ≡ []) ⊎ IsAnnounced s g others
-    → (told ≡ []) ⊎ IsAnnounced s g others
+told_is : (s g : ℕ) (sent told : List (Bool × List ℕ)) (others : List ChannelUse) → (sent ≡ [] → told ≡ []) → (sent ≡ []) ⊎ IsAnnouncedOver s g others
+    → (told ≡ []) ⊎ IsAnnouncedOver s g others
 told_is s g sent told others silent (inl none) = inl (silent none)
 told_is s g sent told others silent (inr over) = inr over
 

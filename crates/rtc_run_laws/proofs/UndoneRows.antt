@@ -10,7 +10,8 @@ use Rattle.rtc_sdp_values.specs.declared.media_kind.MediaKind.{MediaKind}
 use Rattle.rtc_peer_rows.specs.RowChanges.{all_restored, changed_at, changed_of, dir_restored, media_mid, restored_row, row_after_change}
 use Rattle.rtc_peer_rows.proofs.RowChangeLemmas.{AreAlike, AreAlikeRows}
 use Rattle.rtc_peer_core.specs.Undo.{RowBefore}
-use Rattle.rtc_run_history.specs.Undone.{is_number, row_undone, rows_undone}
+use Rattle.rtc_peer_core.specs.Sources.{is_number}
+use Rattle.rtc_run_history.specs.Undone.{row_undone, rows_undone}
 
 -- ---- rows that are alike
 

@@ -12,7 +12,7 @@ use Rattle.rtc_run_laws.specs.PlainPairs.{PlainPair, plain_over}
 use Rattle.rtc_run_laws.specs.ToldMessages.{MessagesTold}
 
 -- a side announced a channel in-band over a generation of a stream
-pub record IsAnnounced (s g : ℕ) (uses : List ChannelUse) : Type 0 where
+pub record IsAnnouncedOver (s g : ℕ) (uses : List ChannelUse) : Type 0 where
   pub use_of : ChannelUse
   pub member : Member use_of uses
   pub in_band : use_of.in_band ≡ true
@@ -30,16 +30,16 @@ AreGotOfSent sent uses =
 
 -- nothing was sent to a generation of a stream, or a channel was announced over it
 abbrev pub AreSentOfAnnounced : List ChannelUse → (sent : ℕ → ℕ → List (Bool × List ℕ)) → Type 0
-AreSentOfAnnounced uses sent = (s g : ℕ) → (sent s g ≡ []) ⊎ IsAnnounced s g uses
+AreSentOfAnnounced uses sent = (s g : ℕ) → (sent s g ≡ []) ⊎ IsAnnouncedOver s g uses
 
 -- nothing was reported of whatever channel in a generation of a stream, or the other side announced a channel over it
 abbrev pub AreToldOfAnnounced : (others : List ChannelUse) → MessagesTold → Type 0
-AreToldOfAnnounced others told = (channel s g : ℕ) → (told channel s g ≡ []) ⊎ IsAnnounced s g others
+AreToldOfAnnounced others told = (channel s g : ℕ) → (told channel s g ≡ []) ⊎ IsAnnouncedOver s g others
 
 -- nor was anything got over a channel that was announced in-band
 abbrev pub AreGotOfAnnounced : (others uses : List ChannelUse) → Type 0
 AreGotOfAnnounced others uses =
-    (x : ChannelUse) → Member x uses → x.in_band ≡ true → (s : ℕ) → x.stream ≡ Some s → (x.got ≡ []) ⊎ IsAnnounced s x.generation others
+    (x : ChannelUse) → Member x uses → x.in_band ≡ true → (s : ℕ) → x.stream ≡ Some s → (x.got ≡ []) ⊎ IsAnnouncedOver s x.generation others
 
 -- before each step a number was left at both sides for a channel
 abbrev pub HaveNumbersLeft : {N : Type 0} → (draws : Draws N) (stun : List ℕ → Bool) (start : PlainPair N)

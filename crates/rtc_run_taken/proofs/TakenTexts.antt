@@ -15,7 +15,7 @@ use Rattle.rtc_run_history.specs.declared.step.Step.{Step}
 use Rattle.rtc_run_history.specs.declared.step.Step.TheVariants.{Negotiate, AcceptOffer, AcceptAnswer, ForeignOffer, ForeignAnswer}
 use Rattle.rtc_run_history.specs.declared.table.Table.{Table}
 use Rattle.rtc_run_history.specs.PairState.{PairState, stances_of}
-use Rattle.rtc_run_history.specs.Past.{Entry, MadeSdp, added_in, before, remote_sdp, sdp_for, sdps}
+use Rattle.rtc_run_history.specs.Past.{Entry, MadeSdp, added_in, before, remote_sdp, sdp_for, sdps, table_rows}
 use Rattle.rtc_run_history.specs.Runs.{EntersSoundly, Went}
 use Rattle.rtc_run_history.specs.SaidRows.{MakesSdp, row_said}
 use Rattle.rtc_run_history.specs.Sides.{same_side}
@@ -30,14 +30,14 @@ use Rattle.rtc_run_laws.proofs.PushedLists.{push_places}
 use Rattle.rtc_run_laws.proofs.ReadPasts.{past_read, read_at}
 use Rattle.rtc_run_laws.proofs.SoundPasts.{Sound}
 use Rattle.rtc_run_laws.proofs.Takings.{answer_taking, foreign_answer_taking, foreign_offer_taking, offer_taking}
-use Rattle.rtc_run_taken.specs.Taken.{AllTaken, RunsTakeTexts, TakesForeign, TakesSaid, lines_of, made_one, rows_said}
+use Rattle.rtc_run_taken.specs.Taken.{AllTaken, RunsTakeTexts, TakesForeign, TakesSaid, made_one, rows_said}
 
 -- ---- what each session description says
 
 -- a step that makes a session description tells its rows
 abbrev MadeRows : {E : Type 0} → Step → Outcome E → Option Table → List MadeSdp → Type 0
 MadeRows step outcome table made =
-    (said : MadeSdp) × (made ≡ said ∷ []) × (parsed_lines said.sdp ≡ map row_said (lines_of table ++ added_in (length (lines_of table)) step outcome table made))
+    (said : MadeSdp) × (made ≡ said ∷ []) × (parsed_lines said.sdp ≡ map row_said (table_rows table ++ added_in (length (table_rows table)) step outcome table made))
 
 no_more : (sdp : Sdp) (rows : List LineRow) → parsed_lines sdp ≡ map row_said rows → parsed_lines sdp ≡ map row_said (rows ++ [])
 no_more sdp rows says = says ∙ ap (map row_said) (sym (append-nil rows))
@@ -61,7 +61,7 @@ said_rows fresh (e ∷ past) sound k said there = by (made_rows e.step e.outcome
     earlier = rows_said k past
 
     news : List LineRow
-    news = lines_of e.table ++ added_in (length (lines_of e.table)) e.step e.outcome e.table e.made
+    news = table_rows e.table ++ added_in (length (table_rows e.table)) e.step e.outcome e.table e.made
 
     by : (e.made ≡ []) ⊎ MadeRows e.step e.outcome e.table e.made → (slice_get (sdps past) k ≡ Some said → parsed_lines said.sdp ≡ map row_said (rows_said k past))
         → parsed_lines said.sdp ≡ map row_said (rows_said k (e ∷ past))

@@ -1,5 +1,5 @@
 -- What the acceptance of a session description (SDP) leaves, by the rows that it says (RFC 8829, sections 5.10 and 5.11).
-use Rattle.std.specs.Prelude.{◌≡◌, ◌==◌, ◌&&◌, ℕ, Bool, true, false, List, [], ◌∷◌, ◌++◌, map, length, if◌then◌else◌, Option, Some, None}
+use Rattle.std.specs.Prelude.{◌≡◌, ◌==◌, ◌&&◌, ℕ, Bool, true, false, List, [], ◌∷◌, ◌++◌, map, length, if◌then◌else◌, Option, Some}
 use Rattle.rtc_sdp_values.specs.declared.line_row.LineRow.{LineRow}
 use Rattle.rtc_change.specs.TableAfter.{table_after}
 use Rattle.rtc_peer_rows.specs.ParsedLines.{parsed_lines}
@@ -12,7 +12,7 @@ use Rattle.rtc_run_history.specs.declared.outcome.Outcome.TheVariants.{Answered,
 use Rattle.rtc_run_history.specs.declared.table.Table.{Table}
 use Rattle.rtc_run_history.specs.Fresh.{ArePeersFormed}
 use Rattle.rtc_run_history.specs.PairState.{PairState}
-use Rattle.rtc_run_history.specs.Past.{Entry, MadeSdp, before, sdps, added_in}
+use Rattle.rtc_run_history.specs.Past.{Entry, MadeSdp, before, sdps, added_in, table_rows}
 use Rattle.rtc_run_history.specs.Runs.{Runs}
 use Rattle.rtc_run_history.specs.SaidRows.{row_said}
 use Rattle.rtc_run_history.specs.Signalled.{Signalled, NotMade, Unreadable, Readable, foreign}
@@ -22,16 +22,12 @@ abbrev pub made_one : List MadeSdp → Bool
 made_one [] = false
 made_one (said ∷ more) = true
 
-abbrev pub lines_of : Option Table → List LineRow
-lines_of None = []
-lines_of (Some table) = table.lines
-
 -- the rows that the SDP of a number says: those of its side when it was made, then those that its step added
 abbrev pub rows_said : {E : Type 0} → ℕ → List (Entry E) → List LineRow
 rows_said k [] = []
 rows_said k (entry ∷ past) =
     if made_one entry.made && (length (sdps past) == k)
-    then lines_of entry.table ++ added_in (length (lines_of entry.table)) entry.step entry.outcome entry.table entry.made
+    then table_rows entry.table ++ added_in (length (table_rows entry.table)) entry.step entry.outcome entry.table entry.made
     else rows_said k past
 
 -- the table leaves what these rows say of the rows from before

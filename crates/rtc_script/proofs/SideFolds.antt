@@ -3,7 +3,7 @@ use Rattle.std.proofs.Common.{◌≡◌, ◌∙◌, ◌+◌, ◌≤◌, ◌<◌,
 use Rattle.std.proofs.lemmas.List.{drop_more, drop_all}
 use Rattle.rtc_run_history.specs.declared.side.Side.{Side}
 use Rattle.rtc_script.specs.Settings.{makes_lite, sets_lite, allows_snap, sets_snap, buffer_by, max_message_by}
-use Rattle.rtc_script.specs.Settings.{number_after, number_from, interval_after, interval_from, role_after, role_from}
+use Rattle.rtc_script.specs.Settings.{number_after, number_from, interval_after, interval_from, polite_after, polite_from}
 use Rattle.rtc_script.specs.declared.setting.Setting.{Setting}
 use Rattle.rtc_script.specs.declared.side_settings.SideSettings.{SideSettings}
 
@@ -15,7 +15,7 @@ side_after at setting side = record {
   max_buffered = number_after buffer_by at setting side.max_buffered;
   max_message_size = number_after max_message_by at setting side.max_message_size;
   stats_interval = interval_after at setting side.stats_interval;
-  polite = role_after at setting side.polite;
+  polite = polite_after at setting side.polite;
 }
 
 -- and behind the settings that are left
@@ -26,7 +26,7 @@ side_from at rest side = record {
   max_buffered = number_from buffer_by at rest side.max_buffered;
   max_message_size = number_from max_message_by at rest side.max_message_size;
   stats_interval = interval_from at rest side.stats_interval;
-  polite = role_from at rest side.polite;
+  polite = polite_from at rest side.polite;
 }
 
 moved : (a b c : Bool) → (b || a) || c ≡ a || (b || c)

@@ -92,24 +92,24 @@ abbrev pub interval_set : Side → List (Side × Setting) → Option ℕ
 interval_set at settings = interval_from at settings None
 
 -- the role on glare by a setting, or else as before
-abbrev pub role_by : Setting → Option Bool → Option Bool
-role_by Lite role = role
-role_by Snap role = role
-role_by (Buffer size) role = role
-role_by (MaxMessage size) role = role
-role_by (Stats millis) role = role
-role_by (Polite polite) role = Some polite
+abbrev pub polite_by : Setting → Option Bool → Option Bool
+polite_by Lite role = role
+polite_by Snap role = role
+polite_by (Buffer size) role = role
+polite_by (MaxMessage size) role = role
+polite_by (Stats millis) role = role
+polite_by (Polite polite) role = Some polite
 
-abbrev pub role_after : Side → Side × Setting → Option Bool → Option Bool
-role_after at setting role = if same_side setting.0 at then role_by setting.1 role else role
+abbrev pub polite_after : Side → Side × Setting → Option Bool → Option Bool
+polite_after at setting role = if same_side setting.0 at then polite_by setting.1 role else role
 
-abbrev pub role_from : Side → List (Side × Setting) → Option Bool → Option Bool
-role_from at [] role = role
-role_from at (setting ∷ settings) role = role_from at settings (role_after at setting role)
+abbrev pub polite_from : Side → List (Side × Setting) → Option Bool → Option Bool
+polite_from at [] role = role
+polite_from at (setting ∷ settings) role = polite_from at settings (polite_after at setting role)
 
 -- the role of a side on glare by the settings; it has none if none says so
-abbrev pub role_set : Side → List (Side × Setting) → Option Bool
-role_set at settings = role_from at settings None
+abbrev pub polite_set : Side → List (Side × Setting) → Option Bool
+polite_set at settings = polite_from at settings None
 
 -- what a side is set to by the settings
 abbrev pub side_settings : Side → List (Side × Setting) → SideSettings
@@ -119,5 +119,5 @@ side_settings at settings = record {
   max_buffered = buffer_set at settings;
   max_message_size = max_message_set at settings;
   stats_interval = interval_set at settings;
-  polite = role_set at settings;
+  polite = polite_set at settings;
 }

@@ -1,7 +1,7 @@
 //! What settings set a side to.
 ghost use Rattle.std.specs.Prelude.{◌≡◌, ◌||◌};
 ghost use Rattle.rtc_script.specs.Settings.{is_lite_setting, makes_lite, is_snap_setting, allows_snap, buffer_by, max_message_by};
-ghost use Rattle.rtc_script.specs.Settings.{interval_by, interval_after, number_after, role_by, role_after};
+ghost use Rattle.rtc_script.specs.Settings.{interval_by, interval_after, number_after, polite_by, polite_after};
 
 use crate::Setting;
 use rtc_run_history::Side;
@@ -32,7 +32,7 @@ impl SideSettings {
           max_buffered = buffer_by setting self.old.max_buffered;
           max_message_size = max_message_by setting self.old.max_message_size;
           stats_interval = interval_by setting self.old.stats_interval;
-          polite = role_by setting self.old.polite;
+          polite = polite_by setting self.old.polite;
         } }
     {
         match setting {
@@ -55,7 +55,7 @@ impl SideSettings {
           max_buffered = number_after buffer_by at setting.now self.old.max_buffered;
           max_message_size = number_after max_message_by at setting.now self.old.max_message_size;
           stats_interval = interval_after at setting.now self.old.stats_interval;
-          polite = role_after at setting.now self.old.polite;
+          polite = polite_after at setting.now self.old.polite;
         } }
     {
         match (setting.0, at) {
