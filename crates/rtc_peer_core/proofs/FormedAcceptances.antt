@@ -24,7 +24,7 @@ use Rattle.rtc_peer_core.specs.Formats.{AreFormedFormats}
 use Rattle.rtc_peer_core.specs.Stance.{Stance}
 use Rattle.rtc_peer_core.proofs.FormedHeads.{restart_words, creds_in_use_words, candidates_in_use_hosts}
 use Rattle.rtc_peer_core.proofs.FormedUpdates.{line_after_formed}
-use Rattle.rtc_peer_core.proofs.StanceCalls.{TellsMedia, StanceRefuses, StanceAcceptsOffer, StanceAcceptsAnswer, Breaks, followed_by}
+use Rattle.rtc_peer_core.proofs.StanceTaken.{TellsMedia, StanceRefuses, StanceAcceptsOffer, StanceAcceptsAnswer, Breaks, followed_by}
 use Rattle.rtc_peer_core.proofs.TokenTables.{NameTokens, table_after_tokens}
 use Rattle.rtc_peer_core.proofs.FormedStances.{counted_formed}
 

@@ -11,6 +11,7 @@ pub mod FormedUpdates
 pub mod ApartSources
 pub mod FoundSources
 pub mod StanceCalls
+pub mod StanceTaken
 pub mod ChannelRowLemmas
 pub mod PartMovesLemmas
 pub mod StartedSctp

@@ -51,8 +51,8 @@ use Rattle.rtc_peer_core.proofs.PartMovesLemmas.{role_taken, start_keeps_local}
 use Rattle.rtc_peer_core.proofs.StoppedPeers.{stopped_ice, stopped_local, stopped_sctp, stopped_media}
 use Rattle.rtc_peer_core.proofs.ChannelRowLemmas.{IsShutBefore, confirmed_rows}
 use Rattle.rtc_peer_core.proofs.SctpAcceptances.{by_sdp_rows, by_sdp_size, by_sdp_start, by_sdp_refused, stopped_rows, stopped_size, stopped_start}
-use Rattle.rtc_peer_core.proofs.StanceCalls.{StanceAcceptsOffer, StanceAcceptsAnswer, StandsOffer, StandsAnswer}
-use Rattle.rtc_peer_core.proofs.StanceCalls.{BreaksOffer, Breaks, followed_by}
+use Rattle.rtc_peer_core.proofs.StanceTaken.{StanceAcceptsOffer, StanceAcceptsAnswer, StandsOffer, StandsAnswer}
+use Rattle.rtc_peer_core.proofs.StanceTaken.{BreaksOffer, Breaks, followed_by}
 use Rattle.rtc_peer_core.proofs.StanceMoves.{refuses_stands, followed_stands, joins_stand, breaks_by, tells_media, prepared_lines, same_lines}
 
 accepted_offer_stands : {I D S M E X T W N : Type 0} (m : Meanings I D S M E X T W N) → PartsLaws m

@@ -31,7 +31,7 @@ use Rattle.rtc_peer_core.proofs.BuiltPeers.{drawn_creds_words}
 use Rattle.rtc_peer_core.proofs.PartMovesLemmas.{AreLeft}
 use Rattle.rtc_peer_core.proofs.FormedUpdates.{told_updates_formed}
 use Rattle.rtc_peer_core.proofs.HalfLemmas.{drawn_read_back, joined_same}
-use Rattle.rtc_peer_core.proofs.StanceCalls.{StanceRefuses, Breaks, IsFollowed, Joins, TellsMedia}
+use Rattle.rtc_peer_core.proofs.StanceTaken.{StanceRefuses, Breaks, IsFollowed, Joins, TellsMedia}
 
 pub refuses_stands : {I D S M E X T W N : Type 0} (m : Meanings I D S M E X T W N) (p : Peer I D S M N) (asked : Option Asked) (sdp : Sdp)
     (why : Refusal)

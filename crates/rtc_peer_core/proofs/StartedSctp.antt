@@ -10,7 +10,7 @@ use Rattle.rtc_sctp.specs.Streams.{SctpStreams}
 use Rattle.rtc_sctp.proofs.BegunLemmas.{LeavesStart, inits_started, inits_snap, refused_start}
 use Rattle.rtc_peer_rows.specs.Table.{app_of}
 use Rattle.rtc_peer_core.specs.PartMoves.{StartsSctp, StartsWhere, needs_start}
-use Rattle.rtc_peer_core.proofs.StanceCalls.{inited_after, begun_by}
+use Rattle.rtc_peer_core.proofs.StanceTaken.{inited_after, begun_by}
 
 module _ {S : Type 0} (m : AssociationMeaning S) where
   -- what an Ok start leaves: whether the association is started, and what is kept

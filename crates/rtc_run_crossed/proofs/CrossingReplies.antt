@@ -9,7 +9,7 @@ use Rattle.rtc_sdp_values.specs.declared.sdp.Sdp.{Sdp}
 use Rattle.rtc_change.specs.Held.{Asked, Held}
 use Rattle.rtc_change.specs.PendingOffer.{staged_restart}
 use Rattle.rtc_change.specs.Plans.{verdict}
-use Rattle.rtc_peer_core.proofs.StanceCalls.{StandsAnswer, StandsOffer}
+use Rattle.rtc_peer_core.proofs.StanceTaken.{StandsAnswer, StandsOffer}
 use Rattle.rtc_peer_core.specs.Glare.{meets_glare}
 use Rattle.rtc_peer_core.specs.Stance.{Stance, held_by}
 use Rattle.rtc_peer_core.specs.declared.rtc_error.RtcError.TheVariants.{Alloc as PeerAlloc, Dtls, RemoteSdp, Sctp, Sdp as SdpRefused}

@@ -16,7 +16,7 @@ use Rattle.rtc_peer_core.specs.declared.told_row.ToldRow.{ToldRow}
 use Rattle.rtc_peer_core.specs.MadeSdp.{answer_head, answer_sdp, answered_told, role_after, sdp_of_rows, setup_of_role}
 use Rattle.rtc_peer_core.specs.SdpHalves.{answer_init}
 use Rattle.rtc_peer_core.specs.Stance.{Stance}
-use Rattle.rtc_peer_core.proofs.StanceCalls.{StandsAnswer, StandsOffer}
+use Rattle.rtc_peer_core.proofs.StanceTaken.{StandsAnswer, StandsOffer}
 use Rattle.rtc_run_history.specs.declared.kept.Kept.{Kept}
 use Rattle.rtc_run_history.specs.declared.side.Side.{Side}
 use Rattle.rtc_run_history.specs.declared.side.Side.TheVariants.{Left, Right}

@@ -15,7 +15,7 @@ use Rattle.rtc_sdp_values.specs.declared.sdp.Sdp.{Sdp}
 use Rattle.rtc_change.specs.Plans.{no_fingerprint}
 use Rattle.rtc_peer_core.specs.SdpHalves.{told_chunk, joined_by}
 use Rattle.rtc_peer_core.specs.Stance.{Stance, kept_init, held_by}
-use Rattle.rtc_peer_core.proofs.StanceCalls.{Breaks, Joins, begun_by}
+use Rattle.rtc_peer_core.proofs.StanceTaken.{Breaks, Joins, begun_by}
 use Rattle.rtc_run_history.specs.Answers.{has_app_row}
 use Rattle.rtc_run_history.specs.Signalled.{sdp_read, foreign}
 use Rattle.rtc_run_history.specs.declared.side.Side.{Side}

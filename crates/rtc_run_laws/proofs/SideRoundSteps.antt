@@ -15,7 +15,8 @@ use Rattle.rtc_change.specs.Plans.{is_restart}
 use Rattle.rtc_peer_core.specs.MadeSdp.{creds_in_use, row_told, offer_head, offered_told, answer_head, answered_told, offer_sdp, answer_sdp}
 use Rattle.rtc_peer_core.specs.Stance.{Stance}
 use Rattle.rtc_peer_core.specs.SdpHalves.{tells_half, offer_init, offered_snap, told_chunk, joined_by, answer_init}
-use Rattle.rtc_peer_core.proofs.StanceCalls.{StanceApplies, StandsOffer, StandsAnswer, begun_by}
+use Rattle.rtc_peer_core.proofs.StanceCalls.{StanceApplies}
+use Rattle.rtc_peer_core.proofs.StanceTaken.{StandsOffer, StandsAnswer, begun_by}
 use Rattle.rtc_peer_core.proofs.ToldRows.{rows_of_offered, rows_of_answered}
 use Rattle.rtc_run_history.specs.declared.side.Side.{Side}
 use Rattle.rtc_run_history.specs.declared.side.Side.TheVariants.{Left, Right}

@@ -23,7 +23,8 @@ use Rattle.rtc_peer_core.specs.Meanings.{Meanings, PartsLaws}
 use Rattle.rtc_peer_core.specs.Stance.{Stance, stance_of}
 use Rattle.rtc_peer_core.proofs.ApartSources.{IsSingleUpdate, AreStagedSingle, AreLinesSingle, staged_single, told_updates_single, line_after_single}
 use Rattle.rtc_peer_core.proofs.StanceMoves.{tells_media}
-use Rattle.rtc_peer_core.proofs.StanceCalls.{StanceAcceptsOffer, StanceAcceptsAnswer, StanceChangesLine, StanceApplies, stance_alone}
+use Rattle.rtc_peer_core.proofs.StanceTaken.{StanceAcceptsOffer, StanceAcceptsAnswer}
+use Rattle.rtc_peer_core.proofs.StanceCalls.{StanceChangesLine, StanceApplies, stance_alone}
 use Rattle.rtc_run_history.specs.declared.kept.Kept.{Kept}
 use Rattle.rtc_run_history.specs.declared.made.Made.{Made}
 use Rattle.rtc_run_history.specs.declared.made.Made.TheVariants.{NotAsked, Nothing, Offer, Alloc as MadeAlloc}

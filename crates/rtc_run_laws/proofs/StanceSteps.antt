@@ -9,16 +9,8 @@ use Rattle.rtc_peer_core.specs.declared.rtc_error.RtcError.TheVariants.{Sdp as S
 use Rattle.rtc_peer_core.specs.Meanings.{Meanings}
 use Rattle.rtc_peer_core.specs.Stance.{Stance}
 use Rattle.rtc_peer_core.specs.Staging.{lacks_app}
-use Rattle.rtc_peer_core.proofs.StanceCalls.{
-  StanceAcceptsOffer,
-  StanceAcceptsAnswer,
-  StanceAddsMedia,
-  StanceSetsDirection,
-  StanceStopsMedia,
-  StanceAddsChannel,
-  StanceStagesRestart,
-  StanceApplies,
-}
+use Rattle.rtc_peer_core.proofs.StanceTaken.{StanceAcceptsOffer, StanceAcceptsAnswer}
+use Rattle.rtc_peer_core.proofs.StanceCalls.{StanceAddsMedia, StanceSetsDirection, StanceStopsMedia, StanceAddsChannel, StanceStagesRestart, StanceApplies}
 use Rattle.rtc_peer_core.proofs.StanceRollbacks.{StanceRollsBack}
 use Rattle.rtc_peer_polling.specs.Numbers.{AreUnconfirmed}
 use Rattle.rtc_run_history.specs.Signalled.{Signalled, NotMade, Unreadable, Readable, foreign}

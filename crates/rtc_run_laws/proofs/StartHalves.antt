@@ -17,7 +17,8 @@ use Rattle.rtc_peer_core.specs.declared.told_row.ToldRow.{ToldRow}
 use Rattle.rtc_peer_core.specs.MadeSdp.{row_line, told_line, row_told, with_candidates, sdp_of_rows}
 use Rattle.rtc_peer_core.specs.SdpHalves.{half_or, pending_halves, told_chunk, joined_by, init_told, kept_told}
 use Rattle.rtc_peer_core.specs.Stance.{Stance}
-use Rattle.rtc_peer_core.proofs.StanceCalls.{IsReadBack, begun_by}
+use Rattle.rtc_peer_core.proofs.StanceCalls.{IsReadBack}
+use Rattle.rtc_peer_core.proofs.StanceTaken.{begun_by}
 use Rattle.rtc_run_history.specs.Answers.{has_app_row}
 use Rattle.rtc_run_history.specs.Orderly.{AreJoined}
 

@@ -16,7 +16,8 @@ use Rattle.rtc_peer_core.specs.SdpHalves.{tells_half, kept_told}
 use Rattle.rtc_peer_core.specs.Stance.{Stance, held_by}
 use Rattle.rtc_peer_core.specs.declared.rtc_error.RtcError.TheVariants.{Net, Media as MediaFailed, Glare}
 use Rattle.rtc_peer_core.specs.declared.rtc_error.RtcError.TheVariants.{RemoteSdp, Sdp as SdpRefused, Dtls, Sctp, ChangesOutOfOrder, BadChannel, Alloc as PeerAlloc}
-use Rattle.rtc_peer_core.proofs.StanceCalls.{Breaks, inited_after, begun_by, stance_alone}
+use Rattle.rtc_peer_core.proofs.StanceTaken.{Breaks, inited_after, begun_by}
+use Rattle.rtc_peer_core.proofs.StanceCalls.{stance_alone}
 use Rattle.rtc_run_history.specs.Signalled.{Signalled, NotMade, Unreadable, Readable, foreign}
 use Rattle.rtc_run_history.specs.declared.side.Side.{Side}
 use Rattle.rtc_run_history.specs.declared.kept.Kept.{Kept}

@@ -12,4 +12,5 @@ pub mod Resume
 mod StandardFacts
 mod FirstLine
 pub mod GivenLemmas
+pub mod PayloadKeys
 pub mod ReadPayloads

@@ -13,5 +13,8 @@ pub mod Law
 pub mod StreamLemmas
 pub mod Lacking
 pub mod ReadForms
+pub mod ReadLayers
+pub mod ReadTable
+pub mod ReadItems
 pub mod ReadAttributes
 pub mod ReadLines

@@ -27,18 +27,11 @@ use Rattle.rtc_sdp_reader.proofs.GivenLemmas.{first_gives}
 use Rattle.rtc_sdp_reader.proofs.ReadPayloads.{payloads_read}
 use Rattle.rtc_sdp_writer.specs.Plain.{IsPairOfLine, IsPlainLayer, IsPlainSimulcast}
 use Rattle.rtc_sdp_writer.specs.ReadLines.{IsReadLine}
-use Rattle.rtc_sdp_writer.proofs.ReadForms.{if_some, IsReadLayers}
-use Rattle.rtc_sdp_writer.proofs.ReadAttributes.{
-  IsAttributeRead,
-  AreFormatsRead,
-  IsItemRead,
-  items_read,
-  attributes_read,
-  mid_read,
-  extensions_read,
-  layers_read,
-  list_read,
-}
+use Rattle.rtc_sdp_writer.proofs.ReadForms.{if_some}
+use Rattle.rtc_sdp_writer.proofs.ReadLayers.{IsReadLayers}
+use Rattle.rtc_sdp_writer.proofs.ReadTable.{IsAttributeRead, AreFormatsRead, IsItemRead}
+use Rattle.rtc_sdp_writer.proofs.ReadItems.{items_read}
+use Rattle.rtc_sdp_writer.proofs.ReadAttributes.{attributes_read, mid_read, extensions_read, layers_read, list_read}
 
 -- ---- layers
 abbrev ArePairsOfLine : RidLine → Type 0
