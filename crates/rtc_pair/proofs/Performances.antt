@@ -1,7 +1,7 @@
 -- Scripts that were run on the pair of the program.
 use Rattle.std.proofs.Common.{◌≡◌, ◌⊎◌, inl, inr, ℕ, Bool, List, Option, Result, Ok, Err, IfOk, sym, subst}
 use Rattle.std.specs.declared.alloc.Global.{Global}
-use Rattle.rtc_run_crossed.specs.Crossed.{CrossedOffersMeet}
+use Rattle.rtc_run_laws.specs.Crossed.{CrossedOffersMeet}
 use Rattle.rtc_run_laws.proofs.HandsRuns.{run_hands_out}
 use Rattle.rtc_run_laws.proofs.SettlesRuns.{run_settles_open}
 use Rattle.rtc_run_plain.proofs.PlainFaults.{plain_unfaulted}

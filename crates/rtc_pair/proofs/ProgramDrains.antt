@@ -10,14 +10,14 @@ use Rattle.rtc_plain_media.specs.MediaContents.{fresh_media}
 use Rattle.rtc_plain_media.specs.declared.plain_media_event.PlainMediaEvent.{PlainMediaEvent}
 use Rattle.rtc_peer_transport.specs.declared.transport.Transport.{Transport}
 use Rattle.rtc_peer_transport.specs.Connection.{no_transport}
-use Rattle.rtc_peer_weight.specs.Weight.{HasNoThreshold, handshake_weight}
-use Rattle.rtc_peer_weight.proofs.SetsNone.{built_sets_none}
+use Rattle.rtc_peer_laws.specs.Weight.{HasNoThreshold, handshake_weight}
+use Rattle.rtc_peer_laws.proofs.SetsNone.{built_sets_none}
 use Rattle.rtc_run_history.specs.declared.reply.Reply.{Reply}
 use Rattle.rtc_run_history.specs.declared.side.Side.TheVariants.{Left, Right}
 use Rattle.rtc_run_history.specs.declared.step.Step.{Step}
 use Rattle.rtc_run_history.specs.Runs.{Runs}
-use Rattle.rtc_run_weight.specs.Drains.{AreUndriven, DrainsWithin, HaveMoments}
-use Rattle.rtc_run_weight.proofs.Runs.{went_within}
+use Rattle.rtc_run_laws.specs.Drains.{AreUndriven, DrainsWithin, HaveMoments}
+use Rattle.rtc_run_laws.proofs.UndrivenRuns.{went_within}
 use Rattle.rtc_run_laws.proofs.StepsExchange.{plain_over_laws}
 use Rattle.rtc_run_plain.specs.ProgramPair.{IsProgramPair, IsProgramPeer, PlainPairState, PlainPeer, counting, plain_parts, program_config}
 use Rattle.rtc_run_plain.specs.declared.peer_settings.PeerSettings.{PeerSettings}

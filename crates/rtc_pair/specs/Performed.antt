@@ -8,7 +8,7 @@ use Rattle.rtc_run_history.specs.declared.side.Side.TheVariants.{Left, Right}
 use Rattle.rtc_run_history.specs.declared.reply.Reply.{Reply}
 use Rattle.rtc_run_history.specs.declared.step.Step.{Step}
 use Rattle.rtc_run_history.specs.Memory.{lacks_memory, tell_fault}
-use Rattle.rtc_run_crossed.specs.Crossed.{CrossedOffersMeet}
+use Rattle.rtc_run_laws.specs.Crossed.{CrossedOffersMeet}
 use Rattle.rtc_run_history.specs.DrawnInRuns.{AllPlain, DrawsUnused}
 use Rattle.rtc_run_history.specs.Fresh.{ArePeersFormed}
 use Rattle.rtc_run_history.specs.Native.{go_forward}
@@ -16,7 +16,7 @@ use Rattle.rtc_run_history.specs.Runs.{Runs}
 use Rattle.rtc_run_history.specs.Signalled.{AllReadBack}
 use Rattle.rtc_plain_ice.specs.Messages.{is_ice_message}
 use Rattle.rtc_plain_media.specs.declared.plain_media_event.PlainMediaEvent.{PlainMediaEvent}
-use Rattle.rtc_run_weight.specs.Drains.{DrainsWithin, HaveMoments}
+use Rattle.rtc_run_laws.specs.Drains.{DrainsWithin, HaveMoments}
 use Rattle.rtc_run_laws.specs.HandedOut.{HandsOut}
 use Rattle.rtc_run_laws.specs.SettledPairs.{SettlesOpen}
 use Rattle.rtc_run_plain.specs.ProgramPair.{counting, plain_parts, PlainPairState, IsProgramPair}

@@ -9,3 +9,4 @@ pub mod JoinedPeers
 pub mod ShownData
 pub mod Exchanging
 pub mod MediaRows
+pub mod Weight

@@ -1,5 +1,5 @@
-//! Laws of peers: what their calls do to their parts and leave of streams, what a drained peer returns, and what two
-//! joined peers read of each other.
+//! Laws of peers: what their calls do to their parts and leave of streams, what a drained peer returns, how outputs lower its weight,
+//! and what two joined peers read of each other.
 #![tactic(auto)]
 
 mod acts;
@@ -14,6 +14,7 @@ mod laws;
 mod once;
 mod rows;
 mod shown;
+mod weight;
 
 pub use acts::{acceptances_act, calls_act, candidates_act};
 pub use changes::{changes_act, negotiation_relays};
@@ -30,3 +31,6 @@ pub use laws::calls_relay;
 pub use once::channels_open_once;
 pub use rows::named_rows_are_media_lines;
 pub use shown::shown_data_is_of_dtls;
+pub use weight::{
+    other_calls_leave_handshakes_told, other_calls_set_no_threshold, outputs_lower_weight,
+};

@@ -1,12 +1,12 @@
 //! Runs of pairs.
 ghost use Rattle.std.specs.Prelude.{◌≡◌, ◌+◌, ◌<◌, ◌≤◌, ◌^◌, ◌-◌, [], length, IfOk, OnErr, vec_capacity};
-ghost use Rattle.rtc_run_crossed.specs.Crossed.{CrossedOffersMeet};
+ghost use Rattle.rtc_run_laws.specs.Crossed.{CrossedOffersMeet};
 ghost use Rattle.rtc_run_history.specs.DrawnInRuns.{AllPlain, DrawsUnused, HaveNoLines};
 ghost use Rattle.rtc_run_history.specs.Sizes.{steps_size};
 ghost use Rattle.rtc_run_history.specs.Fresh.{ArePeersFormed, IsFresh};
 ghost use Rattle.rtc_run_history.specs.Runs.{Runs};
 ghost use Rattle.rtc_run_history.specs.Signalled.{AllReadBack};
-ghost use Rattle.rtc_run_weight.specs.Drains.{AreUndriven, DrainsWithin, HaveMoments};
+ghost use Rattle.rtc_run_laws.specs.Drains.{AreUndriven, DrainsWithin, HaveMoments};
 ghost use Rattle.rtc_peer_core.specs.Meanings.{meanings};
 
 use crate::Pair;

@@ -1,7 +1,7 @@
 //! Runs over parts that fail.
 ghost use Rattle.std.specs.Prelude.{◌≡◌, ◌<◌, ◌^◌, IfOk, OnErr};
 ghost use Rattle.rtc_plain_ice.specs.Messages.{is_ice_message};
-ghost use Rattle.rtc_run_crossed.specs.Crossed.{CrossedOffersMeet};
+ghost use Rattle.rtc_run_laws.specs.Crossed.{CrossedOffersMeet};
 ghost use Rattle.rtc_run_history.specs.DrawnInRuns.{AllPlain, DrawsUnused, HaveNoLines};
 ghost use Rattle.rtc_run_history.specs.Fresh.{ArePeersFormed, IsFresh};
 ghost use Rattle.rtc_run_history.specs.Runs.{Runs};

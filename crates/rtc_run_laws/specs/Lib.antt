@@ -19,3 +19,6 @@ pub mod SettledPairs
 pub mod HandedOut
 pub mod Unannounced
 pub mod Delivered
+pub mod Drains
+pub mod Crossed
+pub mod Taken

@@ -3,3 +3,4 @@ pub mod Events
 pub mod Outputs
 pub mod Report
 pub mod Rows
+pub mod Alike

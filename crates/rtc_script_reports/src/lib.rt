@@ -3,6 +3,7 @@
 
 mod channels;
 mod events;
+mod laws;
 mod outcomes;
 mod outputs;
 mod pushing;
@@ -11,4 +12,5 @@ mod reports;
 mod rows;
 mod words;
 
+pub use laws::reports_tell_replies;
 pub use reports::write_report;

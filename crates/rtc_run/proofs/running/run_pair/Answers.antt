@@ -1,9 +1,9 @@
 use Rattle.std.proofs.Common.{rules, sym, subst}
 use Rattle.std.specs.Prelude.{List}
 use Rattle.rtc_run_history.specs.declared.step.Step.{Step}
-use Rattle.rtc_run_weight.specs.Drains.{HaveMoments}
-use Rattle.rtc_run_weight.proofs.Runs.{went_within}
-use Rattle.rtc_run_crossed.proofs.CrossingRuns.{crossed_meet}
+use Rattle.rtc_run_laws.specs.Drains.{HaveMoments}
+use Rattle.rtc_run_laws.proofs.UndrivenRuns.{went_within}
+use Rattle.rtc_run_laws.proofs.CrossingRuns.{crossed_meet}
 use Rattle.rtc_run_laws.proofs.FormedSteps.{runs_read_back}
 use Rattle.rtc_run_laws.proofs.PlainRuns.{runs_plain}
 use Rattle.rtc_run.proofs.Sized.{run_begins, run_has_room, run_goes_on}

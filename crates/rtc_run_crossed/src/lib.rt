@@ -1,2 +1,0 @@
-//! Why glare brings a polite and an impolite peer together.
-#![tactic(auto)]
