@@ -75,9 +75,8 @@ fn put_video(out: &mut String, disabled: bool, rows: &[PayloadRow]) -> Result<()
 }
 
 #[tactic(auto, unfolding(rtc_sdp_grammar::specs::LineTexts::media_line))]
-fn put_application(out: &mut String, disabled: bool, _rows: &[PayloadRow]) -> Result<(), AllocError>
-    ensures { OnOk result (string_bytes out.new ≡ string_bytes out.old
-        ++ crlf (spec.media_line Application disabled (formats_of _rows.now))) }
+fn put_application(out: &mut String, disabled: bool) -> Result<(), AllocError>
+    ensures { OnOk result (string_bytes out.new ≡ string_bytes out.old ++ crlf (spec.media_line Application disabled [])) }
 {
     let port = port_word(disabled);
     write!(
@@ -88,8 +87,8 @@ fn put_application(out: &mut String, disabled: bool, _rows: &[PayloadRow]) -> Re
 }
 
 #[tactic(auto, unfolding(rtc_sdp_grammar::specs::LineTexts::media_line))]
-fn put_unknown(out: &mut String, disabled: bool, _rows: &[PayloadRow]) -> Result<(), AllocError>
-    ensures { OnOk result (string_bytes out.new ≡ string_bytes out.old ++ crlf (spec.media_line Unknown disabled (formats_of _rows.now))) }
+fn put_unknown(out: &mut String, disabled: bool) -> Result<(), AllocError>
+    ensures { OnOk result (string_bytes out.new ≡ string_bytes out.old ++ crlf (spec.media_line Unknown disabled [])) }
 {
     let port = port_word(disabled);
     write!(out, "m=unknown {port} UDP\r\n")?;
@@ -97,6 +96,7 @@ fn put_unknown(out: &mut String, disabled: bool, _rows: &[PayloadRow]) -> Result
 }
 
 /// The `m=` line of a line part. Media list the payload types of their rows: red, the codec's own, rtx of each.
+#[tactic(auto, unfolding(rtc_sdp_grammar::specs::LineTexts::media_line))]
 pub(crate) fn put_media(
     out: &mut String,
     kind: LineKind,
@@ -108,7 +108,7 @@ pub(crate) fn put_media(
     match kind {
         LineKind::Audio => put_audio(out, disabled, rows),
         LineKind::Video => put_video(out, disabled, rows),
-        LineKind::Application => put_application(out, disabled, rows),
-        LineKind::Unknown => put_unknown(out, disabled, rows),
+        LineKind::Application => put_application(out, disabled),
+        LineKind::Unknown => put_unknown(out, disabled),
     }
 }
