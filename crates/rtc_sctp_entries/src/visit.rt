@@ -53,15 +53,10 @@ fn read_entry<S: Association>(
 }
 
 // Passes a threshold on once, refused or not.
-fn hand_threshold<S: Association>(
-    n: usize,
-    association: &mut S,
-    entry: &mut StreamEntry,
-    _resets: &[u16],
-) -> Met
+fn hand_threshold<S: Association>(n: usize, association: &mut S, entry: &mut StreamEntry) -> Met
     requires { S.association.started association.old ≡ true }
-    ensures { HandsThreshold S.association n (turn association.old entry.old _resets.now)
-        result (turn association.new entry.new _resets.now) }
+    ensures { (resets : List ℕ) → HandsThreshold S.association n (turn association.old entry.old resets)
+        result (turn association.new entry.new resets) }
 {
     match part::hand_threshold(association, entry.id, n) {
         Asked::Done => {
@@ -87,12 +82,7 @@ fn attend_unmarked<S: Association>(
         result (turn association.new entry.new resets.new.items) }
 {
     match entry.threshold {
-        BufferedThresholdConfig::Desired(n) => hand_threshold(
-            n,
-            association,
-            entry,
-            resets.as_slice(),
-        ),
+        BufferedThresholdConfig::Desired(n) => hand_threshold(n, association, entry),
         BufferedThresholdConfig::Unconfigured => read_entry(alloc, association, entry, resets),
         BufferedThresholdConfig::Configured(_) => read_entry(alloc, association, entry, resets),
     }
