@@ -89,17 +89,16 @@ fn settle_piece(
 /// The item that was first is acknowledged: what is reported of it, with the items that are left behind it.
 fn settle_item(
     item: &Outgoing,
-    behind: &VecDeque<Outgoing>,
     amounts: &mut BTreeMap<u16, usize>,
     streams: &mut StreamTable,
     events: &mut VecDeque<AssocEvent>,
 )
     requires room { deque_len events.old < deque_capacity events.old }
-    requires agree { Agree amounts.old (item.now ∷ behind.now.items) }
     requires sound { SoundTable (stream_rows streams.old.states streams.old.generations.items) streams.old.places streams.old.at_last }
-    ensures told { told_of (stream_rows streams.new.states streams.new.generations.items) events.new.items
-        ≡ item_settled item.now behind.now.items (told_of (stream_rows streams.old.states streams.old.generations.items) events.old.items) }
-    ensures agree { Agree amounts.new behind.now.items }
+    ensures told { (behind : List Item) → Agree amounts.old (item.now ∷ behind)
+        → told_of (stream_rows streams.new.states streams.new.generations.items) events.new.items
+        ≡ item_settled item.now behind (told_of (stream_rows streams.old.states streams.old.generations.items) events.old.items) }
+    ensures agree { (behind : List Item) → Agree amounts.old (item.now ∷ behind) → Agree amounts.new behind }
     ensures sound { SoundTable (stream_rows streams.new.states streams.new.generations.items) streams.new.places streams.new.at_last }
     ensures len { deque_len events.new ≤ deque_len events.old + 1 }
     ensures capacity { deque_capacity events.old ≤ deque_capacity events.new }
@@ -138,6 +137,6 @@ pub fn settle(
         let Some(item) = items.pop_front() else {
             return;
         };
-        settle_item(&item, items, amounts, streams, events);
+        settle_item(&item, amounts, streams, events);
     }
 }

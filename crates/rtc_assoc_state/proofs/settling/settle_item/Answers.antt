@@ -5,24 +5,24 @@ use Rattle.rtc_assoc_state.proofs.SettlingLemmas.{item_settled-More, item_settle
 use Rattle.rtc_assoc_state.proofs.settling.settle_item.Goals as goal
 
 pub returns-in-Close-clause-told : goal.returns-in-Close-clause-told
-returns-in-Close-clause-told c =
+returns-in-Close-clause-told c = λ behind agree.
     settled-close c.item-item.result.now _ _ _ _ _ _ c.item-item.ensures.value (ap (λ i. i.part) (sym c.item-item.ensures.value) ∙ c.in-Close.is) c.settle_close.ensures.told
 
 pub returns-in-More-clause-told : goal.returns-in-More-clause-told
-returns-in-More-clause-told c =
-    settled-piece c.item-item.result.now c.args.item.now c.args.behind.now.items c.args.amounts.now c.lower.new.amounts (stream_rows c.args.streams.now.states c.args.streams.now.generations.items) c.args.events.now.items _ _ _
-    c.item-item.ensures.value c.requires.agree
-    (agree-lent c.args.amounts.now c.lower.new.amounts c.item-item.result.now c.args.item.now _ _ c.item-item.ensures.value (ap length c.as_slice.ensures) c.requires.agree c.lower.ensures)
+returns-in-More-clause-told c = λ behind agree.
+    settled-piece c.item-item.result.now c.args.item.now behind c.args.amounts.now c.lower.new.amounts (stream_rows c.args.streams.now.states c.args.streams.now.generations.items) c.args.events.now.items _ _ _
+    c.item-item.ensures.value agree
+    (agree-lent c.args.amounts.now c.lower.new.amounts c.item-item.result.now c.args.item.now _ _ c.item-item.ensures.value (ap length c.as_slice.ensures) agree c.lower.ensures)
     c.amount_in-before.ensures
     c.amount_in-after.ensures
     c.settle_piece.ensures.items
     ∙ sym (item_settled-More _ _ _ (ap (λ i. i.part) (sym c.item-item.ensures.value) ∙ c.in-More.is))
 
 pub returns-in-Last-clause-told : goal.returns-in-Last-clause-told
-returns-in-Last-clause-told c =
-    settled-piece c.item-item.result.now c.args.item.now c.args.behind.now.items c.args.amounts.now c.lower.new.amounts (stream_rows c.args.streams.now.states c.args.streams.now.generations.items) c.args.events.now.items _ _ _
-    c.item-item.ensures.value c.requires.agree
-    (agree-lent c.args.amounts.now c.lower.new.amounts c.item-item.result.now c.args.item.now _ _ c.item-item.ensures.value (ap length c.as_slice.ensures) c.requires.agree c.lower.ensures)
+returns-in-Last-clause-told c = λ behind agree.
+    settled-piece c.item-item.result.now c.args.item.now behind c.args.amounts.now c.lower.new.amounts (stream_rows c.args.streams.now.states c.args.streams.now.generations.items) c.args.events.now.items _ _ _
+    c.item-item.ensures.value agree
+    (agree-lent c.args.amounts.now c.lower.new.amounts c.item-item.result.now c.args.item.now _ _ c.item-item.ensures.value (ap length c.as_slice.ensures) agree c.lower.ensures)
     c.amount_in-before.ensures
     c.amount_in-after.ensures
     c.settle_piece-in-Last.ensures.items
