@@ -51,3 +51,4 @@ pub mod HeldRows
 pub mod HeldActs
 pub mod PartItems
 pub mod PartActs
+pub mod BufferedSums

@@ -2,6 +2,7 @@
 #![tactic(auto)]
 
 mod acts;
+mod buffers;
 mod closes;
 mod contents;
 mod numbers;
@@ -10,6 +11,7 @@ mod uses;
 mod visits;
 
 pub use acts::calls_did;
+pub use buffers::accepted_writes_fit;
 pub use closes::close_comes_before_completion;
 pub use contents::live_streams_carry;
 pub use numbers::numbers_carry_the_same;
