@@ -1,5 +1,9 @@
 -- The SNAP INIT chunks of both ends, and what the calls on them do.
-use Rattle.std.specs.Prelude.{ℕ, ◌≡◌, ◌&&◌, Bool, List, [], Option, Some, None, is_some, option_map, Result, Ok, Err}
+use Rattle.std.specs.Prelude.{ℕ, ◌≡◌, ◌&&◌, Bool, List, [], Option, Some, None, is_some, option_map, Result, Ok, Err, nat_eq}
+use Rattle.std.specs.Cmp.{IsEquivalence, and_equiv, on_equiv, nat_eq_equiv}
+use Rattle.std.specs.Cmp.Lexicographic.{pointwise, nat_list_eq_equiv, options_equiv}
+use Rattle.std.specs.Option.{option_eq}
+use Rattle.std.specs.Ordering.{on, eq_of_both}
 use Rattle.std.specs.declared.alloc.AllocError.{AllocError}
 use Rattle.rtc_part_values.specs.Draws.{Draws}
 use Rattle.rtc_sctp_values.specs.declared.sctp_error.SctpError.{SctpError}
@@ -12,6 +16,18 @@ pub record InitHalves : Type 0 where
   pub remote : Option (List ℕ)
   -- the longest message that this end takes, in bytes
   pub limit : ℕ
+
+-- equal halves have the same chunks and the same limit
+abbrev pub same_halves : InitHalves → InitHalves → Bool
+same_halves =
+    eq_of_both (on (λ (h : InitHalves). h.local) (option_eq (pointwise nat_eq)))
+    (eq_of_both (on (λ (h : InitHalves). h.remote) (option_eq (pointwise nat_eq))) (on (λ (h : InitHalves). h.limit) nat_eq))
+
+pub same_halves_equiv : IsEquivalence same_halves
+same_halves_equiv =
+    and_equiv (on_equiv (λ (h : InitHalves). h.local) (options_equiv nat_list_eq_equiv))
+    (and_equiv (on_equiv (λ (h : InitHalves). h.remote) (options_equiv nat_list_eq_equiv))
+    (on_equiv (λ (h : InitHalves). h.limit) nat_eq_equiv))
 
 abbrev pub no_halves : (limit : ℕ) → InitHalves
 no_halves limit = record { local = None; remote = None; limit = limit }

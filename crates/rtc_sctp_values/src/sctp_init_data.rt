@@ -1,5 +1,6 @@
 //! The chunks that start an association by session descriptions.
 ghost use Rattle.std.specs.Prelude.{◌≡◌, Some, Ok, IsSome, is_some, IfOk, IfErr, IfSome, OnOk, OnErr, option_map, string_bytes};
+ghost use Rattle.std.specs.Cmp.{partial_equiv_from_equiv};
 ghost use Rattle.rtc_sctp_values.specs.declared.sctp_error.SctpError.TheVariants.{Alloc};
 ghost use Rattle.rtc_sctp_values.specs.InitChunk.{chunk_text, chunk_of_text};
 ghost use Rattle.rtc_sctp_values.specs.InitHalves.{
@@ -10,6 +11,8 @@ ghost use Rattle.rtc_sctp_values.specs.InitHalves.{
   remote_text as RemoteText,
   half_bytes,
   local_half,
+  same_halves,
+  same_halves_equiv,
   SetsRemoteText,
   DrawsLocal,
   MayDrawLocal,
@@ -220,6 +223,20 @@ impl SctpInitData {
     {
         bytes_of(&self.remote)
     }
+}
+
+impl PartialEq for SctpInitData {
+    ghost eq = { same_halves };
+
+    ghost laws = { partial_equiv_from_equiv same_halves_equiv };
+
+    fn eq(&self, other: &SctpInitData) -> bool {
+        self.local == other.local && self.remote == other.remote && self.limit == other.limit
+    }
+}
+
+impl Eq for SctpInitData {
+    ghost laws = { same_halves_equiv };
 }
 
 impl TryCopy for SctpInitData {
