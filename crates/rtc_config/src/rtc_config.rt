@@ -1,5 +1,10 @@
 //! Configurations of peers.
-ghost use Rattle.std.specs.Prelude.{◌≡◌, IfOk};
+ghost use Rattle.std.specs.Prelude.{◌≡◌, IfOk, nat_eq};
+ghost use Rattle.std.specs.Bool.{beq};
+ghost use Rattle.std.specs.Cmp.{and_equiv, bool_eq_equiv, nat_eq_equiv, on_equiv, partial_equiv_from_equiv};
+ghost use Rattle.std.specs.Cmp.Lexicographic.{options_equiv};
+ghost use Rattle.std.specs.Option.{option_eq};
+ghost use Rattle.std.specs.Ordering.{on, eq_of_both};
 ghost use Rattle.rtc_sdp_codecs.specs.FormedCodecs.{AreFormedRows, AreFormedExtensions};
 ghost use Rattle.rtc_config.specs.RtcConfig as spec;
 
@@ -48,6 +53,77 @@ impl Model for RtcConfig {
     } };
 
     ghost invariant = { λ config. IsShortCert config.dtls.cert × AreMediaSettings config.media × IsMtu config.mtu };
+}
+
+// Two configurations are equal if all that is set is.
+impl PartialEq for RtcConfig {
+    ghost use Rattle.rtc_config.specs.contracts.ice_settings.IceSettingsPartialEq.TheImpl as ice_eq;
+    ghost use Rattle.rtc_config.specs.contracts.dtls_settings.DtlsSettingsPartialEq.TheImpl as dtls_eq;
+    ghost use Rattle.rtc_sdp_values.specs.contracts.codec_config.CodecConfigPartialEq.TheImpl as codecs_eq;
+    ghost use Rattle.rtc_sdp_values.specs.contracts.extension_map.ExtensionMapPartialEq.TheImpl as extensions_eq;
+    ghost use Rattle.rtc_part_media.specs.contracts.media_settings.MediaSettingsPartialEq.TheImpl as media_eq;
+    ghost use Rattle.rtc_config.specs.contracts.sctp_settings.SctpSettingsPartialEq.TheImpl as sctp_eq;
+    ghost use Rattle.rtc_config.specs.contracts.ice_settings.IceSettingsEq.TheImpl.Laws as ice_laws;
+    ghost use Rattle.rtc_config.specs.contracts.dtls_settings.DtlsSettingsEq.TheImpl.Laws as dtls_laws;
+    ghost use Rattle.rtc_sdp_values.specs.contracts.codec_config.CodecConfigEq.TheImpl.Laws as codecs_laws;
+    ghost use Rattle.rtc_sdp_values.specs.contracts.extension_map.ExtensionMapEq.TheImpl.Laws as extensions_laws;
+    ghost use Rattle.rtc_part_media.specs.contracts.media_settings.MediaSettingsEq.TheImpl.Laws as media_laws;
+    ghost use Rattle.rtc_config.specs.contracts.sctp_settings.SctpSettingsEq.TheImpl.Laws as sctp_laws;
+
+    ghost eq = { eq_of_both (on (λ c. c.ice) (ice_eq.ghosts).eq)
+        (eq_of_both (on (λ c. c.dtls) (dtls_eq.ghosts).eq)
+        (eq_of_both (on (λ c. c.codecs) (codecs_eq.ghosts).eq)
+        (eq_of_both (on (λ c. c.extensions) (extensions_eq.ghosts).eq)
+        (eq_of_both (on (λ c. c.stats_interval) (option_eq nat_eq))
+        (eq_of_both (on (λ c. c.media) (media_eq.ghosts).eq)
+        (eq_of_both (on (λ c. c.sctp) (sctp_eq.ghosts).eq)
+        (eq_of_both (on (λ c. c.mtu.0) nat_eq)
+        (eq_of_both (on (λ c. c.mtu.1) nat_eq)
+        (on (λ c. c.polite) (option_eq beq)))))))))) };
+
+    ghost laws = { partial_equiv_from_equiv (and_equiv (on_equiv (λ c. c.ice) ice_laws.laws-law)
+        (and_equiv (on_equiv (λ c. c.dtls) dtls_laws.laws-law)
+        (and_equiv (on_equiv (λ c. c.codecs) codecs_laws.laws-law)
+        (and_equiv (on_equiv (λ c. c.extensions) extensions_laws.laws-law)
+        (and_equiv (on_equiv (λ c. c.stats_interval) (options_equiv nat_eq_equiv))
+        (and_equiv (on_equiv (λ c. c.media) media_laws.laws-law)
+        (and_equiv (on_equiv (λ c. c.sctp) sctp_laws.laws-law)
+        (and_equiv (on_equiv (λ c. c.mtu.0) nat_eq_equiv)
+        (and_equiv (on_equiv (λ c. c.mtu.1) nat_eq_equiv)
+        (on_equiv (λ c. c.polite) (options_equiv bool_eq_equiv))))))))))) };
+
+    fn eq(&self, other: &RtcConfig) -> bool {
+        self.ice == other.ice
+            && self.dtls == other.dtls
+            && self.codecs == other.codecs
+            && self.extensions == other.extensions
+            && self.stats_interval == other.stats_interval
+            && self.media == other.media
+            && self.sctp == other.sctp
+            && self.mtu.0 == other.mtu.0
+            && self.mtu.1 == other.mtu.1
+            && self.polite == other.polite
+    }
+}
+
+impl Eq for RtcConfig {
+    ghost use Rattle.rtc_config.specs.contracts.ice_settings.IceSettingsEq.TheImpl.Laws as ice_laws;
+    ghost use Rattle.rtc_config.specs.contracts.dtls_settings.DtlsSettingsEq.TheImpl.Laws as dtls_laws;
+    ghost use Rattle.rtc_sdp_values.specs.contracts.codec_config.CodecConfigEq.TheImpl.Laws as codecs_laws;
+    ghost use Rattle.rtc_sdp_values.specs.contracts.extension_map.ExtensionMapEq.TheImpl.Laws as extensions_laws;
+    ghost use Rattle.rtc_part_media.specs.contracts.media_settings.MediaSettingsEq.TheImpl.Laws as media_laws;
+    ghost use Rattle.rtc_config.specs.contracts.sctp_settings.SctpSettingsEq.TheImpl.Laws as sctp_laws;
+
+    ghost laws = { and_equiv (on_equiv (λ c. c.ice) ice_laws.laws-law)
+        (and_equiv (on_equiv (λ c. c.dtls) dtls_laws.laws-law)
+        (and_equiv (on_equiv (λ c. c.codecs) codecs_laws.laws-law)
+        (and_equiv (on_equiv (λ c. c.extensions) extensions_laws.laws-law)
+        (and_equiv (on_equiv (λ c. c.stats_interval) (options_equiv nat_eq_equiv))
+        (and_equiv (on_equiv (λ c. c.media) media_laws.laws-law)
+        (and_equiv (on_equiv (λ c. c.sctp) sctp_laws.laws-law)
+        (and_equiv (on_equiv (λ c. c.mtu.0) nat_eq_equiv)
+        (and_equiv (on_equiv (λ c. c.mtu.1) nat_eq_equiv)
+        (on_equiv (λ c. c.polite) (options_equiv bool_eq_equiv)))))))))) };
 }
 
 // Written out, so that the proof of what owns a configuration sees one call and not the drop of each field.
