@@ -13,7 +13,7 @@ use Rattle.rtc_assoc_state.specs.Streams.{stream_of, put, reset_row, is_unclosed
 use Rattle.rtc_assoc_state.specs.Inbox.{Inbox, bytes_so_far, with_bytes, without_part, without_messages, with_message, forgotten, message_of}
 use Rattle.rtc_assoc_state.specs.Settling.{can_reset}
 use Rattle.rtc_assoc_state.specs.Contents.{Contents}
-use Rattle.rtc_assoc_state.specs.Calls.{sent, item_counted, more_kept, last_kept, finished, reset_told, close_came_at, close_came, part_came, item_put, item_taken, is_ahead, marked}
+use Rattle.rtc_assoc_state.specs.Calls.{sent, item_counted, more_kept, last_kept, finished, reset_told, close_came_at, close_came, part_came, item_put, item_taken, is_ahead, with_ahead}
 use Rattle.rtc_assoc_state.proofs.RaiseLemmas.{stream_of-stream}
 use Rattle.rtc_assoc.specs.Unread.{unread, IsPrefix}
 use Rattle.rtc_assoc.proofs.MessageLemmas.{is_pair, pair_tells, message, messages, left, HasClose}
@@ -272,7 +272,7 @@ there_row : (id : ℕ) (streams : List StreamRow) → RowOf id (record (stream_o
 there_row id streams = record { stream_is = stream_of-stream id streams; generation_is = refl; close_is = refl }
 
 -- what is remembered of an item is read nowhere
-came_marked : (p q : Contents) (b : Bool) (got : List Item) → Came p q got → Came p (marked b q) got
+came_marked : (p q : Contents) (b : Bool) (got : List Item) → Came p q got → Came p (with_ahead b q) got
 came_marked p q b got h = record {
   more = h.more;
   arrives = record { acked = h.arrives.acked; items = h.arrives.items; gets = gets_marked p.inbox p.streams got no_reads q.inbox q.streams b h.arrives.gets; silent = h.arrives.silent; whole = h.arrives.whole; closes = h.arrives.closes; dies = h.arrives.dies };

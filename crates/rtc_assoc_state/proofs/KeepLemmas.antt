@@ -22,7 +22,7 @@ use Rattle.rtc_assoc_state.specs.Streams.{stream_of, reset_row, takes_messages}
 use Rattle.rtc_assoc_state.specs.Outbox.{settled_count}
 use Rattle.rtc_assoc_state.specs.Settling.{told_of, can_reset}
 use Rattle.rtc_assoc_state.specs.Contents.{Contents, is_started, is_ending, is_server, waits}
-use Rattle.rtc_assoc_state.specs.Calls.{limited, opened, sent, taken_out, stream_ended, shut_down, greeted, welcomed, acknowledged, item_counted, more_kept, last_kept, piece_kept, finished, reset_told, close_came_at, part_came, item_put, item_taken, is_ahead, marked, item_came, answered, lost, framed, half_taken, at_moment, input_taken, timed}
+use Rattle.rtc_assoc_state.specs.Calls.{limited, opened, sent, taken_out, stream_ended, shut_down, greeted, welcomed, acknowledged, item_counted, more_kept, last_kept, piece_kept, finished, reset_told, close_came_at, part_came, item_put, item_taken, is_ahead, with_ahead, item_came, answered, lost, framed, half_taken, at_moment, input_taken, timed}
 use Rattle.rtc_assoc_state.proofs.RaiseLemmas.{Raises, raises_none, raises_join, raises_told, raises_put, raises_settled, own_generation, own_close, raises_finished, raises_finished_reset, SaysNothing, threshold-stream_of}
 use Rattle.rtc_assoc_state.proofs.RaiseLemmas.{stream_of-stream}
 
@@ -210,7 +210,7 @@ keeps_part Last now item row p a f = keeps_piece (takes_messages row item.genera
 pub alike_there : (id : ℕ) (p : Contents) → Alike (record (stream_of id p.streams) { there = true }) p
 alike_there id p = record { generation = own_generation id p.streams; threshold = ap (λ k. (stream_of k p.streams).threshold) (sym (stream_of-stream id p.streams)) }
 
-keeps_marked : (b : Bool) (p : Contents) → KeepsContents p (marked b p)
+keeps_marked : (b : Bool) (p : Contents) → KeepsContents p (with_ahead b p)
 keeps_marked b p = record { started = refl; max_send = refl; raises = raises_none p.streams p.events; readable = λ id g u. inl u }
 
 keeps_item_if : (b : Bool) (now : ℕ) (item : Item) (p : Contents) → KeepsContents p (cond b (item_taken now item p) p)

@@ -176,12 +176,12 @@ item_put now item p = part_came item.part now item (record (stream_of item.strea
 abbrev pub is_ahead : Item → Contents → Bool
 is_ahead item p = nat_lt (stream_of item.stream p.streams).generation item.generation
 
-abbrev pub marked : Bool → Contents → Contents
-marked ahead p = record p { inbox = record p.inbox { ahead = p.inbox.ahead || ahead } }
+abbrev pub with_ahead : Bool → Contents → Contents
+with_ahead ahead p = record p { inbox = record p.inbox { ahead = p.inbox.ahead || ahead } }
 
 -- that is remembered of an item that is taken
 abbrev pub item_taken : ℕ → Item → Contents → Contents
-item_taken now item p = marked (is_ahead item p) (item_put now item p)
+item_taken now item p = with_ahead (is_ahead item p) (item_put now item p)
 
 -- an item is taken if its number is the next one, whatever generation it carries, and never while the association is
 -- closing or closed

@@ -1,170 +1,30 @@
 -- What each act of an end of the plain association does to the closes of generations.
-use Rattle.std.proofs.Common.{◌≡◌, ◌∙◌, ◌⊎◌, inl, inr, ◌+◌, ◌<◌, ◌≤◌, ◌-◌, ◌||◌, not, ℕ, cond, Bool, true, false, true≢false, List, [], ◌∷◌, ◌++◌, drop, length, append-nil, Option, Some, None, Result, refl, sym, ap, subst, arith}
+use Rattle.std.proofs.Common.{◌≡◌, ◌∙◌, ◌+◌, ◌≤◌, ◌-◌, ◌||◌, not, ℕ, cond, Bool, true, false, List, [], ◌∷◌, ◌++◌, drop, length, append-nil, Option, Some, None, Result, refl, sym, ap, arith}
 use Rattle.std.specs.declared.alloc.AllocError.{AllocError}
 use Rattle.rtc_part_association.specs.Ppi.{ppi_number}
 use Rattle.rtc_part_association.specs.AssociationActs.{AssociationAct, Started, Opened, Wrote, Ended, Given, Taken, Read, Told as ToldEvent, Stirred, Starts, ByConnect, ByAccept, BySnap, Stirs, LimitsSet, ConnectRefused, AcceptRefused, SnapRefused, OpenRefused, WriteRefused, ReadRefused, EndRefused, ThresholdSet, ReliabilitySet, Acted}
 use Rattle.rtc_part_association.specs.declared.assoc_event.AssocEvent.TheVariants.{Connected}
 use Rattle.rtc_part_values.specs.Why.{Timed, Shut as ShutDown, Other}
-use Rattle.rtc_assoc_packets.specs.declared.item.Item.{Item}
 use Rattle.rtc_assoc_packets.specs.declared.frame.Frame.{Frame}
 use Rattle.rtc_assoc_packets.specs.declared.frame.Frame.TheVariants.{Hello, Welcome, Data, Acknowledgement, Shutdown}
 use Rattle.rtc_assoc_packets.specs.Packets.{frame_in}
 use Rattle.rtc_assoc_packets.specs.Pieces.{close_of, pieces_of}
-use Rattle.rtc_assoc_state.specs.declared.close_state.CloseState.TheVariants.{Queued}
-use Rattle.rtc_assoc_state.specs.declared.stream_row.StreamRow.{StreamRow}
 use Rattle.rtc_assoc_state.specs.Contents.{Contents, is_server}
 use Rattle.rtc_assoc_state.specs.Streams.{is_closed_here, stream_of}
 use Rattle.rtc_assoc_state.specs.Outbox.{settled_count}
 use Rattle.rtc_assoc_state.specs.Settling.{told_of}
 use Rattle.rtc_assoc_state.specs.Calls.{limited, started_as, said_hello, connected, accepted, snapped, opened, sent, message_written, next_message, taken_out, stream_ended, thresholded, shut_down, greeted, welcomed, acknowledged, item_came, answered, lost, framed, at_moment, half_taken, timed, event_given, packet_given}
 use Rattle.rtc_assoc_state.specs.PlainMeaning.{plain_meaning, open_cause, write_cause, end_cause, stream_cause, ending_cause, Gives, Leaves, Sends, Reads}
-use Rattle.rtc_assoc_state.proofs.RaiseLemmas.{stream_of-stream}
 use Rattle.rtc_assoc_state.proofs.DoesLemmas.{refused_changes_nothing, does_leaves, gives, times, polls_some, transmits_some, reads_some}
-use Rattle.rtc_assoc.proofs.MessageLemmas.{HasClose, close-left, close-pieces}
 use Rattle.rtc_part_association.specs.AssociationNeeds.{need}
 use Rattle.rtc_part_association.specs.declared.assoc_error.AssocError.{AssocError}
 use Rattle.rtc_part_association.specs.declared.assoc_error.AssocError.TheVariants.{NoStream}
 use Rattle.rtc_assoc_state.specs.Contents.{closed_here, generation_of, has_stream}
-use Rattle.rtc_run_laws.proofs.SentOrder.{AllPieces, pieces_are, pieces_fit, pieces_low}
-use Rattle.rtc_run_laws.proofs.ClosingRows.{RowKeeps, RowSame, row_more, row_queued}
 use Rattle.rtc_run_laws.proofs.ClosingSettled.{settled_keeps}
-use Rattle.rtc_run_laws.proofs.ClosingSteps.{EndGo, TakeGo, ghosts_at, go_as, go_at, go_of, go_same, take_put, take_same}
+use Rattle.rtc_run_laws.proofs.ClosingSteps.{EndGo, TakeGo, ghosts_at, go_as, go_at, go_same, take_same}
 use Rattle.rtc_run_laws.proofs.ClosingItems.{item_come, take_answered}
+use Rattle.rtc_run_laws.proofs.ClosingCalls.{go_opened, go_thresholded, go_ended, go_written, go_connected, go_accepted, go_snapped, go_limited, go_taken_out, go_shut_down, go_timed, go_none}
 
--- ---- the calls
-
-same_row : (id : ℕ) (row : StreamRow) (p : Contents) → RowSame (stream_of id p.streams) row → (w r : List Item)
-    → RowKeeps id (stream_of id p.streams) p.outbox.items w r → RowKeeps id row (p.outbox.items ++ []) (w ++ []) (r ++ [])
-same_row id row p same w r h =
-    row_more id (stream_of id p.streams) row p.outbox.items (p.outbox.items ++ []) w [] r [] same (λ g c. close-left id g p.outbox.items [] c)
-    (λ g c. absurd c) (λ g c. c) tt h
-
-go_opened : (f : Option Frame) (id : ℕ) (p : Contents) → EndGo f p (opened id p)
-unfolding opened
-go_opened f id p =
-    let row : StreamRow = record (stream_of id p.streams) { there = true } in
-    go_of f p (opened id p)
-    (take_put id row [] [] f p (opened id p)
-    (record {
-      stream_is = stream_of-stream id p.streams;
-      streams = refl;
-      acked = refl;
-      items = sym (append-nil p.outbox.items);
-      received = omega arith;
-      ahead = refl;
-      brings = tt;
-      own = λ s g c. absurd c;
-      sent = tt;
-      fits = λ w r h. tt;
-      keeps = same_row id row p (record { generation_is = refl; close_is = refl; finished_is = refl });
-    }))
-
-go_thresholded : (f : Option Frame) (id n : ℕ) (p : Contents) → EndGo f p (thresholded id n p)
-unfolding thresholded
-go_thresholded f id n p =
-    let row : StreamRow = record (stream_of id p.streams) { threshold = Some n } in
-    go_of f p (thresholded id n p)
-    (take_put id row [] [] f p (thresholded id n p)
-    (record {
-      stream_is = stream_of-stream id p.streams;
-      streams = refl;
-      acked = refl;
-      items = sym (append-nil p.outbox.items);
-      received = omega arith;
-      ahead = refl;
-      brings = tt;
-      own = λ s g c. absurd c;
-      sent = tt;
-      fits = λ w r h. tt;
-      keeps = same_row id row p (record { generation_is = refl; close_is = refl; finished_is = refl });
-    }))
-
-go_ended : (f : Option Frame) (now id : ℕ) (p : Contents) → is_closed_here (stream_of id p.streams) ≡ false → EndGo f p (stream_ended now id p)
-unfolding stream_ended sent
-go_ended f now id p unclosed =
-    let old : StreamRow = stream_of id p.streams in
-    let row : StreamRow = record old { close = Queued } in
-    let c : Item = close_of id old.generation in
-    go_of f p (stream_ended now id p)
-    (take_put id row (c ∷ []) [] f p (stream_ended now id p)
-    (record {
-      stream_is = stream_of-stream id p.streams;
-      streams = refl;
-      acked = refl;
-      items = refl;
-      received = omega arith;
-      ahead = refl;
-      brings = tt;
-      own = λ s g k. absurd k;
-      sent = (refl, tt);
-      fits = λ w r h. (((λ g less. h.below g less), (λ e k. unsent w r h k)), tt);
-      keeps = λ w r h. row_queued id old c p.outbox.items w r (record { part_is = refl; stream_is = refl; generation_is = refl }) h;
-    }))
-  where
-    unsent : (w r : List Item) → RowKeeps id (stream_of id p.streams) p.outbox.items w r → HasClose id (stream_of id p.streams).generation w → ⊥
-    unsent w r h k = by (h.mine (stream_of id p.streams).generation k)
-      where
-        by : ((stream_of id p.streams).generation < (stream_of id p.streams).generation) ⊎ (((stream_of id p.streams).generation ≡ (stream_of id p.streams).generation) × (is_closed_here (stream_of id p.streams) ≡ true)) → ⊥
-        by (inl less) = absurd (omega (arith, less))
-        by (inr c) = true≢false (sym c.1 ∙ unclosed)
-
-go_written : (f : Option Frame) (id i : ℕ) (bytes : List ℕ) (p : Contents) → EndGo f p (message_written id i bytes p)
-unfolding sent
-go_written f id i bytes p =
-    let more : List Item = pieces_of (p.limits.max_payload - 28) id (stream_of id p.streams).generation i bytes in
-    go_of f p (message_written id i bytes p)
-    (record {
-      more = more;
-      got = [];
-      acked = refl;
-      items = refl;
-      received = omega arith;
-      ahead = refl;
-      brings = tt;
-      keeps = λ w r h. λ s.
-          row_more s (stream_of s p.streams) (stream_of s p.streams) p.outbox.items (p.outbox.items ++ more) w more r []
-          (record { generation_is = refl; close_is = refl; finished_is = refl }) (λ g c. close-left s g p.outbox.items more c) (λ g c. absurd c) (λ g c. close-pieces _ _ id _ i s g bytes c) (pieces_low id (stream_of id p.streams).generation s (stream_of s p.streams).generation more all (λ e. subst (λ (n : ℕ). (stream_of id p.streams).generation ≤ (stream_of n p.streams).generation) e (omega arith))) (h s);
-      fits = λ w r k. pieces_fit id (stream_of id p.streams).generation w more all (λ g less. RowKeeps.below (k id) g less);
-    })
-  where
-    h : ℕ
-    h = (stream_of id p.streams).generation
-
-    all : AllPieces id h (pieces_of (p.limits.max_payload - 28) id h i bytes)
-    all = pieces_are (length bytes) (p.limits.max_payload - 28) id h i bytes
-
-go_connected : (f : Option Frame) (now m : ℕ) (p : Contents) → EndGo f p (connected now m p)
-unfolding started_as said_hello
-go_connected f now m p = go_same f p (connected now m p) refl refl refl refl
-
-go_accepted : (f : Option Frame) (now m : ℕ) (p : Contents) → EndGo f p (accepted now m p)
-unfolding started_as
-go_accepted f now m p = go_same f p (accepted now m p) refl refl refl refl
-
-go_snapped : (f : Option Frame) (now m : ℕ) (p : Contents) → EndGo f p (snapped now m p)
-unfolding snapped started_as
-go_snapped f now m p = go_same f p (snapped now m p) refl refl refl refl
-
-go_limited : (f : Option Frame) (n m : ℕ) (p : Contents) → EndGo f p (limited n m p)
-unfolding limited
-go_limited f n m p = go_same f p (limited n m p) refl refl refl refl
-
-go_taken_out : (f : Option Frame) (id : ℕ) (p : Contents) → EndGo f p (taken_out id p)
-unfolding taken_out
-go_taken_out f id p = go_same f p (taken_out id p) refl refl refl refl
-
-go_shut_down : (f : Option Frame) (p : Contents) → EndGo f p (shut_down p)
-unfolding shut_down
-go_shut_down f p = go_same f p (shut_down p) refl refl refl refl
-
-go_timed : (f : Option Frame) (now : ℕ) (p : Contents) → EndGo f p (timed now p)
-unfolding timed
-go_timed f now p = go_same f p (timed now p) refl refl refl refl
-
-go_none : (f : Option Frame) (p : Contents) → EndGo f p p
-go_none f p = go_same f p p refl refl refl refl
-
--- a stream that may be closed was not
 end_open : (has closed : Bool) (next : Option AssocError) → need (not has || closed) NoStream next ≡ None → closed ≡ false
 end_open has false next h = refl
 end_open true true next h = absurd (cc)

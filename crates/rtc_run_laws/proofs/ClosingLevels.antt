@@ -1,37 +1,23 @@
 -- Two joined ends: what each sent the other, and what of closes and generations that makes of their rows.
-use Rattle.std.proofs.Common.{◌≡◌, ◌∙◌, ◌⊎◌, inl, inr, ◌<◌, ◌≤◌, ◌==◌, ◌||◌, nat_lt, ℕ, zero, suc, not, Bool, true, false, true≢false, List, [], ◌∷◌, ◌++◌, drop, take, length, append-nil, append_assoc, Option, Some, None, refl, sym, ap, subst, arith}
-use Rattle.std.proofs.lemmas.Bool.Decides.{leb_tells, nat_tests}
-use Rattle.std.proofs.lemmas.List.{append_cancel_left, take-append-le}
+use Rattle.std.proofs.Common.{◌⊎◌, ◌<◌, ℕ, List, [], take, Option, Some, None}
 use Rattle.rtc_part_values.specs.Among.{Among, Member}
 use Rattle.rtc_part_association.specs.AssociationActs.{AssociationAct, Given, Taken, Moved}
 use Rattle.rtc_part_association.specs.AssociationWords.{ended, given, taken}
-use Rattle.rtc_part_association.proofs.AmongLemmas.{member-append}
-use Rattle.rtc_part_association.proofs.AssociationLemmas.{taken-append}
 use Rattle.rtc_assoc_packets.specs.Packets.{frame_in}
 use Rattle.rtc_assoc_state.specs.Says.{SaysPacket}
 use Rattle.rtc_assoc.proofs.MessageLemmas.{HasClose}
-use Rattle.rtc_assoc.proofs.OrderLemmas.{SenderOk, honest_says}
 use Rattle.rtc_sctp_laws.proofs.BackedRows.{plain_sound}
-use Rattle.rtc_run_laws.proofs.SentOrder.{OrderedFrom, Within, close_take, ordered_append, within_at}
+use Rattle.rtc_run_laws.proofs.SentOrder.{OrderedFrom}
 use Rattle.rtc_assoc_packets.specs.declared.item.Item.{Item}
 use Rattle.rtc_assoc_packets.specs.declared.frame.Frame.{Frame}
 use Rattle.rtc_assoc_packets.specs.declared.frame.Frame.TheVariants.{Hello, Welcome, Data, Acknowledgement, Shutdown}
-use Rattle.rtc_assoc_state.specs.declared.close_state.CloseState.{CloseState}
-use Rattle.rtc_assoc_state.specs.declared.close_state.CloseState.TheVariants.{Unclosed, Queued, Acknowledged}
-use Rattle.rtc_assoc_state.specs.declared.stream_row.StreamRow.{StreamRow}
 use Rattle.rtc_assoc_state.specs.Contents.{Contents, closed_here, fresh_contents, generation_of, is_ending}
 use Rattle.rtc_assoc_state.specs.PlainMeaning.{plain_meaning}
 use Rattle.rtc_assoc_state.specs.Settling.{can_reset}
 use Rattle.rtc_assoc_state.specs.Streams.{LAST_GENERATION, any_at_last_generation, is_at_last_generation, is_closed_here, is_unclosed, stream_of}
 use Rattle.rtc_assoc.specs.Joined.{Ends, fresh_ends, Move, LeftMoves, RightMoves, Goes, Run}
-use Rattle.rtc_assoc.proofs.FrameLemmas.{Brings}
-use Rattle.rtc_assoc.proofs.CoreLemmas.{Causes, Step}
-use Rattle.rtc_assoc.proofs.StepLemmas.{step_of}
-use Rattle.rtc_assoc.proofs.DirectedLemmas.{Directed, brings_of, next_of, receiver_moves, sender_moves}
-use Rattle.rtc_assoc.proofs.RunLemmas.{both_run}
-use Rattle.rtc_run_laws.proofs.ClosingRows.{Keeps, RowKeeps}
-use Rattle.rtc_run_laws.proofs.ClosingEnds.{act_frame, act_go}
-use Rattle.rtc_run_laws.proofs.ClosingSteps.{EndGo}
+use Rattle.rtc_assoc.proofs.DirectedLemmas.{Directed}
+use Rattle.rtc_run_laws.proofs.ClosingRows.{Keeps}
 
 -- a packet with an item names, as come, the closes of all generations before that of the item
 abbrev pub Timely : List Item → Option Frame → Type 0

@@ -11,7 +11,8 @@ use Rattle.rtc_run_laws.specs.PlainPairs.{PairActs, PairExchanges, PlainPair, Pl
 use Rattle.rtc_run_laws.specs.SettledPairs.{AreInBandStreams, IsInBandStream, IsSettledPeer}
 use Rattle.rtc_sctp_laws.proofs.BackedRows.{plain_sound}
 use Rattle.rtc_run_laws.proofs.ClosingLevels.{Level}
-use Rattle.rtc_run_laws.proofs.ClosingPairs.{LevelStream, level_rest, level_run}
+use Rattle.rtc_run_laws.proofs.ClosingMoves.{level_run}
+use Rattle.rtc_run_laws.proofs.ClosingPairs.{LevelStream, level_rest}
 
 -- a stream that both sides settled by messages alone, if at all, with what holds of its ends besides
 pub record AreKeptStreams {N : Type 0} (stream : ℕ) (p q : PlainPolled N) : Type 0 where

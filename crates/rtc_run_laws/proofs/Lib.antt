@@ -179,7 +179,9 @@ mod ClosingRows
 mod ClosingSettled
 mod ClosingSteps
 mod ClosingItems
+mod ClosingCalls
 mod ClosingEnds
+mod ClosingMoves
 mod ClosingPairs
 mod KeptStreams
 mod IdleSides

@@ -1,9 +1,9 @@
 -- The items that an end sent, in order: the closes below the generation of an item stand before it, and a close stands once.
-use Rattle.std.proofs.Common.{◌≡◌, ◌∙◌, inl, inr, ◌+◌, ◌<◌, ◌≤◌, nat_le, ℕ, zero, suc, cond, Bool, true, false, List, [], ◌∷◌, ◌++◌, take, drop, length, take-append-drop, append-nil, append_assoc, refl, sym, ap, subst, arith}
+use Rattle.std.proofs.Common.{◌≡◌, ◌∙◌, inl, inr, ◌+◌, ◌<◌, ◌≤◌, nat_le, ℕ, zero, suc, cond, Bool, true, false, List, [], ◌∷◌, ◌++◌, take, drop, length, take-append-drop, append-nil, append_assoc, refl, sym, subst, arith}
 use Rattle.rtc_assoc_packets.specs.declared.item.Item.{Item}
 use Rattle.rtc_assoc_packets.specs.declared.item_part.ItemPart.TheVariants.{Close, Last, More}
 use Rattle.rtc_assoc_packets.specs.Pieces.{piece, pieces_within}
-use Rattle.rtc_assoc.proofs.MessageLemmas.{Closes, HasClose, close-left, close-right}
+use Rattle.rtc_assoc.proofs.MessageLemmas.{HasClose, close-left}
 
 abbrev pub IsAfter : List Item → Item → Type 0
 IsAfter pre x = ((g : ℕ) → g < x.generation → HasClose x.stream g pre) × (x.part ≡ Close → HasClose x.stream x.generation pre → ⊥)

@@ -1,5 +1,5 @@
 -- An act that comes in time leaves an end where no item of a generation to come was taken.
-use Rattle.std.proofs.Common.{◌≡◌, ◌∙◌, false}
+use Rattle.std.proofs.Common.{◌∙◌}
 use Rattle.rtc_part_association.specs.AssociationActs.{Acted, AssociationAct}
 use Rattle.rtc_assoc_state.specs.Contents.{Contents}
 use Rattle.rtc_assoc_state.specs.PlainMeaning.{plain_meaning}

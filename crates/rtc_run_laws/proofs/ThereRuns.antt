@@ -9,7 +9,6 @@ use Rattle.rtc_part_values.specs.Draws.{Draws}
 use Rattle.rtc_plain_dtls.specs.Contents.{DtlsContents}
 use Rattle.rtc_plain_ice.specs.Contents.{IceContents}
 use Rattle.rtc_plain_media.specs.MediaContents.{MediaContents}
-use Rattle.rtc_sctp_laws.proofs.HeldRows.{IsKept}
 use Rattle.rtc_sctp_laws.proofs.HeldActs.{IsKeptIf, plain_keeping}
 use Rattle.rtc_sctp_laws.proofs.ThereStreams.{AreBegunStreams, KeepingLaws, fine_on, goes_act}
 use Rattle.rtc_sctp_laws.proofs.PlainGenerations.{plain_generations}

@@ -1,5 +1,5 @@
 -- In joined ends no item is of a generation that its stream has not come to.
-use Rattle.std.proofs.Common.{◌≡◌, ◌∙◌, ◌⊎◌, inl, inr, ◌+◌, ◌<◌, ◌≤◌, nat_le, nat_lt, ℕ, not, Bool, true, false, true≢false, List, [], ◌∷◌, ◌++◌, drop, take, length, Option, Some, None, refl, sym, ap, subst, arith}
+use Rattle.std.proofs.Common.{◌≡◌, ◌∙◌, ◌⊎◌, inl, inr, ◌+◌, ◌<◌, ◌≤◌, nat_le, nat_lt, ℕ, not, true, false, true≢false, List, [], ◌∷◌, ◌++◌, drop, take, length, Option, Some, None, refl, sym, ap, subst, arith}
 use Rattle.std.proofs.Math.Seq.{drop-drop, take-append_seam}
 use Rattle.std.proofs.lemmas.Bool.Decides.{leb_tells}
 use Rattle.rtc_part_values.specs.Among.{Among, Member}

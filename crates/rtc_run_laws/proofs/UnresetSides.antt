@@ -6,7 +6,6 @@ use Rattle.rtc_assoc_state.specs.PlainMeaning.{plain_meaning}
 use Rattle.rtc_part_values.specs.Draws.{Draws}
 use Rattle.rtc_plain_media.specs.declared.plain_media_event.PlainMediaEvent.{PlainMediaEvent}
 use Rattle.rtc_sctp_laws.proofs.HeldActs.{IsKeptIf, plain_keeping}
-use Rattle.rtc_sctp_laws.proofs.HeldRows.{IsKept}
 use Rattle.rtc_sctp_laws.proofs.KeptLists.{HasPart}
 use Rattle.rtc_sctp_laws.proofs.PlainGenerations.{plain_generations}
 use Rattle.rtc_sctp_laws.proofs.ThereStreams.{AreBegunStreams}
