@@ -38,7 +38,7 @@ impl Association for PlainAssociation {
     }
 
     fn is_started(&self) -> bool {
-        self.has_started()
+        self.standing.role.is_started()
     }
 
     fn is_closing(&self) -> bool {

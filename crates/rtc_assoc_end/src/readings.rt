@@ -2,7 +2,7 @@
 ghost use Rattle.std.specs.Prelude.{◌≡◌, ◌+◌, ◌<◌, ◌^◌, nat_lt, Some, None, []};
 ghost use Rattle.std.specs.Bool.{OnFalse};
 ghost use Rattle.rtc_assoc_packets.specs.Headers.{item_with};
-ghost use Rattle.rtc_assoc_state.specs.Contents.{is_started, is_closing, is_closed, is_ending, has_stream};
+ghost use Rattle.rtc_assoc_state.specs.Contents.{is_closing, is_closed, is_ending, has_stream};
 ghost use Rattle.rtc_assoc_state.specs.Contents.{closed_here, is_stale, generation_of, buffered_of, wake_of};
 ghost use Rattle.rtc_assoc_state.specs.Contents.{hello_wake, items_wake};
 ghost use Rattle.rtc_assoc_state.specs.Calls.{is_ahead, hello_due, items_due};
@@ -13,12 +13,6 @@ use rtc_assoc_state::{amount_in, earlier, second_after};
 use rtc_wire::Moment;
 
 impl PlainAssociation {
-    pub(crate) fn has_started(&self) -> bool
-        ensures { result ≡ is_started self.now }
-    {
-        self.standing.role.is_started()
-    }
-
     /// Closing for good: shut down, with few item numbers left, or with a stream at its last generation.
     pub(crate) fn closes(&self) -> bool
         ensures { result ≡ is_closing self.now }

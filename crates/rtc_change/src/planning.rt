@@ -122,7 +122,7 @@ fn make_plan(
 
 // What an offer does at these rows, whose head is not refused.
 #[tactic(auto, unfolding(crate::specs::Plans::verdict))]
-fn plan_offered(
+fn plan_offer_at_rows(
     alloc: Global,
     view: &View<'_>,
     rows: &MidIndex<'_>,
@@ -147,7 +147,7 @@ fn plan_offered(
 
 // What an offer of these lines does, or why it is refused.
 #[tactic(auto, unfolding(crate::specs::Plans::verdict))]
-fn judge_offered(
+fn judge_offer_at_rows(
     alloc: Global,
     view: &View<'_>,
     offer: &Sdp,
@@ -163,7 +163,7 @@ fn judge_offered(
         return Err(refusal);
     }
     let rows = MidIndex::for_lines(alloc, view.lines.rows(), lines)?;
-    let planned = plan_offered(alloc, view, &rows, offer, lines);
+    let planned = plan_offer_at_rows(alloc, view, &rows, offer, lines);
     release(rows, planned)
 }
 
@@ -175,7 +175,7 @@ pub fn plan_offer(alloc: Global, view: &View<'_>, offer: &Sdp) -> Result<Plan, R
     ensures table { IfOk result (λ plan. IsTable plan.rows) }
 {
     let lines = ParsedLine::all_of(alloc, offer)?;
-    let planned = judge_offered(alloc, view, offer, lines.as_slice());
+    let planned = judge_offer_at_rows(alloc, view, offer, lines.as_slice());
     release(lines, planned)
 }
 
@@ -199,7 +199,7 @@ fn judge_added(
 
 // What an answer does at these rows, whose head is not refused.
 #[tactic(auto, unfolding(crate::specs::Plans::verdict))]
-fn plan_answered(
+fn plan_answer_at_rows(
     alloc: Global,
     view: &View<'_>,
     rows: &MidIndex<'_>,
@@ -230,7 +230,7 @@ fn plan_answered(
 
 // What an answer of these lines does, or why it is refused.
 #[tactic(auto, unfolding(crate::specs::Plans::verdict, crate::specs::Plans::head_verdict))]
-fn judge_answered(
+fn judge_answer_at_rows(
     alloc: Global,
     view: &View<'_>,
     token: &SdpPendingOffer,
@@ -247,7 +247,7 @@ fn judge_answered(
         return Err(refusal);
     }
     let rows = MidIndex::for_lines(alloc, view.lines.rows(), lines)?;
-    let planned = plan_answered(alloc, view, &rows, token, answer, lines);
+    let planned = plan_answer_at_rows(alloc, view, &rows, token, answer, lines);
     release(rows, planned)
 }
 
@@ -264,6 +264,6 @@ pub fn plan_answer(
     ensures table { IfOk result (λ plan. IsTable plan.rows) }
 {
     let lines = ParsedLine::all_of(alloc, answer)?;
-    let planned = judge_answered(alloc, view, token, answer, lines.as_slice());
+    let planned = judge_answer_at_rows(alloc, view, token, answer, lines.as_slice());
     release(lines, planned)
 }

@@ -22,10 +22,8 @@ impl SdpAnswer {
     pub fn from_sdp_string(alloc: Global, text: &str) -> Result<SdpAnswer, SdpError>
         ensures { ReadsAnswer result (reading text.now) }
     {
-        match read(alloc, text) {
-            Ok(sdp) => Ok(SdpAnswer(sdp)),
-            Err(error) => Err(error),
-        }
+        let sdp = read(alloc, text)?;
+        Ok(SdpAnswer(sdp))
     }
 
     /// The answer as text. Every answer has one; that of a legible one reads as it, with the SSRCs that its lines give.

@@ -22,10 +22,8 @@ impl SdpOffer {
     pub fn from_sdp_string(alloc: Global, text: &str) -> Result<SdpOffer, SdpError>
         ensures { ReadsOffer result (reading text.now) }
     {
-        match read(alloc, text) {
-            Ok(sdp) => Ok(SdpOffer(sdp)),
-            Err(error) => Err(error),
-        }
+        let sdp = read(alloc, text)?;
+        Ok(SdpOffer(sdp))
     }
 
     /// The offer as text. Every offer has one; that of a legible one reads as it, with the SSRCs that its lines give.

@@ -177,9 +177,7 @@ impl<I: IceAgent, D: DtlsInstance, S: Association, M: MediaSession, N: Ids> Rtc<
         ensures others { self.new.core ≡ record self.old.core { ice = self.new.core.ice } }
         ensures connection { self.new.transport ≡ self.old.transport }
     {
-        match self.polled.core.ice.add_remote_candidate(candidate) {
-            Ok(_taken) => Ok(()),
-            Err(error) => Err(error),
-        }
+        let _taken = self.polled.core.ice.add_remote_candidate(candidate)?;
+        Ok(())
     }
 }

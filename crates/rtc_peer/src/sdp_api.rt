@@ -49,10 +49,8 @@ impl<'a, I: IceAgent, D: DtlsInstance, S: Association, M: MediaSession, N: Ids> 
         ensures connection { self.exit.0.now.transport ≡ self.entry.rtc.now.transport }
     {
         let rtc = &mut *self.rtc;
-        match accept_offer(&mut rtc.polled.core, offer.0) {
-            Ok(answer) => Ok(SdpAnswer(answer)),
-            Err(error) => Err(error),
-        }
+        let answer = accept_offer(&mut rtc.polled.core, offer.0)?;
+        Ok(SdpAnswer(answer))
     }
 
     /// Accepts the answer to an offer of this side (RFC 8829, section 5.11). The token is consumed, also if the answer is refused.

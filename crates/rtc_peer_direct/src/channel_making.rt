@@ -22,10 +22,7 @@ fn start_streams<S: Association>(
     if sctp.is_inited() {
         return Ok(());
     }
-    match sctp.init(client, now, snap, None) {
-        Ok(()) => Ok(()),
-        Err(error) => Err(error),
-    }
+    sctp.init(client, now, snap, None)
 }
 
 // What a start of the association returns, as a peer reports it.

@@ -31,10 +31,7 @@ pub fn declare_media<I, D, S, M, N>(
     ensures { DeclaresMedia mid kind peer.old result peer.new }
 {
     let _count = count_lines(&peer.core.lines, 0)?;
-    match peer.core.lines.declare(mid, kind) {
-        Ok(declared) => Ok(declared),
-        Err(error) => Err(error),
-    }
+    peer.core.lines.declare(mid, kind)
 }
 
 /// Removes a media line with its streams: the last row is removed, another one is stopped for good. False if no media row has the mid.

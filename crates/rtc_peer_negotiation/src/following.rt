@@ -24,10 +24,7 @@ fn restart<I: IceAgent>(ice: &mut I, asked: Option<(IceCreds, bool)>) -> Result<
 {
     match asked {
         None => Ok(()),
-        Some((creds, keeps)) => match ice.ice_restart(creds, keeps) {
-            Ok(()) => Ok(()),
-            Err(error) => Err(error),
-        },
+        Some((creds, keeps)) => ice.ice_restart(creds, keeps),
     }
 }
 
@@ -131,8 +128,5 @@ pub fn start_dtls<D: DtlsInstance>(
     if dtls.is_active().is_some() {
         return Ok(());
     }
-    match take_role(dtls, active, now) {
-        Ok(()) => Ok(()),
-        Err(error) => Err(error),
-    }
+    take_role(dtls, active, now)
 }

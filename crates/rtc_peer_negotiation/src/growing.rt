@@ -75,10 +75,7 @@ fn prepare_media<M: MediaSession>(
 ) -> Result<(), AllocError>
     ensures { M.media.prepared media.old updates.items result media.new }
 {
-    match media.prepare(updates.as_slice()) {
-        Ok(()) => Ok(()),
-        Err(error) => Err(error),
-    }
+    media.prepare(updates.as_slice())
 }
 
 // Puts the answer to an offer, and what the offer carries of its side.

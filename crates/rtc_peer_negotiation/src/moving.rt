@@ -72,7 +72,7 @@ pub fn move_peer<I: IceAgent, D: DtlsInstance, S: Association, M: MediaSession, 
         peer.old.greatest result peer.new.ice peer.new.dtls peer.new.sctp }
     ensures rest { peer.new ≡ record peer.old { ice = peer.new.ice; dtls = peer.new.dtls; sctp = peer.new.sctp } }
 {
-    match move_parts(
+    move_parts(
         &mut peer.ice,
         &mut peer.dtls,
         &mut peer.sctp,
@@ -81,8 +81,5 @@ pub fn move_peer<I: IceAgent, D: DtlsInstance, S: Association, M: MediaSession, 
         sdp,
         rows,
         peer.greatest,
-    ) {
-        Ok(()) => Ok(()),
-        Err(error) => Err(error),
-    }
+    )
 }

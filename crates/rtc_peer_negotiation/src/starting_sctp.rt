@@ -70,8 +70,5 @@ pub fn start_sctp<S: Association>(
         return Ok(());
     }
     let limit = told_limit(sdp.max_message_size());
-    match sctp.init(client, now, starting.halves, limit) {
-        Ok(()) => Ok(()),
-        Err(error) => Err(error),
-    }
+    sctp.init(client, now, starting.halves, limit)
 }
