@@ -1,5 +1,6 @@
 //! What an acknowledgement settles.
-ghost use Rattle.std.specs.Prelude.{◌≡◌, ◌+◌, ◌≤◌, ◌<◌, [], ◌∷◌, ◌++◌, drop, false, if◌then◌else◌};
+ghost use Rattle.std.specs.Prelude.{◌≡◌, ◌+◌, ◌≤◌, ◌<◌, List, [], ◌∷◌, ◌++◌, drop, false, if◌then◌else◌};
+ghost use Rattle.rtc_assoc_packets.specs.declared.item.Item.{Item};
 ghost use Rattle.std.specs.VecDeque.{deque_len, deque_capacity};
 ghost use Rattle.rtc_assoc_state.specs.Amounts.{Agree};
 ghost use Rattle.rtc_assoc_state.specs.StreamTable.{SoundTable, stream_rows};

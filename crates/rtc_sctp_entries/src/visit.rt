@@ -1,5 +1,5 @@
 //! What a poll does with one stream in use.
-ghost use Rattle.std.specs.Prelude.{◌≡◌, true};
+ghost use Rattle.std.specs.Prelude.{◌≡◌, true, ℕ, List};
 ghost use Rattle.rtc_sctp_entries.specs.Visits.{turn, ReadBy, ReadsEntry, HandsThreshold, AttendsBy, Attends, Visits};
 ghost use Rattle.rtc_sctp_entries.specs.Visits.{is_entry_there as IsEntryThere};
 
