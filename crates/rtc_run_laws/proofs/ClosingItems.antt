@@ -15,7 +15,7 @@ use Rattle.rtc_assoc_state.specs.Contents.{Contents, is_ending, generation_of}
 use Rattle.rtc_assoc_state.specs.Streams.{is_closed_here, is_unclosed, put, reset_row, stream_of, takes_messages}
 use Rattle.rtc_assoc_state.specs.Outbox.{Outbox}
 use Rattle.rtc_assoc_state.specs.Settling.{can_reset}
-use Rattle.rtc_assoc_state.specs.Calls.{sent, item_counted, more_kept, last_kept, piece_kept, finished, reset_told, close_came_at, part_came, item_put, item_taken, is_ahead, marked, item_came, answered}
+use Rattle.rtc_assoc_state.specs.Calls.{sent, item_counted, more_kept, last_kept, piece_kept, finished, reset_told, close_came_at, part_came, item_put, item_taken, is_ahead, with_ahead, item_came, answered}
 use Rattle.rtc_assoc_state.proofs.RaiseLemmas.{stream_of-stream}
 use Rattle.rtc_assoc.proofs.MessageLemmas.{Closes, HasClose, close-left, close-right}
 use Rattle.rtc_assoc.proofs.FrameLemmas.{Brings}
@@ -37,8 +37,8 @@ or_none false b e = e
 not_ahead : (g own : ℕ) → g ≤ own → nat_lt own g ≡ false
 not_ahead g own le = grind (arith, le)
 
-take_marked : (f : Option Frame) (p q : Contents) (b : Bool) → b ≡ false → TakeGo f p q → TakeGo f p (marked b q)
-take_marked f p q b none h = take_as f p q (marked b q) refl refl refl (or_none q.inbox.ahead b none) h
+take_with_ahead : (f : Option Frame) (p q : Contents) (b : Bool) → b ≡ false → TakeGo f p q → TakeGo f p (with_ahead b q)
+take_with_ahead f p q b none h = take_as f p q (with_ahead b q) refl refl refl (or_none q.inbox.ahead b none) h
 
 module _ (n number : ℕ) (item : Item) (p : Contents) (number_is : number ≡ p.inbox.received + 1) where
   abbrev old : StreamRow
@@ -223,7 +223,7 @@ module _ (n number : ℕ) (item : Item) (p : Contents) (number_is : number ≡ p
 
   item_taken_so : (now : ℕ) → item.generation ≤ row.generation → TakeGo (Some (Data n number item)) p (item_taken now item p)
   item_taken_so now behind =
-      take_marked (Some (Data n number item)) p (item_put now item p) (is_ahead item p) (not_ahead item.generation row.generation behind) (part_came_so item.part now refl behind)
+      take_with_ahead (Some (Data n number item)) p (item_put now item p) (is_ahead item p) (not_ahead item.generation row.generation behind) (part_came_so item.part now refl behind)
 
 item_if : (next ending : Bool) (n now number : ℕ) (item : Item) (p : Contents) → (number == p.inbox.received + 1) ≡ next
     → (number ≡ p.inbox.received + 1 → item.generation ≤ generation_of p item.stream)

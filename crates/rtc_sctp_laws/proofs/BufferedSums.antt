@@ -24,18 +24,17 @@ module _ {S : Type 0} (m : AssociationMeaning S) where
   sum_bound : (p q : S) (id count low : ℕ) (es : List StreamEntry) → AscendFrom low es → Buffers m p id count q
       → buffered_sum m q es ≤ buffered_sum m p es + count
   sum_bound p q id count low [] h b = omega arith
-  sum_bound p q id count low (e ∷ es) h b = by (e.id == id) refl
+  sum_bound p q id count low (e ∷ es) h b = by (e.id == id) refl (sum_bound p q id count (e.id + 1) es h.1 b)
     where
-      by : (c : Bool) → (e.id == id) ≡ c → buffered_sum m q (e ∷ es) ≤ buffered_sum m p (e ∷ es) + count
-      by true is =
+      by : (c : Bool) → (e.id == id) ≡ c → buffered_sum m q es ≤ buffered_sum m p es + count → buffered_sum m q (e ∷ es) ≤ buffered_sum m p (e ∷ es) + count
+      by true is bound =
           let same : e.id ≡ id = eqb-true e.id id is in
           let here : m.buffered q e.id ≤ m.buffered p e.id + count = subst (λ (k : ℕ). m.buffered q k ≤ m.buffered p k + count) (sym same) b.bound in
           let rest : buffered_sum m q es ≡ buffered_sum m p es = sum_same p q id (e.id + 1) es (omega (arith, same)) h.1 b.others in
           omega (arith, here, rest)
-      by false is =
+      by false is bound =
           let first : m.buffered q e.id ≡ m.buffered p e.id = b.others e.id (λ same. true≢false (sym (grind (arith, same)) ∙ is)) in
-          let rest : buffered_sum m q es ≤ buffered_sum m p es + count = sum_bound p q id count (e.id + 1) es h.1 b in
-          omega (arith, first, rest)
+          omega (arith, first, bound)
 
   -- a message that fits into what was available leaves no more buffered than may be
   pub write_fits : AssociationLaws m → (id : ℕ) (binary : Bool) (bytes : List ℕ) (p : SctpStreams S) (r : Result ℕ SctpError)

@@ -18,7 +18,7 @@ use Rattle.rtc_assoc_state.specs.Contents.{Contents, is_server}
 use Rattle.rtc_assoc_state.specs.Streams.{stream_of, put, reset_row, takes_messages}
 use Rattle.rtc_assoc_state.specs.Outbox.{last_number, settled_count}
 use Rattle.rtc_assoc_state.specs.Settling.{told_of, can_reset}
-use Rattle.rtc_assoc_state.specs.Calls.{limited, started_as, said_hello, connected, accepted, snapped, opened, sent, taken_out, stream_ended, thresholded, shut_down, greeted, welcomed, acknowledged, item_counted, more_kept, last_kept, piece_kept, finished, reset_told, close_came_at, part_came, item_put, item_taken, is_ahead, marked, item_came, answered, lost, framed, at_moment, input_taken, half_taken, timed}
+use Rattle.rtc_assoc_state.specs.Calls.{limited, started_as, said_hello, connected, accepted, snapped, opened, sent, taken_out, stream_ended, thresholded, shut_down, greeted, welcomed, acknowledged, item_counted, more_kept, last_kept, piece_kept, finished, reset_told, close_came_at, part_came, item_put, item_taken, is_ahead, with_ahead, item_came, answered, lost, framed, at_moment, input_taken, half_taken, timed}
 use Rattle.rtc_assoc_state.specs.PlainMeaning.{Gives}
 use Rattle.rtc_assoc_state.proofs.RaiseLemmas.{stream_of-stream}
 use Rattle.rtc_assoc_state.proofs.DoesLemmas.{gives}
@@ -223,8 +223,8 @@ goes_put_item : (now : ℕ) (item : Item) (p : Contents) → EndGoes p (item_put
 goes_put_item now item p =
     goes_part item.part now item item.stream (record (stream_of item.stream p.streams) { there = true }) p (stream_of-stream item.stream p.streams) (record { generation_is = refl; there = λ h. refl; closed = λ h. h })
 
-goes_marked : (b : Bool) (p : Contents) → EndGoes p (marked b p)
-goes_marked b p = record {
+goes_with_ahead : (b : Bool) (p : Contents) → EndGoes p (with_ahead b p)
+goes_with_ahead b p = record {
   rows = rows_same p.streams p.streams refl;
   numbers = omega arith;
   shut = λ h. h;
@@ -235,7 +235,7 @@ goes_marked b p = record {
 pub goes_item : (now : ℕ) (item : Item) (p : Contents) → EndGoes p (item_taken now item p)
 goes_item now item p =
     goes_join p (item_put now item p) (item_taken now item p)
-    (goes_put_item now item p) (goes_marked (is_ahead item p) (item_put now item p))
+    (goes_put_item now item p) (goes_with_ahead (is_ahead item p) (item_put now item p))
 
 pub goes_item_if : (b : Bool) (now : ℕ) (item : Item) (p : Contents) → EndGoes p (cond b (item_taken now item p) p)
 goes_item_if true now item p = goes_item now item p
