@@ -30,8 +30,9 @@ pub use rtc_part_association::Association;
 pub use rtc_part_dtls::{DtlsError, DtlsInstance, DtlsVersion};
 pub use rtc_part_ice::{IceAgent, IceConnectionState};
 pub use rtc_part_media::{
-    MediaEgressStats, MediaError, MediaEvent, MediaIngressStats, MediaSession, MediaSettings,
-    NoStream, PeerStats, RawPacket, Vp9PacketizerMode,
+    CandidatePairStats, CandidateStats, MediaEgressStats, MediaError, MediaEvent,
+    MediaIngressStats, MediaSession, MediaSettings, NoStream, PeerStats, RawPacket,
+    RemoteEgressStats, RemoteIngressStats, Vp9PacketizerMode,
 };
 pub use rtc_part_values::{Ids, Reason};
 pub use rtc_peer_core::{Formats, RtcError};

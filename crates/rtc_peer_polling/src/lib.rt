@@ -14,5 +14,8 @@ mod timing;
 mod walking;
 
 pub use hearing::handle_input;
-pub use laws::{channels_are_numbered, negotiation_is_kept, stance_is_kept, want_of_memory_closes};
+pub use laws::{
+    channels_are_numbered, negotiation_is_kept, stance_is_kept, starts_are_kept,
+    want_of_memory_closes,
+};
 pub use walking::poll_output;
