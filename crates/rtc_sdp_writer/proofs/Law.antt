@@ -5,7 +5,7 @@ use Rattle.std.proofs.Common.{◌≡◌, ℕ, Bool, true, false, not, cond, eqb,
 use Rattle.std.specs.Prelude.{codes, filter, IfSome}
 use Rattle.std.specs.List.{AllByRecursion, filter_map, cons_option, list_any}
 use Rattle.std.proofs.lemmas.List.{map-append}
-use Rattle.rtc_wire_text.specs.Lines.{lines, AreLines}
+use Rattle.rtc_wire_text.specs.Lines.{lines, text_of, AreLines}
 use Rattle.rtc_wire_text.specs.Tokens.{is_token}
 use Rattle.rtc_wire_text.proofs.LineLemmas.{lines-text_of, AreLines-append}
 use Rattle.rtc_sdp_values.specs.declared.fingerprint.Fingerprint.{Fingerprint}
@@ -20,8 +20,8 @@ use Rattle.rtc_sdp_grammar.specs.declared.item.Item.{Item}
 use Rattle.rtc_sdp_grammar.specs.declared.item.Item.TheVariants.{Skipped, Version, Origin, Says}
 use Rattle.rtc_sdp_grammar.specs.ItemForm.{item_of, items_of}
 use Rattle.rtc_sdp_grammar.specs.Table.{attribute_item}
-use Rattle.rtc_sdp_grammar.specs.LineTexts.{group_line}
-use Rattle.rtc_sdp_grammar.proofs.LineLaws.{IsLineOf, AreMids, origin_line_is, group_line_is}
+use Rattle.rtc_sdp_grammar.specs.LineTexts.{origin_line, group_line}
+use Rattle.rtc_sdp_grammar.proofs.LineLaws.{IsLineOf, AreMids, origin_line_is, group_line_is, head_of, formats_of as formats_for}
 use Rattle.rtc_sdp_reader.specs.declared.place.Place.TheVariants.{Session, Line}
 use Rattle.rtc_sdp_reader.specs.Parting.{inner, attribute_here, is_mid_line, has_one_mid}
 use Rattle.rtc_sdp_reader.specs.Refusal.{next_number, refused_from, refused}
@@ -31,7 +31,8 @@ use Rattle.rtc_sdp_reader.specs.LineValue.{line_of, lines_of}
 use Rattle.rtc_sdp_reader.specs.SessionValue.{sdp_made, sdp_of}
 use Rattle.rtc_sdp_reader.specs.Reading.{judged, items_reading, reading}
 use Rattle.rtc_sdp_writer.specs.Rows.{in_order}
-use Rattle.rtc_sdp_writer.specs.LineRows.{line_rows, all_line_rows}
+use Rattle.rtc_sdp_writer.specs.LineRows.{inner_rows}
+use Rattle.rtc_sdp_writer.specs.Placeholders.{filled_sdp}
 use Rattle.rtc_sdp_writer.specs.MediaRows.{shown_stream}
 use Rattle.rtc_sdp_writer.specs.SessionRows.{enabled_mids, new_name, names_behind, stream_names, lite_lines, session_groups, sdp_rows, written_sdp}
 use Rattle.rtc_sdp_writer.specs.Plain.{IsLegibleLine, IsLegible, IsPlain}
@@ -44,7 +45,8 @@ use Rattle.rtc_sdp_grammar.proofs.MediaLineLaws.{semantic_line_is}
 use Rattle.rtc_sdp_reader.proofs.SourceLaw.{sources_again}
 use Rattle.rtc_sdp_writer.specs.AsRead.{line_as_read, as_read, AreSourcesApart}
 use Rattle.rtc_sdp_writer.proofs.Blocks.{Block, single_block, kept_block, if_kept, rows_in, items_in, rows_again, rows_one, all_said}
-use Rattle.rtc_sdp_writer.proofs.LineBlocks.{blocks_of, said_inner, said_line, line_rows_again, line_rows_one}
+use Rattle.rtc_sdp_writer.proofs.Heads.{Heads, rows_by, own_heads, own_rows, filled_heads, filled_rows}
+use Rattle.rtc_sdp_writer.proofs.LineBlocks.{blocks_of, rows_as_written, said_inner}
 use Rattle.rtc_sdp_writer.proofs.Passing.{inner_over, lines_over, session_over, line_over}
 use Rattle.rtc_sdp_writer.proofs.LineFound.{one_mid, media_head, line_again}
 
@@ -52,47 +54,61 @@ use Rattle.rtc_sdp_writer.proofs.LineFound.{one_mid, media_head, line_again}
 abbrev AreLegible : List MediaLine → Type 0
 AreLegible lines = AllByRecursion IsLegibleLine lines
 
-abbrev said_lines : (lines : List MediaLine) → AreLegible lines → List Item
-said_lines [] h = []
-said_lines (line ∷ rest) h = said_line line h.0 ++ said_lines rest h.1
+module _ (heads : Heads) where
+  abbrev said_line : (line : MediaLine) → IsLegibleLine line → List Item
+  said_line line h = head_of line.kind line.disabled (heads.formats line) ∷ said_inner line h
 
-inner_begins : (lines : List MediaLine) (h : AreLegible lines) → inner (said_lines lines h) ≡ []
-inner_begins [] h = refl
-inner_begins (line ∷ rest) h = refl
+  abbrev said_lines : (lines : List MediaLine) → AreLegible lines → List Item
+  said_lines [] h = []
+  said_lines (line ∷ rest) h = said_line line h.0 ++ said_lines rest h.1
 
-inner_is : (line : MediaLine) (p : IsLegibleLine line) (rest : List MediaLine) (h : AreLegible rest) → inner (said_inner line p ++ said_lines rest h) ≡ said_inner line p
-inner_is line p rest h = inner_over (said_inner line p) (said_lines rest h) (all_said (blocks_of line.kind line p)) (inner_begins rest h)
+  inner_begins : (lines : List MediaLine) (h : AreLegible lines) → inner (said_lines lines h) ≡ []
+  inner_begins [] h = refl
+  inner_begins (line ∷ rest) h = refl
 
-one_here : (line : MediaLine) (p : IsLegibleLine line) (rest : List MediaLine) (h : AreLegible rest) → has_one_mid (said_inner line p ++ said_lines rest h) ≡ true
-one_here line p rest h =
-    ap (λ (items : List Item). eqb (length (filter is_mid_line items)) 1) (inner_is line p rest h)
-    ∙ ap (λ (n : ℕ). eqb n 1) (one_mid line.kind line p)
+  inner_is : (line : MediaLine) (p : IsLegibleLine line) (rest : List MediaLine) (h : AreLegible rest) → inner (said_inner line p ++ said_lines rest h) ≡ said_inner line p
+  inner_is line p rest h = inner_over (said_inner line p) (said_lines rest h) (all_said (blocks_of line.kind line p)) (inner_begins rest h)
 
-lines_pass : (lines : List MediaLine) (h : AreLegible lines) (n : ℕ) → refused_from Line n (said_lines lines h) ≡ None
-lines_pass [] h n = refl
-lines_pass (line ∷ rest) h n = rw (one_here line h.0 rest h.1) (line_over (said_inner line h.0) (said_lines rest h.1) (all_said (blocks_of line.kind line h.0)) (lines_pass rest h.1) (next_number n))
+  one_here : (line : MediaLine) (p : IsLegibleLine line) (rest : List MediaLine) (h : AreLegible rest) → has_one_mid (said_inner line p ++ said_lines rest h) ≡ true
+  one_here line p rest h =
+      ap (λ (items : List Item). eqb (length (filter is_mid_line items)) 1) (inner_is line p rest h)
+      ∙ ap (λ (n : ℕ). eqb n 1) (one_mid line.kind line p)
 
-lines_begin : (lines : List MediaLine) (h : AreLegible lines) (n : ℕ) → refused_from Session n (said_lines lines h) ≡ None
-lines_begin [] h n = refl
-lines_begin (line ∷ rest) h n = rw (one_here line h.0 rest h.1) (line_over (said_inner line h.0) (said_lines rest h.1) (all_said (blocks_of line.kind line h.0)) (lines_pass rest h.1) (next_number n))
+  lines_pass : (lines : List MediaLine) (h : AreLegible lines) (n : ℕ) → refused_from Line n (said_lines lines h) ≡ None
+  lines_pass [] h n = refl
+  lines_pass (line ∷ rest) h n = rw (one_here line h.0 rest h.1) (line_over (said_inner line h.0) (said_lines rest h.1) (all_said (blocks_of line.kind line h.0)) (lines_pass rest h.1) (next_number n))
 
-lines_again : (lines : List MediaLine) (h : AreLegible lines) → lines_of (said_lines lines h) ≡ map line_as_read lines
-lines_again [] h = refl
-lines_again (line ∷ rest) h =
-    let behind : lines_of (said_inner line h.0 ++ said_lines rest h.1) ≡ map line_as_read rest = lines_over (said_inner line h.0) (said_lines rest h.1) (all_said (blocks_of line.kind line h.0)) ∙ lines_again rest h.1 in
-    let here : line_of (media_head line) (part_said (filter_map (attribute_here true) (inner (said_inner line h.0 ++ said_lines rest h.1)))) ≡ Some (line_as_read line) = ap (λ (items : List Item). line_of (media_head line) (part_said (filter_map (attribute_here true) items))) (inner_is line h.0 rest h.1) ∙ line_again line h.0 in
-    ap (λ (x : Option MediaLine). cons_option x (lines_of (said_inner line h.0 ++ said_lines rest h.1))) here ∙ ap (λ (l : List MediaLine). line_as_read line ∷ l) behind
+  lines_begin : (lines : List MediaLine) (h : AreLegible lines) (n : ℕ) → refused_from Session n (said_lines lines h) ≡ None
+  lines_begin [] h n = refl
+  lines_begin (line ∷ rest) h n = rw (one_here line h.0 rest h.1) (line_over (said_inner line h.0) (said_lines rest h.1) (all_said (blocks_of line.kind line h.0)) (lines_pass rest h.1) (next_number n))
 
-line_rows_say : (lines : List MediaLine) (h : AreLegible lines) → map item_of (all_line_rows lines) ≡ said_lines lines h
-line_rows_say [] h = refl
-line_rows_say (line ∷ rest) h =
-    map-append item_of (line_rows line) (all_line_rows rest)
-    ∙ ap (λ (l : List Item). l ++ map item_of (all_line_rows rest)) (line_rows_again line h.0)
-    ∙ ap (λ (l : List Item). said_line line h.0 ++ l) (line_rows_say rest h.1)
+  lines_again : (lines : List MediaLine) (h : AreLegible lines) → lines_of (said_lines lines h) ≡ map line_as_read lines
+  lines_again [] h = refl
+  lines_again (line ∷ rest) h =
+      let formats : List ℕ = formats_for line.kind (heads.formats line) in
+      let behind : lines_of (said_inner line h.0 ++ said_lines rest h.1) ≡ map line_as_read rest = lines_over (said_inner line h.0) (said_lines rest h.1) (all_said (blocks_of line.kind line h.0)) ∙ lines_again rest h.1 in
+      let here : line_of (media_head line formats) (part_said (filter_map (attribute_here true) (inner (said_inner line h.0 ++ said_lines rest h.1)))) ≡ Some (line_as_read line) = ap (λ (items : List Item). line_of (media_head line formats) (part_said (filter_map (attribute_here true) items))) (inner_is line h.0 rest h.1) ∙ line_again line h.0 formats (heads.table line h.0) in
+      ap (λ (x : Option MediaLine). cons_option x (lines_of (said_inner line h.0 ++ said_lines rest h.1))) here ∙ ap (λ (l : List MediaLine). line_as_read line ∷ l) behind
 
-line_rows_are_lines : (lines : List MediaLine) (h : AreLegible lines) → AreLines (all_line_rows lines)
-line_rows_are_lines [] h = tt
-line_rows_are_lines (line ∷ rest) h = AreLines-append (line_rows line) (all_line_rows rest) (line_rows_one line h.0) (line_rows_are_lines rest h.1)
+  inner_rows_say : (line : MediaLine) (h : IsLegibleLine line) → map item_of (inner_rows line) ≡ said_inner line h
+  inner_rows_say line h = ap (map item_of) (sym (rows_as_written line.kind line h)) ∙ rows_again (blocks_of line.kind line h)
+
+  line_rows_say : (line : MediaLine) (h : IsLegibleLine line) → map item_of (heads.written line ∷ inner_rows line) ≡ said_line line h
+  line_rows_say line h = rw ((heads.line line h).again, inner_rows_say line h) refl
+
+  all_rows_say : (lines : List MediaLine) (h : AreLegible lines) → map item_of (rows_by heads lines) ≡ said_lines lines h
+  all_rows_say [] h = refl
+  all_rows_say (line ∷ rest) h =
+      map-append item_of (heads.written line ∷ inner_rows line) (rows_by heads rest)
+      ∙ ap (λ (l : List Item). l ++ map item_of (rows_by heads rest)) (line_rows_say line h.0)
+      ∙ ap (λ (l : List Item). said_line line h.0 ++ l) (all_rows_say rest h.1)
+
+  all_rows_are_lines : (lines : List MediaLine) (h : AreLegible lines) → AreLines (rows_by heads lines)
+  all_rows_are_lines [] h = tt
+  all_rows_are_lines (line ∷ rest) h =
+      AreLines-append (heads.written line ∷ inner_rows line) (rows_by heads rest)
+      ((heads.line line h.0).one, subst AreLines (rows_as_written line.kind line h.0) (rows_one (blocks_of line.kind line h.0)))
+      (all_rows_are_lines rest h.1)
 
 -- ---- the session part, a row for each attribute
 mids_with : (line : MediaLine) (live : List MediaLine) (disabled : Bool) → IsLegibleLine line → AreMids (map (λ l. l.mid) live) → AreMids (map (λ l. l.mid) (cond (not disabled) (line ∷ live) live))
@@ -162,30 +178,33 @@ session_as_written sdp h =
     ap (λ (l : List (List ℕ)). codes "s=-" ∷ (codes "t=0 0" ∷ (group_line (enabled_mids sdp.lines) ∷ (codes "a=extmap-allow-mixed" ∷ (semantic_line (stream_names sdp.lines) ∷ l))))) (lite_as_written sdp.ice_lite)
 
 -- ---- the text
-abbrev said_all : (sdp : Sdp) → IsLegible sdp → List Item
-said_all sdp h = Version ∷ (Origin sdp.id ∷ (said_session sdp h ++ said_lines sdp.lines h.lines))
-
 version_is : IsLineOf (codes "v=0") Version
 unfolding item_of
 version_is = record { again = refl; one = search rules }
 
-rows_say : (sdp : Sdp) (h : IsLegible sdp) → map item_of (sdp_rows sdp) ≡ said_all sdp h
-rows_say sdp h =
+abbrev text_rows : Heads → Sdp → List (List ℕ)
+text_rows heads sdp = codes "v=0" ∷ (origin_line sdp.id ∷ (in_order (session_groups sdp) ++ rows_by heads sdp.lines))
+
+abbrev said_all : Heads → (sdp : Sdp) → IsLegible sdp → List Item
+said_all heads sdp h = Version ∷ (Origin sdp.id ∷ (said_session sdp h ++ said_lines heads sdp.lines h.lines))
+
+rows_say : (heads : Heads) (sdp : Sdp) (h : IsLegible sdp) → map item_of (text_rows heads sdp) ≡ said_all heads sdp h
+rows_say heads sdp h =
     let session : map item_of (in_order (session_groups sdp)) ≡ said_session sdp h = ap (map item_of) (sym (session_as_written sdp h)) ∙ rows_again (session_blocks sdp h) in
-    let behind : map item_of (in_order (session_groups sdp) ++ all_line_rows sdp.lines) ≡ said_session sdp h ++ said_lines sdp.lines h.lines = map-append item_of (in_order (session_groups sdp)) (all_line_rows sdp.lines) ∙ rw (session, line_rows_say sdp.lines h.lines) refl in
+    let behind : map item_of (in_order (session_groups sdp) ++ rows_by heads sdp.lines) ≡ said_session sdp h ++ said_lines heads sdp.lines h.lines = map-append item_of (in_order (session_groups sdp)) (rows_by heads sdp.lines) ∙ rw (session, all_rows_say heads sdp.lines h.lines) refl in
     rw (version_is.again, (origin_line_is sdp.id h.id).again, behind) refl
 
-rows_are_lines : (sdp : Sdp) (h : IsLegible sdp) → AreLines (sdp_rows sdp)
-rows_are_lines sdp h = (
+rows_are_lines : (heads : Heads) (sdp : Sdp) (h : IsLegible sdp) → AreLines (text_rows heads sdp)
+rows_are_lines heads sdp h = (
   version_is.one,
   (
     (origin_line_is sdp.id h.id).one,
-    AreLines-append (in_order (session_groups sdp)) (all_line_rows sdp.lines) (subst AreLines (session_as_written sdp h) (rows_one (session_blocks sdp h))) (line_rows_are_lines sdp.lines h.lines),
+    AreLines-append (in_order (session_groups sdp)) (rows_by heads sdp.lines) (subst AreLines (session_as_written sdp h) (rows_one (session_blocks sdp h))) (all_rows_are_lines heads sdp.lines h.lines),
   ),
 )
 
-not_refused : (sdp : Sdp) (h : IsLegible sdp) → refused (said_all sdp h) ≡ None
-not_refused sdp h = session_over (said_session sdp h) (said_lines sdp.lines h.lines) (all_said (session_blocks sdp h)) (lines_begin sdp.lines h.lines) 2
+not_refused : (heads : Heads) (sdp : Sdp) (h : IsLegible sdp) → refused (said_all heads sdp h) ≡ None
+not_refused heads sdp h = session_over (said_session sdp h) (said_lines heads sdp.lines h.lines) (all_said (session_blocks sdp h)) (lines_begin heads sdp.lines h.lines) 2
 
 -- the session part has the group, and says that the end is lite
 abbrev session_attributes : List (List ℕ) → Bool → List Attribute
@@ -225,21 +244,31 @@ sdp_from : (sdp : Sdp) (groups : List (List (List ℕ))) (creds : Option IceCred
     record { id = sdp.id; groups = groups; ice_lite = sdp.ice_lite; creds = creds; fingerprint = fingerprint; setup = setup; lines = lines } ≡ as_read sdp
 sdp_from sdp groups creds fingerprint setup lines e1 e2 e3 e4 e5 = rw (e1, e2, e3, e4, e5) refl
 
-sdp_again : (sdp : Sdp) (h : IsLegible sdp) → sdp_of (said_all sdp h) ≡ as_read sdp
+sdp_again : (heads : Heads) (sdp : Sdp) (h : IsLegible sdp) → sdp_of (said_all heads sdp h) ≡ as_read sdp
 unfolding sdp_of
-sdp_again sdp h =
-    let lines : List MediaLine = lines_of (said_session sdp h ++ said_lines sdp.lines h.lines) in
-    let session : inner (said_session sdp h ++ said_lines sdp.lines h.lines) ≡ said_session sdp h = inner_over (said_session sdp h) (said_lines sdp.lines h.lines) (all_said (session_blocks sdp h)) (inner_begins sdp.lines h.lines) in
+sdp_again heads sdp h =
+    let lines : List MediaLine = lines_of (said_session sdp h ++ said_lines heads sdp.lines h.lines) in
+    let session : inner (said_session sdp h ++ said_lines heads sdp.lines h.lines) ≡ said_session sdp h = inner_over (said_session sdp h) (said_lines heads sdp.lines h.lines) (all_said (session_blocks sdp h)) (inner_begins heads sdp.lines h.lines) in
     ap (λ (items : List Item). sdp_made (Some sdp.id) (part_said (filter_map (attribute_here false) items)) lines) session
     ∙ ap (λ (part : Part). sdp_made (Some sdp.id) part lines) (session_found (enabled_mids sdp.lines) sdp.ice_lite)
-    ∙ sdp_from sdp (enabled_mids sdp.lines ∷ []) None None None lines (sym h.groups) (sym h.creds) (sym h.fingerprint) (sym h.setup) (lines_over (said_session sdp h) (said_lines sdp.lines h.lines) (all_said (session_blocks sdp h)) ∙ lines_again sdp.lines h.lines)
+    ∙ sdp_from sdp (enabled_mids sdp.lines ∷ []) None None None lines (sym h.groups) (sym h.creds) (sym h.fingerprint) (sym h.setup) (lines_over (said_session sdp h) (said_lines heads sdp.lines h.lines) (all_said (session_blocks sdp h)) ∙ lines_again heads sdp.lines h.lines)
 
 -- what is written is read again, with the sources that the written lines give
+rows_read_again : (heads : Heads) (sdp : Sdp) → IsLegible sdp → reading (text_of (text_rows heads sdp)) ≡ Ok (as_read sdp)
+rows_read_again heads sdp h =
+    let items : items_of (text_of (text_rows heads sdp)) ≡ said_all heads sdp h = ap (λ (rows : List (List ℕ)). map item_of rows) (lines-text_of (text_rows heads sdp) (rows_are_lines heads sdp h)) ∙ rows_say heads sdp h in
+    ap items_reading items ∙ ap (λ (number : Option ℕ). judged number (sdp_of (said_all heads sdp h))) (not_refused heads sdp h) ∙ ap (λ (x : Sdp). Ok x) (sdp_again heads sdp h)
+
+abbrev reads_with : Sdp → List (List ℕ) → Type 0
+reads_with sdp rows = reading (text_of (codes "v=0" ∷ (origin_line sdp.id ∷ (in_order (session_groups sdp) ++ rows)))) ≡ Ok (as_read sdp)
+
 pub written_reads_again : (sdp : Sdp) → IsLegible sdp → reading (written_sdp sdp) ≡ Ok (as_read sdp)
 unfolding written_sdp
-written_reads_again sdp h =
-    let items : items_of (written_sdp sdp) ≡ said_all sdp h = ap (λ (rows : List (List ℕ)). map item_of rows) (lines-text_of (sdp_rows sdp) (rows_are_lines sdp h)) ∙ rows_say sdp h in
-    ap items_reading items ∙ ap (λ (number : Option ℕ). judged number (sdp_of (said_all sdp h))) (not_refused sdp h) ∙ ap (λ (x : Sdp). Ok x) (sdp_again sdp h)
+written_reads_again sdp h = subst (reads_with sdp) (own_rows sdp.lines) (rows_read_again own_heads sdp h)
+
+pub filled_reads_again : (sdp : Sdp) → IsLegible sdp → reading (filled_sdp sdp) ≡ Ok (as_read sdp)
+unfolding filled_sdp
+filled_reads_again sdp h = subst (reads_with sdp) (filled_rows sdp.lines) (rows_read_again filled_heads sdp h)
 
 -- ---- sources of which none stands twice are read as they are
 line_apart : (line : MediaLine) → AreNumbersApart line.ssrcs → line_as_read line ≡ line
@@ -254,3 +283,6 @@ plain_as_read sdp h = ap (λ (lines : List MediaLine). record sdp { lines = line
 
 pub written_reads_back : (sdp : Sdp) → IsPlain sdp → reading (written_sdp sdp) ≡ Ok sdp
 written_reads_back sdp h = written_reads_again sdp h.legible ∙ ap (λ (x : Sdp). Ok x) (plain_as_read sdp h)
+
+pub filled_reads_back : (sdp : Sdp) → IsPlain sdp → reading (filled_sdp sdp) ≡ Ok sdp
+filled_reads_back sdp h = filled_reads_again sdp h.legible ∙ ap (λ (x : Sdp). Ok x) (plain_as_read sdp h)

@@ -7,6 +7,7 @@ pub mod LineBlocks
 pub mod AttributesFound
 pub mod KindFacts
 pub mod LineFound
+pub mod Heads
 pub mod Orders
 pub mod Passing
 pub mod Law

@@ -124,7 +124,7 @@ media_blocks b kind line h =
 abbrev pub blocks_of : LineKind → (line : MediaLine) → IsLegibleLine line → List Block
 blocks_of kind line h = transport_blocks line h (channel_blocks (is_application kind) line h (media_blocks (not (is_application kind)) kind line h))
 
-rows_as_written : (kind : LineKind) (line : MediaLine) (h : IsLegibleLine line) → rows_in (blocks_of kind line h) ≡ in_order (transport_groups line ++ kind_groups kind line)
+pub rows_as_written : (kind : LineKind) (line : MediaLine) (h : IsLegibleLine line) → rows_in (blocks_of kind line h) ≡ in_order (transport_groups line ++ kind_groups kind line)
 unfolding transport_groups media_groups channel_groups
 rows_as_written Audio line h = refl
 rows_as_written Video line h = refl
@@ -135,9 +135,6 @@ rows_as_written Unknown line h = refl
 abbrev pub said_inner : (line : MediaLine) → IsLegibleLine line → List Item
 said_inner line h = items_in (blocks_of line.kind line h)
 
-abbrev pub said_line : (line : MediaLine) → IsLegibleLine line → List Item
-said_line line h = head_of line.kind line.disabled (formats_of line.payloads) ∷ said_inner line h
-
 numbers_append : (xs ys : List ℕ) → ArePayloadTypes xs → ArePayloadTypes ys → ArePayloadTypes (xs ++ ys)
 numbers_append [] ys h k = k
 numbers_append (x ∷ xs) ys h k = (h.0, numbers_append xs ys h.1 k)
@@ -146,22 +143,9 @@ optional_small : (pt : Option Pt) → IfSome pt IsPayloadType → ArePayloadType
 optional_small None h = tt
 optional_small (Some pt) h = (h, tt)
 
-formats_small : (rows : List PayloadRow) → AllByRecursion IsPlainRow rows → ArePayloadTypes (formats_of rows)
+pub formats_small : (rows : List PayloadRow) → AllByRecursion IsPlainRow rows → ArePayloadTypes (formats_of rows)
 formats_small [] h = tt
 formats_small (row ∷ rest) h =
     numbers_append (row_formats row) (formats_of rest)
     (numbers_append (made_of itself row.red) (row.pt.0 ∷ made_of itself row.rtx) (optional_small row.red h.0.numbers.red) (h.0.numbers.pt, optional_small row.rtx h.0.numbers.rtx))
     (formats_small rest h.1)
-
-pub line_rows_again : (line : MediaLine) (h : IsLegibleLine line) → map item_of (line_rows line) ≡ said_line line h
-unfolding line_rows
-line_rows_again line h =
-    let head = media_line_is line.kind line.disabled (formats_of line.payloads) (formats_small line.payloads h.payloads) h.payloads_apart in
-    let inside : map item_of (inner_rows line) ≡ said_inner line h = ap (map item_of) (sym (rows_as_written line.kind line h)) ∙ rows_again (blocks_of line.kind line h) in
-    rw (head.again, inside) refl
-
-pub line_rows_one : (line : MediaLine) (h : IsLegibleLine line) → AreLines (line_rows line)
-unfolding line_rows
-line_rows_one line h =
-    let head = media_line_is line.kind line.disabled (formats_of line.payloads) (formats_small line.payloads h.payloads) h.payloads_apart in
-    (head.one, subst AreLines (rows_as_written line.kind line h) (rows_one (blocks_of line.kind line h)))

@@ -169,7 +169,7 @@ ssrcs_found kind line h k =
     ap (λ (l : List ℕ). sources l (all_found source_pair_of kind line h)) (numbers_found kind line h k)
     ∙ ap (sources (numbers_of line.ssrcs)) (pairs_found kind line h k)
 
-codecs_are_found : (kind : LineKind) (line : MediaLine) (h : IsLegibleLine line) → SuitsKind kind line → all_found codec_of kind line h ≡ codecs_of line.payloads
+pub codecs_are_found : (kind : LineKind) (line : MediaLine) (h : IsLegibleLine line) → SuitsKind kind line → all_found codec_of kind line h ≡ codecs_of line.payloads
 codecs_are_found kind line h k =
     all_in 12 (said codec_of) codec_looks (blocks_of kind line h)
     ∙ kept_all (said codec_of) (not (is_application kind)) (items_in (payload_blocks kind line.payloads h.payloads)) (codecs_of line.payloads)
@@ -194,7 +194,7 @@ no_payloads Video line k codecs fmtps e = absurd cc
 no_payloads Application line k codecs fmtps e = sym k.payloads
 no_payloads Unknown line k codecs fmtps e = absurd k
 
-payloads_found : (kind : LineKind) (line : MediaLine) (h : IsLegibleLine line) → SuitsKind kind line → payload_rows (formats_for kind (formats_of line.payloads)) (all_found codec_of kind line h) (all_found parameters_of kind line h) ≡ line.payloads
+pub payloads_found : (kind : LineKind) (line : MediaLine) (h : IsLegibleLine line) → SuitsKind kind line → payload_rows (formats_for kind (formats_of line.payloads)) (all_found codec_of kind line h) (all_found parameters_of kind line h) ≡ line.payloads
 payloads_found kind line h k =
     ap (λ (l : List Rtpmap). payload_rows (formats_for kind (formats_of line.payloads)) l (all_found parameters_of kind line h)) (codecs_are_found kind line h k)
     ∙ ap (payload_rows (formats_for kind (formats_of line.payloads)) (codecs_of line.payloads)) (parameters_are_found kind line h k)
@@ -216,8 +216,8 @@ pub one_mid : (kind : LineKind) (line : MediaLine) (h : IsLegibleLine line) → 
 one_mid kind line h = ap length (kept_in 1 is_mid_line mid_tests (blocks_of kind line h))
 
 -- ---- the value
-abbrev pub media_head : MediaLine → MediaHead
-media_head line = record { kind = line.kind; disabled = line.disabled; formats = formats_for line.kind (formats_of line.payloads) }
+abbrev pub media_head : MediaLine → List ℕ → MediaHead
+media_head line formats = record { kind = line.kind; disabled = line.disabled; formats = formats }
 
 -- a line is its fields
 line_from : (line : MediaLine) (dir : Direction) (candidates : List Candidate) (creds : Option IceCreds) (fingerprint : Option Fingerprint) (setup : Option Setup) (payloads : List PayloadRow) (exts : List (ℕ × Extension)) (simulcast : Option Simulcast) (msid : Option Msid)
@@ -255,11 +255,11 @@ one_of gives ignores line h = first_here gives ignores (said_inner line h) (all_
 all_of : {B : Type 0} (gives : Attribute → Option B) → Ignores gives → (line : MediaLine) (h : IsLegibleLine line) → filter_map gives (attributes_of line h) ≡ all_found gives line.kind line h
 all_of gives ignores line h = all_here gives ignores (said_inner line h) (all_said (blocks_of line.kind line h))
 
-pub line_again : (line : MediaLine) (h : IsLegibleLine line) → line_of (media_head line) (part_said (attributes_of line h)) ≡ Some (line_as_read line)
-line_again line h =
+pub line_again : (line : MediaLine) (h : IsLegibleLine line) (formats : List ℕ) → payload_rows formats (all_found codec_of line.kind line h) (all_found parameters_of line.kind line h) ≡ line.payloads
+    → line_of (media_head line formats) (part_said (attributes_of line h)) ≡ Some (line_as_read line)
+line_again line h formats rows =
     let told : List Attribute = attributes_of line h in
-    let formats : List ℕ = formats_for line.kind (formats_of line.payloads) in
-    ap (option_map (line_named (media_head line) (part_said told))) (one_of said_mid ((λ m. refl), (refl, refl)) line h ∙ mid_found line.kind line h)
+    ap (option_map (line_named (media_head line formats) (part_said told))) (one_of said_mid ((λ m. refl), (refl, refl)) line h ∙ mid_found line.kind line h)
     ∙ ap (λ (x : MediaLine). Some x)
     (line_from line _ _ _ _ _ _ _ _ _ _ _ _ _
     (ap (value_or SendRecv) (one_of said_direction ((λ m. refl), (refl, refl)) line h) ∙ direction_found line.kind line h h.kind)
@@ -267,7 +267,7 @@ line_again line h =
     (ap (λ (u : Option (List ℕ)). creds_made u (first said_password told)) (one_of said_ufrag ((λ m. refl), (refl, refl)) line h) ∙ ap (creds_made (found said_ufrag line.kind line h)) (one_of said_password ((λ m. refl), (refl, refl)) line h) ∙ creds_found line.kind line h)
     (one_of said_fingerprint ((λ m. refl), (refl, refl)) line h ∙ fingerprint_found line.kind line h)
     (one_of said_setup ((λ m. refl), (refl, refl)) line h ∙ setup_found line.kind line h)
-    (ap (λ (l : List Rtpmap). payload_rows formats l (filter_map parameters_of told)) (all_of codec_of ((λ m. refl), (refl, refl)) line h) ∙ ap (payload_rows formats (all_found codec_of line.kind line h)) (all_of parameters_of ((λ m. refl), (refl, refl)) line h) ∙ payloads_found line.kind line h h.kind)
+    (ap (λ (l : List Rtpmap). payload_rows formats l (filter_map parameters_of told)) (all_of codec_of ((λ m. refl), (refl, refl)) line h) ∙ ap (payload_rows formats (all_found codec_of line.kind line h)) (all_of parameters_of ((λ m. refl), (refl, refl)) line h) ∙ rows)
     (all_of extension_of ((λ m. refl), (refl, refl)) line h ∙ extensions_found line.kind line h h.kind)
     (ap (λ (l : List RidLine). option_map (simulcast_value l) (first layer_list_of told)) (all_of layer_of ((λ m. refl), (refl, refl)) line h) ∙ ap (option_map (simulcast_value (all_found layer_of line.kind line h))) (one_of layer_list_of ((λ m. refl), (refl, refl)) line h) ∙ simulcast_found line.kind line h h.kind)
     (one_of said_stream ((λ m. refl), (refl, refl)) line h ∙ stream_found line.kind line h h.kind)

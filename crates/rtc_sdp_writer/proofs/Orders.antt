@@ -19,8 +19,7 @@ use Rattle.rtc_sdp_values.specs.declared.sdp.Sdp.{Sdp}
 use Rattle.rtc_sdp_grammar.specs.LineTexts.{origin_line, group_line}
 use Rattle.rtc_sdp_grammar.specs.MediaTexts.{semantic_line, layer_line, source_pair_line}
 use Rattle.rtc_sdp_writer.specs.Rows.{in_order}
-use Rattle.rtc_sdp_writer.specs.LineRows.{all_line_rows}
-use Rattle.rtc_sdp_writer.specs.SessionRows.{enabled_mids, new_name, names_behind, stream_names, lite_lines, session_groups, written_sdp}
+use Rattle.rtc_sdp_writer.specs.SessionRows.{enabled_mids, new_name, names_behind, stream_names, lite_lines, session_groups, session_rows}
 
 pub in_order-append : (xs ys : List (List (List ℕ))) → in_order (xs ++ ys) ≡ in_order xs ++ in_order ys
 in_order-append [] ys = refl
@@ -84,18 +83,18 @@ name_put out new total lines i line lt is e h =
     ∙ ap (λ (l : List MediaLine). out ++ spaced (names_behind front l)) (sym cons)
     ∙ h
 
-regroup : (head o fixed g mixed semantic lite p : List ℕ) →
-    ((((((head ++ (o ++ 13 ∷ 10 ∷ [])) ++ fixed) ++ (g ++ 13 ∷ 10 ∷ [])) ++ mixed) ++ (semantic ++ 13 ∷ 10 ∷ [])) ++ lite) ++ p ≡ head ++ ((o ++ 13 ∷ 10 ∷ []) ++ (fixed ++ ((g ++ 13 ∷ 10 ∷ []) ++ (mixed ++ ((semantic ++ 13 ∷ 10 ∷ []) ++ (lite ++ p))))))
-regroup head o fixed g mixed semantic lite p = simp append_assoc
+regroup : (out head o fixed g mixed semantic lite : List ℕ) →
+    ((((((out ++ head) ++ (o ++ 13 ∷ 10 ∷ [])) ++ fixed) ++ (g ++ 13 ∷ 10 ∷ [])) ++ mixed) ++ (semantic ++ 13 ∷ 10 ∷ [])) ++ lite ≡ out ++ (head ++ ((o ++ 13 ∷ 10 ∷ []) ++ (fixed ++ ((g ++ 13 ∷ 10 ∷ []) ++ (mixed ++ ((semantic ++ 13 ∷ 10 ∷ []) ++ lite))))))
+regroup out head o fixed g mixed semantic lite = simp append_assoc
 
-behind_lite : (lite : Bool) (p : List (List ℕ)) → text_of ((lite_lines lite ++ []) ++ p) ≡ text_of (lite_lines lite) ++ text_of p
-behind_lite true p = refl
-behind_lite false p = refl
+lite_last : (lite : Bool) → text_of (lite_lines lite ++ []) ≡ text_of (lite_lines lite)
+lite_last true = refl
+lite_last false = refl
 
--- the parts of a text that the writer puts are the text
-pub parts_are_written : (sdp : Sdp) →
-    ((((((codes "v=0\r\n" ++ crlf (origin_line sdp.id)) ++ codes "s=-\r\nt=0 0\r\n") ++ crlf (group_line (enabled_mids sdp.lines))) ++ codes "a=extmap-allow-mixed\r\n") ++ crlf (semantic_line (stream_names sdp.lines))) ++ text_of (lite_lines sdp.ice_lite)) ++ text_of (all_line_rows sdp.lines) ≡ written_sdp sdp
-unfolding written_sdp session_groups
-parts_are_written sdp =
-    regroup (codes "v=0\r\n") (origin_line sdp.id) (codes "s=-\r\nt=0 0\r\n") (group_line (enabled_mids sdp.lines)) (codes "a=extmap-allow-mixed\r\n") (semantic_line (stream_names sdp.lines)) (text_of (lite_lines sdp.ice_lite)) (text_of (all_line_rows sdp.lines))
-    ∙ ap (λ (t : List ℕ). codes "v=0\r\n" ++ (crlf (origin_line sdp.id) ++ (codes "s=-\r\nt=0 0\r\n" ++ (crlf (group_line (enabled_mids sdp.lines)) ++ (codes "a=extmap-allow-mixed\r\n" ++ (crlf (semantic_line (stream_names sdp.lines)) ++ t)))))) (sym (behind_lite sdp.ice_lite (all_line_rows sdp.lines)))
+-- the parts of the session part that the writer puts are the session part
+pub session_written : (out : List ℕ) (sdp : Sdp) →
+    ((((((out ++ codes "v=0\r\n") ++ crlf (origin_line sdp.id)) ++ codes "s=-\r\nt=0 0\r\n") ++ crlf (group_line (enabled_mids sdp.lines))) ++ codes "a=extmap-allow-mixed\r\n") ++ crlf (semantic_line (stream_names sdp.lines))) ++ text_of (lite_lines sdp.ice_lite) ≡ out ++ text_of (session_rows sdp)
+unfolding session_groups
+session_written out sdp =
+    regroup out (codes "v=0\r\n") (origin_line sdp.id) (codes "s=-\r\nt=0 0\r\n") (group_line (enabled_mids sdp.lines)) (codes "a=extmap-allow-mixed\r\n") (semantic_line (stream_names sdp.lines)) (text_of (lite_lines sdp.ice_lite))
+    ∙ ap (λ (t : List ℕ). out ++ (codes "v=0\r\n" ++ (crlf (origin_line sdp.id) ++ (codes "s=-\r\nt=0 0\r\n" ++ (crlf (group_line (enabled_mids sdp.lines)) ++ (codes "a=extmap-allow-mixed\r\n" ++ (crlf (semantic_line (stream_names sdp.lines)) ++ t))))))) (sym (lite_last sdp.ice_lite))

@@ -2,6 +2,7 @@ pub mod Rows
 pub mod MediaRows
 pub mod LineRows
 pub mod SessionRows
+pub mod Placeholders
 pub mod AsRead
 pub mod Plain
 pub mod StreamNames

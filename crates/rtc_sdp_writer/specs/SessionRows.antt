@@ -49,6 +49,10 @@ session_groups sdp =
     ∷ (lite_lines sdp.ice_lite
     ∷ [])))))
 
+-- the lines of the session part
+abbrev pub session_rows : Sdp → List (List ℕ)
+session_rows sdp = codes "v=0" ∷ (origin_line sdp.id ∷ in_order (session_groups sdp))
+
 -- the lines of a text
 abbrev pub sdp_rows : Sdp → List (List ℕ)
 sdp_rows sdp = codes "v=0" ∷ (origin_line sdp.id ∷ (in_order (session_groups sdp) ++ all_line_rows sdp.lines))

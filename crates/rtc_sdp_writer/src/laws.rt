@@ -4,18 +4,22 @@ ghost use Rattle.std.specs.List.{AllByRecursion};
 ghost use Rattle.rtc_sdp_values.specs.declared.sdp.Sdp.{Sdp};
 ghost use Rattle.rtc_sdp_reader.specs.Reading.{reading};
 ghost use Rattle.rtc_sdp_writer.specs.AsRead.{as_read};
+ghost use Rattle.rtc_sdp_writer.specs.Placeholders.{filled_sdp};
 ghost use Rattle.rtc_sdp_writer.specs.Plain.{IsLegible, IsPlain};
 ghost use Rattle.rtc_sdp_writer.specs.ReadLines.{IsReadLine};
 ghost use Rattle.rtc_sdp_writer.specs.SessionRows.{written_sdp};
 
-/// The text of a legible value reads as that value with the SSRCs that its lines give, also if SSRCs repeat.
+/// The text of a legible value reads as that value with the SSRCs that its lines give, also if SSRCs repeat. So does
+/// the text in which each m-line has a format.
 pub fn written_text_reads_again()
-    ensures { (sdp : Sdp) → IsLegible sdp → reading (written_sdp sdp) ≡ Ok (as_read sdp) }
+    ensures written { (sdp : Sdp) → IsLegible sdp → reading (written_sdp sdp) ≡ Ok (as_read sdp) }
+    ensures filled { (sdp : Sdp) → IsLegible sdp → reading (filled_sdp sdp) ≡ Ok (as_read sdp) }
 {}
 
-/// The text of a plain value reads as that value.
+/// The text of a plain value reads as that value, and so does the text in which each m-line has a format.
 pub fn written_text_reads_back()
     ensures back { (sdp : Sdp) → IsPlain sdp → reading (written_sdp sdp) ≡ Ok sdp }
+    ensures filled { (sdp : Sdp) → IsPlain sdp → reading (filled_sdp sdp) ≡ Ok sdp }
     ensures itself { (sdp : Sdp) → IsPlain sdp → as_read sdp ≡ sdp }
 {}
 

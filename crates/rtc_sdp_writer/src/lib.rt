@@ -2,6 +2,7 @@
 #![tactic(auto)]
 
 mod connection_text;
+mod filled_text;
 mod head_text;
 mod laws;
 mod layer_text;
@@ -13,4 +14,4 @@ mod session_text;
 mod source_text;
 
 pub use laws::{read_lines_are_plain, written_text_reads_again, written_text_reads_back};
-pub use session_text::write;
+pub use session_text::{write, write_filled};

@@ -27,7 +27,7 @@ fn put_setup_if_any(out: &mut String, setup: Option<Setup>) -> Result<(), AllocE
 }
 
 #[tactic(auto, using(rtc_wire_text::proofs::LineLemmas::appends), unfolding(crate::specs::LineRows::transport_groups))]
-fn put_transport(out: &mut String, line: &MediaLine) -> Result<(), AllocError>
+pub(crate) fn put_transport(out: &mut String, line: &MediaLine) -> Result<(), AllocError>
     ensures { OnOk result (string_bytes out.new ≡ string_bytes out.old ++ text_of (in_order (spec.transport_groups line.now))) }
 {
     out.push_str("c=IN IP4 0.0.0.0\r\n")?;
@@ -64,7 +64,7 @@ fn put_channel(out: &mut String, line: &MediaLine) -> Result<(), AllocError>
     Ok(())
 }
 
-fn put_kind(out: &mut String, line: &MediaLine) -> Result<(), AllocError>
+pub(crate) fn put_kind(out: &mut String, line: &MediaLine) -> Result<(), AllocError>
     ensures { OnOk result (string_bytes out.new ≡ string_bytes out.old ++ text_of (in_order (spec.kind_groups line.now.kind line.now))) }
 {
     match line.kind {

@@ -1,23 +1,12 @@
-use Rattle.std.proofs.Common.{◌∙◌}
-use Rattle.rtc_sdp_writer.proofs.Orders.{parts_are_written}
+use Rattle.std.proofs.Common.{◌∙◌, sym}
+use Rattle.rtc_wire_text.proofs.LineLemmas.{text_of-append}
+use Rattle.rtc_sdp_writer.specs.LineRows.{all_line_rows}
+use Rattle.rtc_sdp_writer.specs.SessionRows.{session_rows, written_sdp}
 use Rattle.rtc_sdp_writer.proofs.session_text.write.Goals as goal
 
 pub returns : goal.returns
+unfolding written_sdp
 returns c =
     c.new.ensures
-    ∙ rw (
-      c.in_ok-put_lines.ensures,
-      c.in_ok-put_lite_if_so.ensures,
-      c.in_ok-put_semantic.ensures,
-      c.in_ok-push_str-3.ensures.bytes,
-      c.in_ok-put_group.ensures,
-      c.in_ok-push_str-2.ensures.bytes,
-      c.in_ok-put_origin.ensures,
-      c.in_ok-push_str.ensures.bytes,
-      c.into_string-out.ensures,
-      c.empty_text.ensures,
-      c.as_slice.ensures,
-      c.as_slice-2.ensures,
-      c.as_slice-3.ensures,
-    )
-    (parts_are_written c.args.sdp.now)
+    ∙ rw (c.in_ok-put_lines.ensures, c.in_ok-put_session.ensures, c.into_string-out.ensures, c.empty_text.ensures, c.as_slice.ensures)
+    (sym (text_of-append (session_rows c.args.sdp.now) (all_line_rows c.args.sdp.now.lines)))
