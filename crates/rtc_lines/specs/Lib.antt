@@ -1,4 +1,5 @@
 pub mod SkippedLines
+pub mod Rejecting
 pub mod SdpReads
 pub use Rattle.rtc_sdp_reader.specs.Reading
 pub use Rattle.rtc_sdp_writer.specs.SessionRows

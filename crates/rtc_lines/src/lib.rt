@@ -2,6 +2,7 @@
 #![tactic(auto)]
 
 mod laws;
+mod rejecting;
 mod sdp_answer;
 mod sdp_offer;
 mod sdp_text;

@@ -4,10 +4,11 @@ ghost use Rattle.rtc_lines.specs.SdpReads.{ReadsAnswer};
 ghost use Rattle.rtc_sdp_reader.specs.Reading.{reading};
 ghost use Rattle.rtc_sdp_values.specs.Sdp.{inconsistency, refusal};
 ghost use Rattle.rtc_sdp_writer.specs.AsRead.{as_read};
+ghost use Rattle.rtc_sdp_writer.specs.Placeholders.{filled_sdp};
 ghost use Rattle.rtc_sdp_writer.specs.Plain.{IsLegible, IsPlain};
 ghost use Rattle.rtc_sdp_writer.specs.SessionRows.{written_sdp};
 
-use crate::sdp_text::sdp_text;
+use crate::sdp_text::{filled_text, sdp_text};
 use rtc_sdp_reader::read;
 use rtc_sdp_values::{Sdp, SdpError};
 use rtc_wire::{Text, TryCopy};
@@ -33,6 +34,16 @@ impl SdpAnswer {
         ensures read_back { IsPlain self.now.0 → IfOk result (λ text. reading text ≡ Ok self.now.0) }
     {
         sdp_text(&self.0)
+    }
+
+    /// The answer as text in which each m-line has a format, as RFC 8866, section 5.14, wants it: a line with port 0 and no
+    /// payload types has the format 0. Browsers refuse the text of `to_sdp_string` if it has such a line.
+    pub fn to_sdp_string_with_formats(&self) -> Result<Text, AllocError>
+        ensures text { IfOk result (λ text. text ≡ filled_sdp self.now.0) }
+        ensures read_again { IsLegible self.now.0 → IfOk result (λ text. reading text ≡ Ok (as_read self.now.0)) }
+        ensures read_back { IsPlain self.now.0 → IfOk result (λ text. reading text ≡ Ok self.now.0) }
+    {
+        filled_text(&self.0)
     }
 
     /// Whether the mids and the BUNDLE group of the answer fit together (RFC 8843, section 7.1). If there is no memory

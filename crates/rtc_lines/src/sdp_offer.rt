@@ -1,15 +1,18 @@
 //! Offers.
 ghost use Rattle.std.specs.Prelude.{◌≡◌, IfOk, Ok};
+ghost use Rattle.rtc_lines.specs.Rejecting.{mids_without_codec, offer_rejecting, sdp_of_rejecting};
 ghost use Rattle.rtc_lines.specs.SdpReads.{ReadsOffer};
 ghost use Rattle.rtc_sdp_reader.specs.Reading.{reading};
 ghost use Rattle.rtc_sdp_values.specs.Sdp.{inconsistency, refusal};
 ghost use Rattle.rtc_sdp_writer.specs.AsRead.{as_read};
+ghost use Rattle.rtc_sdp_writer.specs.Placeholders.{filled_sdp};
 ghost use Rattle.rtc_sdp_writer.specs.Plain.{IsLegible, IsPlain};
 ghost use Rattle.rtc_sdp_writer.specs.SessionRows.{written_sdp};
 
-use crate::sdp_text::sdp_text;
+use crate::rejecting::{mids_without_codec as find_mids, reject_lines};
+use crate::sdp_text::{filled_text, sdp_text};
 use rtc_sdp_reader::read;
-use rtc_sdp_values::{Sdp, SdpError};
+use rtc_sdp_values::{CodecConfig, Mid, Sdp, SdpError};
 use rtc_wire::{Text, TryCopy};
 use std::alloc::{AllocError, Global};
 
@@ -33,6 +36,39 @@ impl SdpOffer {
         ensures read_back { IsPlain self.now.0 → IfOk result (λ text. reading text ≡ Ok self.now.0) }
     {
         sdp_text(&self.0)
+    }
+
+    /// The offer as text in which each m-line has a format, as RFC 8866, section 5.14, wants it: a line with port 0 and no
+    /// payload types has the format 0. Browsers refuse the text of `to_sdp_string` if it has such a line.
+    pub fn to_sdp_string_with_formats(&self) -> Result<Text, AllocError>
+        ensures text { IfOk result (λ text. text ≡ filled_sdp self.now.0) }
+        ensures read_again { IsLegible self.now.0 → IfOk result (λ text. reading text ≡ Ok (as_read self.now.0)) }
+        ensures read_back { IsPlain self.now.0 → IfOk result (λ text. reading text ≡ Ok self.now.0) }
+    {
+        filled_text(&self.0)
+    }
+
+    /// The mids of the live media lines that share no codec with a configuration. Its answer would leave them without
+    /// a format, which other readers refuse: see `rejecting`.
+    pub fn lines_without_codec(
+        &self,
+        alloc: Global,
+        codecs: &CodecConfig,
+    ) -> Result<Vec<Mid>, AllocError>
+        ensures { IfOk result (λ mids. mids.items ≡ mids_without_codec codecs.now.rows self.now.0.lines) }
+    {
+        find_mids(alloc, codecs.rows.as_slice(), self.0.lines.as_slice())
+    }
+
+    /// The offer with the lines of these mids rejected: they have port 0 and are in no group (RFC 3264, section 6). None
+    /// if no live line would be left.
+    pub fn rejecting(&self, alloc: Global, mids: &[Mid]) -> Result<Option<SdpOffer>, AllocError>
+        ensures { IfOk result (λ offer. sdp_of_rejecting offer ≡ offer_rejecting mids.now self.now.0) }
+    {
+        match reject_lines(alloc, &self.0, mids)? {
+            Some(sdp) => Ok(Some(SdpOffer(sdp))),
+            None => Ok(None),
+        }
     }
 
     /// Whether the mids and the BUNDLE group of the offer fit together (RFC 8843, section 7.1). If there is no memory

@@ -1,0 +1,175 @@
+//! Offers of which lines are rejected before they are accepted.
+ghost use Rattle.std.specs.Prelude.{◌≡◌, IfOk, map, not};
+ghost use Rattle.rtc_lines.specs.Rejecting as spec;
+
+use rtc_sdp_codecs::match_rows;
+use rtc_sdp_values::{LineKind, MediaKind, MediaLine, Mid, PayloadRow, Sdp};
+use rtc_wire::{Seq, TryCopy};
+use std::alloc::{AllocError, Global};
+
+fn is_none(rows: &[PayloadRow]) -> bool
+    ensures { result ≡ spec.is_none rows.now }
+{
+    match rows {
+        [] => true,
+        [_, ..] => false,
+    }
+}
+
+fn shares_none(
+    alloc: Global,
+    kind: LineKind,
+    rows: &[PayloadRow],
+    remote: &[PayloadRow],
+) -> Result<bool, AllocError>
+    ensures { IfOk result (λ none. none ≡ spec.shares_none kind rows.now remote.now) }
+{
+    match kind {
+        LineKind::Audio => {
+            let shared = match_rows(alloc, MediaKind::Audio, rows, remote)?;
+            Ok(is_none(shared.as_slice()))
+        }
+        LineKind::Video => {
+            let shared = match_rows(alloc, MediaKind::Video, rows, remote)?;
+            Ok(is_none(shared.as_slice()))
+        }
+        LineKind::Application => Ok(false),
+        LineKind::Unknown => Ok(false),
+    }
+}
+
+fn lacks_codec(alloc: Global, rows: &[PayloadRow], line: &MediaLine) -> Result<bool, AllocError>
+    ensures { IfOk result (λ lacks. lacks ≡ spec.lacks_codec rows.now line.now) }
+{
+    if line.disabled {
+        return Ok(false);
+    }
+    shares_none(alloc, line.kind, rows, line.payloads.as_slice())
+}
+
+/// The mids of the live media lines that share no codec with a configuration.
+pub(crate) fn mids_without_codec(
+    alloc: Global,
+    rows: &[PayloadRow],
+    lines: &[MediaLine],
+) -> Result<Vec<Mid>, AllocError>
+    ensures { IfOk result (λ mids. mids.items ≡ spec.mids_without_codec rows.now lines.now) }
+{
+    let mut mids = Vec::new(alloc);
+    for line in lines {
+        if lacks_codec(alloc, rows, line)? {
+            mids.push(line.mid)?;
+        }
+    }
+    Ok(mids)
+}
+
+fn is_listed(mids: &[Mid], mid: Mid) -> bool
+    ensures { result ≡ spec.is_listed mids.now mid }
+{
+    for other in mids {
+        if *other == mid {
+            return true;
+        }
+    }
+    false
+}
+
+fn has_live(lines: &[MediaLine]) -> bool
+    ensures { result ≡ spec.has_live lines.now }
+{
+    for line in lines {
+        if !line.disabled {
+            return true;
+        }
+    }
+    false
+}
+
+fn reject_line(line: &MediaLine) -> Result<MediaLine, AllocError>
+    ensures { IfOk result (λ made. made ≡ spec.rejected_line line.now) }
+{
+    let mut made = line.copy()?;
+    made.disabled = true;
+    made.msid = None;
+    made.cname = None;
+    made.ssrcs.clear();
+    Ok(made)
+}
+
+fn copy_line(mids: &[Mid], line: &MediaLine) -> Result<MediaLine, AllocError>
+    ensures { IfOk result (λ made. made ≡ spec.line_rejecting mids.now line.now) }
+{
+    if is_listed(mids, line.mid) {
+        return reject_line(line);
+    }
+    line.copy()
+}
+
+fn copy_lines(
+    alloc: Global,
+    mids: &[Mid],
+    lines: &[MediaLine],
+) -> Result<Seq<MediaLine>, AllocError>
+    ensures { IfOk result (λ made. made ≡ map (spec.line_rejecting mids.now) lines.now) }
+{
+    let mut made = Seq::empty(alloc);
+    for line in lines {
+        let copied = copy_line(mids, line)?;
+        made.push(copied)?;
+    }
+    Ok(made)
+}
+
+fn copy_group(alloc: Global, mids: &[Mid], group: &[Mid]) -> Result<Seq<Mid>, AllocError>
+    ensures { IfOk result (λ made. made ≡ spec.group_rejecting mids.now group.now) }
+{
+    let mut made = Seq::empty(alloc);
+    for mid in group {
+        if !is_listed(mids, *mid) {
+            made.push(*mid)?;
+        }
+    }
+    Ok(made)
+}
+
+fn copy_groups(
+    alloc: Global,
+    mids: &[Mid],
+    groups: &[Seq<Mid>],
+) -> Result<Seq<Seq<Mid>>, AllocError>
+    ensures { IfOk result (λ made. made ≡ map (spec.group_rejecting mids.now) groups.now) }
+{
+    let mut made = Seq::empty(alloc);
+    for group in groups {
+        let copied = copy_group(alloc, mids, group.as_slice())?;
+        made.push(copied)?;
+    }
+    Ok(made)
+}
+
+/// The offer in which these lines are rejected. None if no live line is left.
+pub(crate) fn reject_lines(
+    alloc: Global,
+    sdp: &Sdp,
+    mids: &[Mid],
+) -> Result<Option<Sdp>, AllocError>
+    ensures { IfOk result (λ made. made ≡ spec.offer_rejecting mids.now sdp.now) }
+{
+    let lines = copy_lines(alloc, mids, sdp.lines.as_slice())?;
+    if !has_live(lines.as_slice()) {
+        return Ok(None);
+    }
+    let groups = copy_groups(alloc, mids, sdp.groups.as_slice())?;
+    let creds = sdp.creds.copy()?;
+    let fingerprint = sdp.fingerprint.copy()?;
+    Ok(Some(Sdp {
+        id: sdp.id,
+        groups,
+        ice_lite: sdp.ice_lite,
+        creds,
+        fingerprint,
+        setup: sdp.setup,
+        lines,
+    }))
+}
