@@ -1,12 +1,14 @@
 -- The m-lines that are written for line parts, with the formats that are read of them.
-use Rattle.std.proofs.Common.{◌≡◌, ℕ, Bool, true, false, List, [], ◌∷◌, ◌++◌, refl, sym, ap, subst, arith}
+use Rattle.std.proofs.Common.{◌≡◌, ℕ, Bool, true, false, List, [], ◌∷◌, ◌++◌, refl, sym, ap, subst, rules}
 use Rattle.std.specs.List.{AllByRecursion}
+use Rattle.rtc_wire_text.specs.Numbers.{number}
 use Rattle.rtc_sdp_attributes.specs.declared.fmtp.Fmtp.{Fmtp}
 use Rattle.rtc_sdp_attributes.specs.declared.rtpmap.Rtpmap.{Rtpmap}
 use Rattle.rtc_sdp_values.specs.declared.line_kind.LineKind.{LineKind}
 use Rattle.rtc_sdp_values.specs.declared.line_kind.LineKind.TheVariants.{Audio, Video, Application, Unknown}
 use Rattle.rtc_sdp_values.specs.declared.media_line.MediaLine.{MediaLine}
 use Rattle.rtc_sdp_values.specs.declared.payload_row.PayloadRow.{PayloadRow}
+use Rattle.rtc_sdp_grammar.specs.ItemForm.{item_of}
 use Rattle.rtc_sdp_grammar.specs.LineTexts.{media_line}
 use Rattle.rtc_sdp_grammar.proofs.LineLaws.{IsLineOf, media_line_is, head_of, formats_of as formats_for}
 use Rattle.rtc_sdp_reader.specs.Payloads.{payload_rows}
@@ -30,7 +32,7 @@ rows_by heads [] = []
 rows_by heads (line ∷ rest) = (heads.written line ∷ inner_rows line) ++ rows_by heads rest
 
 -- ---- the formats of the rows
-pub own_heads : Heads
+abbrev pub own_heads : Heads
 own_heads = record {
   written = λ line. media_line line.kind line.disabled (formats_of line.payloads);
   formats = λ line. formats_of line.payloads;
@@ -44,16 +46,28 @@ own_rows [] = refl
 own_rows (line ∷ rest) = ap (λ (l : List (List ℕ)). line_rows line ++ l) (own_rows rest)
 
 -- ---- a format where there is no row
-abbrev filled_formats : (disabled : Bool) → List PayloadRow → List ℕ
+abbrev pub filled_formats : (disabled : Bool) → List PayloadRow → List ℕ
 filled_formats true [] = 0 ∷ []
 filled_formats disabled rows = formats_of rows
 
-filled_line_is : (kind : LineKind) (line : MediaLine) (disabled : Bool) (rows : List PayloadRow) → SuitsKind kind line → AllByRecursion IsPlainRow rows → AreApart rows
+rejected_audio_is : IsLineOf (rejected_line Audio) (head_of Audio true (0 ∷ []))
+unfolding item_of number
+rejected_audio_is = record { again = refl; one = search rules }
+
+rejected_video_is : IsLineOf (rejected_line Video) (head_of Video true (0 ∷ []))
+unfolding item_of number
+rejected_video_is = record { again = refl; one = search rules }
+
+rejected_channels_is : IsLineOf (rejected_line Application) (head_of Application true (0 ∷ []))
+unfolding item_of number
+rejected_channels_is = record { again = refl; one = search rules }
+
+pub filled_line_is : (kind : LineKind) (line : MediaLine) (disabled : Bool) (rows : List PayloadRow) → SuitsKind kind line → AllByRecursion IsPlainRow rows → AreApart rows
     → IsLineOf (filled_media_line kind disabled rows) (head_of kind disabled (filled_formats disabled rows))
 filled_line_is Unknown line disabled rows k h apart = absurd k
-filled_line_is Audio line true [] k h apart = media_line_is Audio true (0 ∷ []) (omega arith, tt) (tt, tt)
-filled_line_is Video line true [] k h apart = media_line_is Video true (0 ∷ []) (omega arith, tt) (tt, tt)
-filled_line_is Application line true [] k h apart = media_line_is Application true (0 ∷ []) (omega arith, tt) (tt, tt)
+filled_line_is Audio line true [] k h apart = rejected_audio_is
+filled_line_is Video line true [] k h apart = rejected_video_is
+filled_line_is Application line true [] k h apart = rejected_channels_is
 filled_line_is kind line true (row ∷ rows) k h apart = media_line_is kind true (formats_of (row ∷ rows)) (formats_small (row ∷ rows) h) apart
 filled_line_is kind line false rows k h apart = media_line_is kind false (formats_of rows) (formats_small rows h) apart
 
@@ -62,7 +76,7 @@ no_row : (fmtps : List Fmtp) → payload_rows (0 ∷ []) [] fmtps ≡ []
 unfolding payload_rows
 no_row fmtps = refl
 
-filled_table : (kind : LineKind) (disabled : Bool) (rows : List PayloadRow) (codecs : List Rtpmap) (fmtps : List Fmtp) → codecs ≡ codecs_of rows
+pub filled_table : (kind : LineKind) (disabled : Bool) (rows : List PayloadRow) (codecs : List Rtpmap) (fmtps : List Fmtp) → codecs ≡ codecs_of rows
     → payload_rows (formats_for kind (formats_of rows)) codecs fmtps ≡ rows → payload_rows (formats_for kind (filled_formats disabled rows)) codecs fmtps ≡ rows
 filled_table Audio true [] codecs fmtps e h = subst (λ (c : List Rtpmap). payload_rows (0 ∷ []) c fmtps ≡ []) (sym e) (no_row fmtps)
 filled_table Video true [] codecs fmtps e h = subst (λ (c : List Rtpmap). payload_rows (0 ∷ []) c fmtps ≡ []) (sym e) (no_row fmtps)
@@ -71,7 +85,7 @@ filled_table Unknown true [] codecs fmtps e h = h
 filled_table kind true (row ∷ rows) codecs fmtps e h = h
 filled_table kind false rows codecs fmtps e h = h
 
-pub filled_heads : Heads
+abbrev pub filled_heads : Heads
 filled_heads = record {
   written = λ line. filled_media_line line.kind line.disabled line.payloads;
   formats = λ line. filled_formats line.disabled line.payloads;

@@ -3,7 +3,7 @@
 use Rattle.std.specs.Prelude.{ℕ, Bool, true, List, [], ◌∷◌, ◌++◌, codes}
 use Rattle.rtc_wire_text.specs.Lines.{text_of}
 use Rattle.rtc_sdp_values.specs.declared.line_kind.LineKind.{LineKind}
-use Rattle.rtc_sdp_values.specs.declared.line_kind.LineKind.TheVariants.{Unknown}
+use Rattle.rtc_sdp_values.specs.declared.line_kind.LineKind.TheVariants.{Audio, Video, Application, Unknown}
 use Rattle.rtc_sdp_values.specs.declared.media_line.MediaLine.{MediaLine}
 use Rattle.rtc_sdp_values.specs.declared.payload_row.PayloadRow.{PayloadRow}
 use Rattle.rtc_sdp_values.specs.declared.sdp.Sdp.{Sdp}
@@ -15,8 +15,10 @@ use Rattle.rtc_sdp_writer.specs.SessionRows.{session_groups}
 
 -- the m-line of a rejected line without payload rows; that of the data channels has its format anyway
 abbrev pub rejected_line : LineKind → List ℕ
+rejected_line Audio = codes "m=audio 0 UDP/TLS/RTP/SAVPF 0"
+rejected_line Video = codes "m=video 0 UDP/TLS/RTP/SAVPF 0"
+rejected_line Application = codes "m=application 0 UDP/DTLS/SCTP webrtc-datachannel"
 rejected_line Unknown = codes "m=unknown 0 UDP 0"
-rejected_line kind = media_line kind true (0 ∷ [])
 
 abbrev pub filled_media_line : LineKind → (disabled : Bool) → List PayloadRow → List ℕ
 filled_media_line kind true [] = rejected_line kind

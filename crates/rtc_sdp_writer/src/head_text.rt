@@ -1,5 +1,5 @@
 //! The `m=` line, put behind a text.
-ghost use Rattle.std.specs.Prelude.{◌≡◌, ◌++◌, OnOk, string_bytes, map, ◌∷◌};
+ghost use Rattle.std.specs.Prelude.{◌≡◌, ◌++◌, OnOk, string_bytes, map, [], ◌∷◌};
 ghost use Rattle.std.specs.Fmt.{decimal};
 ghost use Rattle.rtc_wire_text.specs.Lines.{crlf};
 ghost use Rattle.rtc_wire_text.specs.Words.{spaced};
