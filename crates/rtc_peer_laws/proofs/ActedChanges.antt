@@ -65,7 +65,7 @@ module _ {I D S M E X T W N : Type 0} (m : Meanings I D S M E X T W N) where
       (media_none m.media p.core.media q.core.media media)
 
   -- another core whose parts are these
-  core_called : (p : PolledPeer I D S M N) (n c : Peer I D S M N) → c ≡ n → n.ice ≡ p.core.ice → n.dtls ≡ p.core.dtls
+  pub core_called : (p : PolledPeer I D S M N) (n c : Peer I D S M N) → c ≡ n → n.ice ≡ p.core.ice → n.dtls ≡ p.core.dtls
       → n.sctp ≡ p.core.sctp → n.media ≡ p.core.media → CallActs m [] p (with_core c p)
   core_called p n c is ice dtls sctp media =
       same_called p (with_core c p) (ap (λ (x : Peer I D S M N). x.ice) is ∙ ice) (ap (λ (x : Peer I D S M N). x.dtls) is ∙ dtls)

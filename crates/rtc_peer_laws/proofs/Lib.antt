@@ -56,8 +56,10 @@ mod HandshakeSteps
 pub mod HandshakeRoles
 pub mod RowLemmas
 pub mod ClosedPeers
+pub mod ClosedCalls
 pub mod ActedChanges
 pub mod ActedDirectCalls
+pub mod RelayingCalls
 pub mod UnsetThresholds
 pub mod PassFalls
 pub mod PollsUnset

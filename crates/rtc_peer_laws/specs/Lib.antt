@@ -10,3 +10,4 @@ pub mod ShownData
 pub mod Exchanging
 pub mod MediaRows
 pub mod Weight
+pub mod PeerCalls

@@ -61,8 +61,8 @@ pub fn acceptances_act<I: IceAgent, D: DtlsInstance, S: Association, M: MediaSes
         → NegotiationActs (meanings I.ice D.dtls S.association M.media N.ids) p (with_core core p) }
 {}
 
-/// A candidate that is added, of this side or of the other one, is one act of the agent: it is given no message and no moment, and
-/// the other parts are as they were.
+/// So is each candidate that is added, of this side or of the other one. The agent is given no message and no moment,
+/// and the other parts are as they were.
 pub fn candidates_act<I: IceAgent, D: DtlsInstance, S: Association, M: MediaSession, N: Ids>()
     ensures own { (p : Polled I D S M N) (ice : I) (candidate : Reachable) (answer : _)
         → I.ice.local_added p.core.ice candidate answer ice

@@ -1,17 +1,12 @@
-//! What staging and applying changes does to the parts of a peer, and how negotiation passes packets on.
+//! What staging and applying changes does to the parts of a peer.
 ghost use Rattle.std.specs.Prelude.{ℕ, Bool, List, []};
 ghost use Rattle.rtc_wire.specs.declared.channel_config.ChannelConfig.{ChannelConfig};
 ghost use Rattle.rtc_sdp_values.specs.declared.direction.Direction.{Direction as Way};
-ghost use Rattle.rtc_sdp_values.specs.declared.sdp.Sdp.{Sdp as Description};
-ghost use Rattle.rtc_change.specs.PendingOffer.{PendingOffer};
 ghost use Rattle.rtc_peer_core.specs.declared.peer.Peer.{Peer};
-ghost use Rattle.rtc_peer_core.specs.Acceptances.{AcceptsAnswer, AcceptsOffer};
 ghost use Rattle.rtc_peer_core.specs.Calls.{AddsChannel, AddsMedia, Applies, SetsDirection, StagesRestart, StopsMedia, Wanted};
 ghost use Rattle.rtc_peer_core.specs.Meanings.{meanings};
-ghost use Rattle.rtc_peer_core.specs.RollingBack.{RollsBack};
 ghost use Rattle.rtc_peer_transport.specs.declared.polled_peer.PolledPeer.{PolledPeer as Polled};
 ghost use Rattle.rtc_peer_laws.specs.Acts.{CallActs, with_core};
-ghost use Rattle.rtc_peer_laws.specs.Relay.{Relays};
 
 use rtc_part_association::Association;
 use rtc_part_dtls::DtlsInstance;
@@ -19,8 +14,9 @@ use rtc_part_ice::IceAgent;
 use rtc_part_media::MediaSession;
 use rtc_part_values::Ids;
 
-/// What is staged moves no part. What is applied is at most one act of the agent: this side takes control, or leaves
-/// it. Nothing is received from outside, and no moment is passed on.
+/// Staging and applying are lists of acts of each part. Nothing is received from outside, no message is written or read,
+/// and the agent, the DTLS part and the media part are given no moment. By the calls' own relations, staging leaves the
+/// parts as they were, and applying may set which side is controlling (`AddsMedia`, `Applies`).
 pub fn changes_act<I: IceAgent, D: DtlsInstance, S: Association, M: MediaSession, N: Ids>()
     ensures channels { (p : Polled I D S M N) (core : Peer I D S M N) (config : ChannelConfig) (answer : _)
         → AddsChannel (meanings I.ice D.dtls S.association M.media N.ids) p.core config answer core
@@ -39,22 +35,4 @@ pub fn changes_act<I: IceAgent, D: DtlsInstance, S: Association, M: MediaSession
     ensures applies { (p : Polled I D S M N) (core : Peer I D S M N) (answer : _)
         → Applies (meanings I.ice D.dtls S.association M.media N.ids) p.core answer core
         → CallActs (meanings I.ice D.dtls S.association M.media N.ids) [] p (with_core core p) }
-{}
-
-/// Negotiation passes on what a peer passes on in each other call. The association is given nothing that was not
-/// received over the DTLS connection, and nothing is sent over it that was not taken from the association (RFC 8261,
-/// section 5).
-pub fn negotiation_relays<I: IceAgent, D: DtlsInstance, S: Association, M: MediaSession, N: Ids>()
-    ensures offers { (p : Polled I D S M N) (core : Peer I D S M N) (offer : Description) (answer : _)
-        → AcceptsOffer (meanings I.ice D.dtls S.association M.media N.ids) p.core offer answer core
-        → Relays (meanings I.ice D.dtls S.association M.media N.ids) p (with_core core p) }
-    ensures answers { (p : Polled I D S M N) (core : Peer I D S M N) (token : PendingOffer) (description : Description) (answer : _)
-        → AcceptsAnswer (meanings I.ice D.dtls S.association M.media N.ids) p.core token description answer core
-        → Relays (meanings I.ice D.dtls S.association M.media N.ids) p (with_core core p) }
-    ensures applies { (p : Polled I D S M N) (core : Peer I D S M N) (answer : _)
-        → Applies (meanings I.ice D.dtls S.association M.media N.ids) p.core answer core
-        → Relays (meanings I.ice D.dtls S.association M.media N.ids) p (with_core core p) }
-    ensures rollbacks { (p : Polled I D S M N) (core : Peer I D S M N) (token : PendingOffer) (answer : _)
-        → RollsBack p.core token answer core
-        → Relays (meanings I.ice D.dtls S.association M.media N.ids) p (with_core core p) }
 {}

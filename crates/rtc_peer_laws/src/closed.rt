@@ -1,21 +1,10 @@
 //! That a closed peer stays closed.
-ghost use Rattle.std.specs.Prelude.{◌≡◌, ℕ, Bool, List};
-ghost use Rattle.rtc_wire.specs.declared.channel_config.ChannelConfig.{ChannelConfig};
-ghost use Rattle.rtc_sdp_values.specs.declared.direction.Direction.{Direction as Way};
-ghost use Rattle.rtc_sdp_values.specs.declared.sdp.Sdp.{Sdp as Description};
-ghost use Rattle.rtc_change.specs.PendingOffer.{PendingOffer};
-ghost use Rattle.rtc_peer_core.specs.declared.peer.Peer.{Peer};
+ghost use Rattle.std.specs.Prelude.{◌≡◌, List};
 ghost use Rattle.rtc_peer_core.specs.declared.phase.Phase.TheVariants.{Closed};
-ghost use Rattle.rtc_peer_core.specs.Acceptances.{AcceptsAnswer, AcceptsOffer};
-ghost use Rattle.rtc_peer_core.specs.Calls.{AddsChannel, AddsMedia, Applies, SetsDirection, StagesRestart, StopsMedia, Wanted};
 ghost use Rattle.rtc_peer_core.specs.Meanings.{meanings};
-ghost use Rattle.rtc_peer_core.specs.RollingBack.{RollsBack};
-ghost use Rattle.rtc_peer_transport.specs.declared.input.Input.{Input as Given};
 ghost use Rattle.rtc_peer_transport.specs.declared.polled_peer.PolledPeer.{PolledPeer as Polled};
-ghost use Rattle.rtc_peer_transport.specs.ChannelCalls.{ClosesDataChannel, SetsChannelThreshold, WritesChannel};
-ghost use Rattle.rtc_peer_transport.specs.Closing.{ClosesPeer};
-ghost use Rattle.rtc_peer_polling.specs.Inputs.{HandlesInput};
-ghost use Rattle.rtc_peer_polling.specs.Walk.{PollsPeer};
+ghost use Rattle.rtc_peer_laws.specs.PeerCalls.{CalledInTurn, ChannelCalled, DirectlyCalled, LoanCalled, MediaCalled, NegotiationCalled};
+ghost use Rattle.rtc_peer_laws.specs.PeerCalls.{PeerCalled, TransportCalled};
 
 use rtc_part_association::Association;
 use rtc_part_dtls::DtlsInstance;
@@ -23,7 +12,9 @@ use rtc_part_ice::IceAgent;
 use rtc_part_media::MediaSession;
 use rtc_part_values::Ids;
 
-/// A closed peer is closed behind each poll, input and close, and behind each call on a data channel.
+/// No public call makes a closed peer alive, and no number of them one after the other: it is closed behind each poll,
+/// input and close, each call on a data channel, all that negotiates, candidates that are added, each call without
+/// session descriptions, and each stream or writer that is lent, whatever is written there.
 pub fn closed_peers_stay_closed<
     I: IceAgent,
     D: DtlsInstance,
@@ -31,55 +22,22 @@ pub fn closed_peers_stay_closed<
     M: MediaSession,
     N: Ids,
 >()
-    ensures polls { (p q : Polled I D S M N) (answer : _)
-        → PollsPeer (meanings I.ice D.dtls S.association M.media N.ids) p answer q
+    ensures transport { (p q : Polled I D S M N) → TransportCalled (meanings I.ice D.dtls S.association M.media N.ids) p q
         → p.core.phase ≡ Closed → q.core.phase ≡ Closed }
-    ensures inputs { (p q : Polled I D S M N) (input : Given) (answer : _)
-        → HandlesInput (meanings I.ice D.dtls S.association M.media N.ids) input p answer q
+    ensures channels { (p q : Polled I D S M N) → ChannelCalled (meanings I.ice D.dtls S.association M.media N.ids) p q
         → p.core.phase ≡ Closed → q.core.phase ≡ Closed }
-    ensures closes { (p q : Polled I D S M N) (answer : _)
-        → ClosesPeer (meanings I.ice D.dtls S.association M.media N.ids) p answer q
+    ensures negotiation { (p q : Polled I D S M N)
+        → NegotiationCalled (meanings I.ice D.dtls S.association M.media N.ids) p.core q.core
         → p.core.phase ≡ Closed → q.core.phase ≡ Closed }
-    ensures writes { (p q : Polled I D S M N) (stream : ℕ) (binary : Bool) (bytes : List ℕ) (answer : _)
-        → WritesChannel (meanings I.ice D.dtls S.association M.media N.ids) stream binary bytes p answer q
+    ensures direct { (p q : Polled I D S M N) → DirectlyCalled (meanings I.ice D.dtls S.association M.media N.ids) p q
         → p.core.phase ≡ Closed → q.core.phase ≡ Closed }
-    ensures thresholds { (p q : Polled I D S M N) (stream n : ℕ) → SetsChannelThreshold stream n p q
+    ensures media { (p q : Polled I D S M N) → MediaCalled (meanings I.ice D.dtls S.association M.media N.ids) p q
         → p.core.phase ≡ Closed → q.core.phase ≡ Closed }
-    ensures channel_closes { (p q : Polled I D S M N) (id : ℕ) (answer : _)
-        → ClosesDataChannel (meanings I.ice D.dtls S.association M.media N.ids) id p answer q
+    ensures loans { (p q : Polled I D S M N) → LoanCalled (meanings I.ice D.dtls S.association M.media N.ids) p q
         → p.core.phase ≡ Closed → q.core.phase ≡ Closed }
-{}
-
-/// So it is after each offer and each answer, after what is staged and applied, and after an offer that is rolled back.
-pub fn negotiation_leaves_peers_closed<
-    I: IceAgent,
-    D: DtlsInstance,
-    S: Association,
-    M: MediaSession,
-    N: Ids,
->()
-    ensures offers { (p : Polled I D S M N) (core : Peer I D S M N) (offer : Description) (answer : _)
-        → AcceptsOffer (meanings I.ice D.dtls S.association M.media N.ids) p.core offer answer core
-        → p.core.phase ≡ Closed → core.phase ≡ Closed }
-    ensures answers { (p : Polled I D S M N) (core : Peer I D S M N) (token : PendingOffer) (description : Description) (answer : _)
-        → AcceptsAnswer (meanings I.ice D.dtls S.association M.media N.ids) p.core token description answer core
-        → p.core.phase ≡ Closed → core.phase ≡ Closed }
-    ensures channels { (p : Polled I D S M N) (core : Peer I D S M N) (config : ChannelConfig) (answer : _)
-        → AddsChannel (meanings I.ice D.dtls S.association M.media N.ids) p.core config answer core
-        → p.core.phase ≡ Closed → core.phase ≡ Closed }
-    ensures applies { (p : Polled I D S M N) (core : Peer I D S M N) (answer : _)
-        → Applies (meanings I.ice D.dtls S.association M.media N.ids) p.core answer core
-        → p.core.phase ≡ Closed → core.phase ≡ Closed }
-    ensures lines { (p q : Peer I D S M N) (wanted : Wanted) (answer : _)
-        → AddsMedia (meanings I.ice D.dtls S.association M.media N.ids) p wanted answer q
-        → p.phase ≡ Closed → q.phase ≡ Closed }
-    ensures directions { (p q : Peer I D S M N) (mid : List ℕ) (dir : Way) (answer : _) → SetsDirection p mid dir answer q
-        → p.phase ≡ Closed → q.phase ≡ Closed }
-    ensures stops { (p q : Peer I D S M N) (mid : List ℕ) (answer : _) → StopsMedia p mid answer q
-        → p.phase ≡ Closed → q.phase ≡ Closed }
-    ensures restarts { (p q : Peer I D S M N) (keeps : Bool) (answer : _)
-        → StagesRestart (meanings I.ice D.dtls S.association M.media N.ids) p keeps answer q
-        → p.phase ≡ Closed → q.phase ≡ Closed }
-    ensures rollbacks { (p : Polled I D S M N) (core : Peer I D S M N) (token : PendingOffer) (answer : _)
-        → RollsBack p.core token answer core → p.core.phase ≡ Closed → core.phase ≡ Closed }
+    ensures calls { (p q : Polled I D S M N) → PeerCalled (meanings I.ice D.dtls S.association M.media N.ids) p q
+        → p.core.phase ≡ Closed → q.core.phase ≡ Closed }
+    ensures in_turn { (p q : Polled I D S M N) (between : List (Polled I D S M N))
+        → CalledInTurn (meanings I.ice D.dtls S.association M.media N.ids) p between q
+        → p.core.phase ≡ Closed → q.core.phase ≡ Closed }
 {}

@@ -24,9 +24,9 @@ use rtc_part_ice::IceAgent;
 use rtc_part_media::MediaSession;
 use rtc_part_values::Ids;
 
-/// A call on the agent is one act of it. A role is taken as by a session description: no packet is received from
-/// outside, and no moment is passed on but the greatest that was taken. An association that is started, and a channel
-/// that is made, give no packet.
+/// Each call is a list of acts of each part. No packet is received from outside, no message is written or read, and the
+/// agent and the media part are given no moment. If a DTLS role is taken, the DTLS part may be given the greatest
+/// moment that was taken, as by a session description.
 pub fn direct_calls_act<I: IceAgent, D: DtlsInstance, S: Association, M: MediaSession, N: Ids>()
     ensures controlling { (p q : Polled I D S M N) (on : Bool) → SetsControlling I.ice on p q
         → CallActs (meanings I.ice D.dtls S.association M.media N.ids) [] p q }
@@ -50,7 +50,7 @@ pub fn direct_calls_act<I: IceAgent, D: DtlsInstance, S: Association, M: MediaSe
         → CallActs (meanings I.ice D.dtls S.association M.media N.ids) [] p q }
 {}
 
-/// Lines, SSRCs and feedback: nothing is received from outside, and the media part is given each call.
+/// So is each call on lines, SSRCs and feedback. Nothing is received from outside.
 pub fn direct_media_acts<I: IceAgent, D: DtlsInstance, S: Association, M: MediaSession, N: Ids>()
     ensures declares { (p q : Polled I D S M N) (mid : List ℕ) (kind : MediaKind) (answer : _) → DeclaresMedia mid kind p answer q
         → CallActs (meanings I.ice D.dtls S.association M.media N.ids) [] p q }
@@ -73,7 +73,7 @@ pub fn direct_media_acts<I: IceAgent, D: DtlsInstance, S: Association, M: MediaS
         → CallActs (meanings I.ice D.dtls S.association M.media N.ids) [] p q }
 {}
 
-/// A stream or a writer that is lent is one act of the media part, whatever is written to it.
+/// So is each stream or writer that is lent, whatever is written to it. Nothing is received from outside.
 pub fn loans_act<I: IceAgent, D: DtlsInstance, S: Association, M: MediaSession, N: Ids>()
     ensures rx_expected { (p q : Polled I D S M N) (ssrc : Ssrc) (rtx : Option Ssrc) (mid : List ℕ) (rid : Option (List ℕ)) (lent left : _)
         → ExpectsRx M.media ssrc rtx mid rid p lent left q

@@ -17,8 +17,8 @@ mod shown;
 mod weight;
 
 pub use acts::{acceptances_act, calls_act, candidates_act};
-pub use changes::{changes_act, negotiation_relays};
-pub use closed::{closed_peers_stay_closed, negotiation_leaves_peers_closed};
+pub use changes::changes_act;
+pub use closed::closed_peers_stay_closed;
 pub use direct::{direct_calls_act, direct_media_acts, loans_act};
 pub use drained::{drained_peers_have_heard, drained_peers_rest, wakes_are_not_past};
 pub use exchanging::exchanges_keep_peers_joined;

@@ -1,26 +1,9 @@
-use Rattle.std.proofs.Common.{[]}
 use Rattle.rtc_peer_core.specs.Meanings.{meanings}
-use Rattle.rtc_peer_laws.specs.PeerActs.{nothing_came}
-use Rattle.rtc_peer_laws.proofs.ActedClosing.{close_acts}
-use Rattle.rtc_peer_laws.proofs.ActedInputs.{channel_close_acts, input_acts, write_acts, threshold_acts}
-use Rattle.rtc_peer_laws.proofs.ActedPolls.{poll_acts}
-use Rattle.rtc_peer_laws.proofs.RelayedCalls.{did_relay}
+use Rattle.rtc_peer_laws.proofs.RelayingCalls.{call_relays, turns_relay}
 use Rattle.rtc_peer_laws.proofs.laws.calls_relay.Goals as goal
 
-pub returns-clause-polls : goal.returns-clause-polls
-returns-clause-polls g c = λ p q answer h. did_relay (meanings g.I.IceAgent.ice g.D.DtlsInstance.dtls g.S.Association.association g.M.MediaSession.media g.N.Ids.ids) _ _ _ _ _ p q (poll_acts (meanings g.I.IceAgent.ice g.D.DtlsInstance.dtls g.S.Association.association g.M.MediaSession.media g.N.Ids.ids) (record { ice = g.met.I.IceAgent.laws; dtls = g.met.D.DtlsInstance.laws; association = g.met.S.Association.laws; media = g.met.M.MediaSession.laws }) p answer q h).did
+pub returns-clause-calls : goal.returns-clause-calls
+returns-clause-calls g c = λ p q h. call_relays (meanings g.I.IceAgent.ice g.D.DtlsInstance.dtls g.S.Association.association g.M.MediaSession.media g.N.Ids.ids) (record { ice = g.met.I.IceAgent.laws; dtls = g.met.D.DtlsInstance.laws; association = g.met.S.Association.laws; media = g.met.M.MediaSession.laws }) p q h
 
-pub returns-clause-inputs : goal.returns-clause-inputs
-returns-clause-inputs g c = λ p q input answer h. did_relay (meanings g.I.IceAgent.ice g.D.DtlsInstance.dtls g.S.Association.association g.M.MediaSession.media g.N.Ids.ids) _ _ _ _ _ p q (input_acts (meanings g.I.IceAgent.ice g.D.DtlsInstance.dtls g.S.Association.association g.M.MediaSession.media g.N.Ids.ids) g.met.S.Association.laws input p answer q h)
-
-pub returns-clause-closes : goal.returns-clause-closes
-returns-clause-closes g c = λ p q answer h. did_relay (meanings g.I.IceAgent.ice g.D.DtlsInstance.dtls g.S.Association.association g.M.MediaSession.media g.N.Ids.ids) _ _ _ _ _ p q (close_acts (meanings g.I.IceAgent.ice g.D.DtlsInstance.dtls g.S.Association.association g.M.MediaSession.media g.N.Ids.ids) nothing_came [] g.met.S.Association.laws p answer q h)
-
-pub returns-clause-writes : goal.returns-clause-writes
-returns-clause-writes g c = λ p q stream binary bytes answer h. did_relay (meanings g.I.IceAgent.ice g.D.DtlsInstance.dtls g.S.Association.association g.M.MediaSession.media g.N.Ids.ids) _ _ _ _ _ p q (write_acts (meanings g.I.IceAgent.ice g.D.DtlsInstance.dtls g.S.Association.association g.M.MediaSession.media g.N.Ids.ids) stream binary bytes p answer q h)
-
-pub returns-clause-thresholds : goal.returns-clause-thresholds
-returns-clause-thresholds g c = λ p q stream n h. did_relay (meanings g.I.IceAgent.ice g.D.DtlsInstance.dtls g.S.Association.association g.M.MediaSession.media g.N.Ids.ids) _ _ _ _ _ p q (threshold_acts (meanings g.I.IceAgent.ice g.D.DtlsInstance.dtls g.S.Association.association g.M.MediaSession.media g.N.Ids.ids) stream n p q h)
-
-pub returns-clause-channel_closes : goal.returns-clause-channel_closes
-returns-clause-channel_closes g c = λ p q id answer h. did_relay (meanings g.I.IceAgent.ice g.D.DtlsInstance.dtls g.S.Association.association g.M.MediaSession.media g.N.Ids.ids) _ _ _ _ _ p q (channel_close_acts (meanings g.I.IceAgent.ice g.D.DtlsInstance.dtls g.S.Association.association g.M.MediaSession.media g.N.Ids.ids) id p answer q h)
+pub returns-clause-in_turn : goal.returns-clause-in_turn
+returns-clause-in_turn g c = λ p q between h. turns_relay (meanings g.I.IceAgent.ice g.D.DtlsInstance.dtls g.S.Association.association g.M.MediaSession.media g.N.Ids.ids) (record { ice = g.met.I.IceAgent.laws; dtls = g.met.D.DtlsInstance.laws; association = g.met.S.Association.laws; media = g.met.M.MediaSession.laws }) p q between h
