@@ -19,7 +19,7 @@ use Rattle.rtc_assoc.proofs.StepLemmas.{step_of}
 use Rattle.rtc_sctp_laws.proofs.KeptLists.{HasPart}
 use Rattle.rtc_sctp_laws.proofs.PartItems.{ActParts, BringsPiece, GivesPiece, HasPiece, piece_dropped, piece_either, piece_left, piece_right}
 use Rattle.rtc_sctp_laws.proofs.PartActs.{act_parts}
-use Rattle.rtc_run_laws.proofs.ClosingPairs.{among_first, among_rest}
+use Rattle.rtc_run_laws.proofs.ClosingMoves.{among_first, among_rest}
 
 -- each piece among the items that an end sent in all is of a message that it wrote, and each part at the other end of one of these
 record AreSourced (w : List Item) (v : List AssociationAct) (b : Contents) : Type 0 where
