@@ -1,3 +1,4 @@
+pub mod Crossing
 pub mod Drives
 pub mod PlainPeers
 pub mod Receives

@@ -3,6 +3,7 @@
 //! A peer over the parts in memory is a `PlainRtc`, and one over any parts a `Peer<P>`.
 #![tactic(auto)]
 
+mod crossing;
 mod driving;
 mod handed;
 mod inputs;
@@ -12,6 +13,7 @@ mod plain_peers;
 mod signalling;
 mod sink;
 
+pub use crossing::accept_crossed_offer;
 pub use driving::drive;
 pub use inputs::receive;
 pub use parts::Parts;
