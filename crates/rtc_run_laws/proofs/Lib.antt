@@ -244,3 +244,8 @@ pub mod CrossingRows
 pub mod CrossingOpens
 pub mod CrossingPaths
 pub mod TakenTexts
+pub mod CompletingVisits
+pub mod CompletingSteps
+pub mod CompletingPolls
+pub mod CompletingRuns
+pub mod CompletingUses

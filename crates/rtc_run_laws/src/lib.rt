@@ -2,6 +2,7 @@
 //! what crossed offers and accepted session descriptions leave.
 #![tactic(auto)]
 
+mod completing;
 mod drains;
 mod exchanged;
 mod handing;
@@ -9,6 +10,7 @@ mod settling;
 mod taken;
 mod unannounced;
 
+pub use completing::open_streams_close_before_completion;
 pub use drains::drains_show_at_most_their_weight;
 pub use exchanged::runs_keep_peers_joined;
 pub use handing::channels_hand_out_prefixes;
