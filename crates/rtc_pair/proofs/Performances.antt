@@ -2,6 +2,7 @@
 use Rattle.std.proofs.Common.{◌≡◌, ◌⊎◌, inl, inr, ℕ, Bool, List, Option, Result, Ok, Err, IfOk, sym, subst}
 use Rattle.std.specs.declared.alloc.Global.{Global}
 use Rattle.rtc_run_laws.specs.Crossed.{CrossedOffersMeet}
+use Rattle.rtc_run_laws.proofs.AcknowledgedSides.{run_acknowledges}
 use Rattle.rtc_run_laws.proofs.HandsRuns.{run_hands_out}
 use Rattle.rtc_run_laws.proofs.SettlesRuns.{run_settles_open}
 use Rattle.rtc_run_plain.proofs.PlainFaults.{plain_unfaulted}
@@ -58,6 +59,7 @@ ran_joined {E = E} alloc script start pair replies (Ok (kept, told)) (kept_is, t
       no_fault = plain_unfaulted start pair script.steps told ran;
       channels = λ forward. run_hands_out counting is_ice_message start pair script.steps told (program_new alloc _ _ start program) forward ran;
       settles = λ forward. run_settles_open counting is_ice_message start pair script.steps told (program_new alloc _ _ start program) forward ran;
+      acknowledges = λ forward. run_acknowledges counting is_ice_message start pair script.steps told (program_new alloc _ _ start program) forward ran;
       crossed = crossed;
       drains = λ moments. program_drains alloc _ _ start pair script.steps told program moments ran;
     })

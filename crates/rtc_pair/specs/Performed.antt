@@ -16,6 +16,7 @@ use Rattle.rtc_run_history.specs.Runs.{Runs}
 use Rattle.rtc_run_history.specs.Signalled.{AllReadBack}
 use Rattle.rtc_plain_ice.specs.Messages.{is_ice_message}
 use Rattle.rtc_plain_media.specs.declared.plain_media_event.PlainMediaEvent.{PlainMediaEvent}
+use Rattle.rtc_run_laws.specs.AcknowledgedData.{Acknowledges}
 use Rattle.rtc_run_laws.specs.Drains.{DrainsWithin, HaveMoments}
 use Rattle.rtc_run_laws.specs.HandedOut.{HandsOut}
 use Rattle.rtc_run_laws.specs.SettledPairs.{SettlesOpen}
@@ -49,9 +50,10 @@ IsPairOf alloc script pair =
 -- A script was run on the program's pair, which is formed, with these replies, which left this pair. Each description that was made is read
 -- back as it was written, if each SSRC was unused when it was drawn. No reply reports that a part failed: those in memory never do. If no
 -- step brings in a text or bytes of anybody, and none rolls an offer back, channels hand out what the other side sent, and of those that
--- were opened in-band each is announced at most once. If the run then leaves the pair settled, a channel that is open at a side, over a
--- stream that both keep, is open at both, and was announced at both. On glare a polite and an impolite side that are in step meet. A drain
--- shows at most as many outputs as its peer weighs before it.
+-- were opened in-band each is announced at most once. A buffered amount of 0 says that all that was sent over a channel is acknowledged, if
+-- its last message is not empty. If the run then leaves the pair settled, a channel that is open at a side, over a stream that both keep,
+-- is open at both, and was announced at both. On glare a polite and an impolite side that are in step meet. A drain shows at most as many
+-- outputs as its peer weighs before it.
 pub record RanScript (alloc : Global) (script : Script) (replies : List (Reply PlainMediaEvent)) (pair : PlainPairState) : Type 0 where
   pub start : PlainPairState
   pub program : IsPairOf alloc script start
@@ -62,6 +64,7 @@ pub record RanScript (alloc : Global) (script : Script) (replies : List (Reply P
   pub no_fault : tell_fault replies ≡ false
   pub channels : go_forward script.steps ≡ true → HandsOut counting is_ice_message start script.steps replies pair runs
   pub settles : go_forward script.steps ≡ true → SettlesOpen counting is_ice_message start script.steps replies pair runs
+  pub acknowledges : go_forward script.steps ≡ true → Acknowledges counting is_ice_message start script.steps replies pair runs
   pub crossed : CrossedOffersMeet plain_parts is_ice_message start
   pub drains : HaveMoments script.steps → DrainsWithin plain_parts is_ice_message start runs.past pair
 

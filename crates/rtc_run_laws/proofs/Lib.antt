@@ -249,3 +249,7 @@ pub mod CompletingSteps
 pub mod CompletingPolls
 pub mod CompletingRuns
 pub mod CompletingUses
+pub mod LastItems
+pub mod LastActs
+pub mod LastMessagesHeld
+pub mod AcknowledgedSides

@@ -2,6 +2,7 @@
 //! what crossed offers and accepted session descriptions leave.
 #![tactic(auto)]
 
+mod acknowledged;
 mod completing;
 mod drains;
 mod exchanged;
@@ -10,6 +11,7 @@ mod settling;
 mod taken;
 mod unannounced;
 
+pub use acknowledged::sent_messages_are_acknowledged;
 pub use completing::open_streams_close_before_completion;
 pub use drains::drains_show_at_most_their_weight;
 pub use exchanged::runs_keep_peers_joined;

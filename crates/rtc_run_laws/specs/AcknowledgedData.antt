@@ -1,0 +1,65 @@
+-- That a buffered amount of 0 says that nothing that was sent over a channel is unacknowledged, if its last message is not empty.
+use Rattle.std.specs.Prelude.{ℕ, ◌≡◌, ◌==◌, ◌&&◌, nat_lt, Bool, true, false, List, [], ◌∷◌, length, Some}
+use Rattle.std.specs.List.{list_any}
+use Rattle.rtc_part_association.specs.declared.ppi.Ppi.{Ppi}
+use Rattle.rtc_part_association.specs.declared.ppi.Ppi.TheVariants as ppi
+use Rattle.rtc_part_association.specs.Ppi.{ppi_of}
+use Rattle.rtc_part_values.specs.Among.{Member}
+use Rattle.rtc_part_values.specs.Draws.{Draws}
+use Rattle.rtc_assoc_packets.specs.declared.item.Item.{Item}
+use Rattle.rtc_assoc_state.specs.Contents.{generation_of}
+use Rattle.rtc_plain_media.specs.declared.plain_media_event.PlainMediaEvent.{PlainMediaEvent}
+use Rattle.rtc_peer_transport.specs.ChannelCalls.{bytes_buffered}
+use Rattle.rtc_run_history.specs.declared.reply.Reply.{Reply}
+use Rattle.rtc_run_history.specs.declared.side.Side.{Side}
+use Rattle.rtc_run_history.specs.declared.step.Step.{Step}
+use Rattle.rtc_run_history.specs.PairState.{rtc_at}
+use Rattle.rtc_run_history.specs.Runs.{Runs}
+use Rattle.rtc_run_laws.specs.ChannelUses.{ChannelUse}
+use Rattle.rtc_run_laws.specs.PlainPairs.{PlainPair, PlainPolled, plain_over}
+use Rattle.rtc_run_laws.specs.SentMessages.{sent_over}
+use Rattle.rtc_run_laws.specs.UsesOfRuns.{reached_by, uses_in_run}
+
+-- whether a message of an identifier carries data of a user (RFC 8831, section 6.6)
+abbrev pub carries_data : Ppi → Bool
+carries_data ppi.Dcep = false
+carries_data ppi.Text = true
+carries_data ppi.Binary = true
+carries_data ppi.EmptyText = true
+carries_data ppi.EmptyBinary = true
+carries_data (ppi.Other number) = false
+
+-- whether an item is a piece of such a message of a generation of a stream
+abbrev pub is_data_item : (stream generation : ℕ) → Item → Bool
+is_data_item s g item = ((item.stream == s) && (item.generation == g)) && carries_data (ppi_of item.identifier)
+
+-- whether such an item is not acknowledged
+abbrev pub has_unacknowledged_data : (stream generation : ℕ) → List Item → Bool
+has_unacknowledged_data s g items = list_any (is_data_item s g) items
+
+-- there is a last message, and it has bytes; each message is with whether it is binary
+abbrev pub ends_with_bytes : List (Bool × List ℕ) → Bool
+ends_with_bytes [] = false
+ends_with_bytes (x ∷ []) = nat_lt 0 (length x.1)
+ends_with_bytes (x ∷ y ∷ messages) = ends_with_bytes (y ∷ messages)
+
+-- Over a channel that one side announced, whose stream has the generation still in which it was announced: if the last message that the
+-- side sent to this generation is not empty, a buffered amount of 0 says that nothing that it sent to it is unacknowledged.
+abbrev pub AreAcknowledged : {N : Type 0} → Draws N → List ChannelUse → (sent : ℕ → ℕ → List (Bool × List ℕ)) → PlainPolled N → Type 0
+AreAcknowledged draws uses sent p =
+    (x : ChannelUse) (s : ℕ)
+    → Member x uses
+    → x.stream ≡ Some s
+    → generation_of p.core.sctp.association s ≡ x.generation
+    → ends_with_bytes (sent s x.generation) ≡ true
+    → bytes_buffered (plain_over draws) s p ≡ 0
+    → has_unacknowledged_data s x.generation p.core.sctp.association.outbox.items ≡ false
+
+-- So it is at both sides behind a run by these steps with these replies.
+abbrev pub Acknowledges : {N : Type 0} (draws : Draws N) (stun : List ℕ → Bool) (start : PlainPair N) (steps : List Step)
+    (replies : List (Reply PlainMediaEvent)) (pair : PlainPair N) → Runs (plain_over draws) stun start steps replies pair → Type 0
+Acknowledges draws stun start steps replies pair run =
+    (at : Side)
+    → AreAcknowledged draws (uses_in_run (plain_over draws) stun start steps replies pair run at)
+    (sent_over (plain_over draws) stun start at run.past pair (reached_by (plain_over draws) stun start run.past pair run.went))
+    (rtc_at at pair)

@@ -1,0 +1,32 @@
+//! What a buffered amount of 0 says in a run of two peers over plain parts.
+ghost use Rattle.std.specs.Prelude.{◌≡◌, ℕ, Bool, true, List};
+ghost use Rattle.rtc_plain_media.specs.declared.plain_media_event.PlainMediaEvent.{PlainMediaEvent};
+ghost use Rattle.rtc_run_history.specs.declared.reply.Reply.{Reply};
+ghost use Rattle.rtc_run_history.specs.declared.side.Side.{Side};
+ghost use Rattle.rtc_run_history.specs.declared.step.Step.{Step};
+ghost use Rattle.rtc_run_history.specs.PairState.{rtc_at};
+ghost use Rattle.rtc_run_history.specs.Past.{Entry, steps_of};
+ghost use Rattle.rtc_run_history.specs.Native.{go_forward};
+ghost use Rattle.rtc_run_history.specs.Runs.{Reached, Runs};
+ghost use Rattle.rtc_run_laws.specs.AcknowledgedData.{Acknowledges, AreAcknowledged};
+ghost use Rattle.rtc_run_laws.specs.NewPairs.{IsNewPair};
+ghost use Rattle.rtc_run_laws.specs.PlainPairs.{PlainPair, plain_over};
+ghost use Rattle.rtc_run_laws.specs.SentMessages.{sent_over};
+ghost use Rattle.rtc_run_laws.specs.UsesOfRuns.{uses_of};
+
+use rtc_part_values::Ids;
+
+/// Let a side announce a channel, its stream have the generation still in which it was announced, and the last message
+/// that was sent to it not be empty. If the channel's buffered amount is 0, nothing that was sent over it is
+/// unacknowledged. An empty message counts 0.
+///
+/// No step brings in a text or bytes of anybody, and none rolls an offer back.
+pub fn sent_messages_are_acknowledged<N: Ids>()
+    ensures reached { (stun : List ℕ → Bool) (start pair : PlainPair N) (past : List (Entry PlainMediaEvent)) → IsNewPair N.ids start
+        → go_forward (steps_of past) ≡ true → (ran : Reached (plain_over N.ids) stun start past pair) → (at : Side)
+        → AreAcknowledged N.ids (uses_of (plain_over N.ids) stun start at past pair ran)
+        (sent_over (plain_over N.ids) stun start at past pair ran) (rtc_at at pair) }
+    ensures ran { (stun : List ℕ → Bool) (start pair : PlainPair N) (steps : List Step) (replies : List (Reply PlainMediaEvent))
+        → IsNewPair N.ids start → go_forward steps ≡ true → (run : Runs (plain_over N.ids) stun start steps replies pair)
+        → Acknowledges N.ids stun start steps replies pair run }
+{}
