@@ -1,4 +1,11 @@
+pub mod Cuts
 pub mod LineTexts
+pub mod WordTexts
+pub mod TableTexts
+pub mod EventTexts
+pub mod OutputTexts
+pub mod AnswerTexts
 pub mod ReplyLines
-pub mod OutcomeKinds
+pub mod OutcomeTexts
+pub mod WholeReplies
 pub mod ToldReplies

@@ -1,8 +1,15 @@
 -- Texts of lines, and lists of lines that are told apart by how they begin.
 use Rattle.std.proofs.Common.{◌≡◌, ◌==◌, ◌++◌, ◌∷◌, ℕ, Bool, true, false, true≢false, List, [], refl, sym, ◌∙◌, ap, append_assoc}
-use Rattle.std.specs.List.{AllByRecursion, flat_map}
+use Rattle.std.specs.List.{AllByRecursion}
 use Rattle.std.proofs.lemmas.Bool.{eq-eqb, or_parts}
-use Rattle.rtc_script_reports.specs.Alike.{IsOneLine, breaks}
+use Rattle.rtc_script_reports.specs.Fits.{breaks}
+use Rattle.rtc_script_reports.proofs.Cuts.{text_of}
+
+-- a text is one line, with its end
+pub record IsOneLine (text : List ℕ) : Type 0 where
+  pub content : List ℕ
+  pub is : text ≡ content ++ 10 ∷ []
+  pub whole : breaks content ≡ false
 
 -- ---- the first line of a text
 
@@ -21,10 +28,6 @@ cut_line (c ∷ l) (d ∷ m) r q a b e =
     let both = same_tail c d (l ++ 10 ∷ r) (m ++ 10 ∷ q) e in
     let rest = cut_line l m r q (or_parts (c == 10) (breaks l) a).1 (or_parts (d == 10) (breaks m) b).1 both.1 in
     (ap (λ (n : ℕ). n ∷ l) both.0 ∙ ap (λ (t : List ℕ). d ∷ t) rest.0, rest.1)
-
--- the text of lines
-abbrev pub text_of : List (List ℕ) → List ℕ
-text_of lines = flat_map (λ line. line) lines
 
 opened : (l r : List ℕ) (one : IsOneLine l) → l ++ r ≡ one.content ++ 10 ∷ r
 opened l r one = ap (λ (t : List ℕ). t ++ r) one.is ∙ append_assoc one.content (10 ∷ []) r
@@ -83,7 +86,7 @@ cut_text p (x ∷ xs) (y ∷ ys) r q ones others not_x not_y on on' e =
 
 -- ---- lists of lines
 
-same_lines : (x y : List ℕ) (xs ys : List (List ℕ)) → ◌≡◌ {A = List (List ℕ)} (x ∷ xs) (y ∷ ys) → (x ≡ y) × (xs ≡ ys)
+pub same_lines : (x y : List ℕ) (xs ys : List (List ℕ)) → ◌≡◌ {A = List (List ℕ)} (x ∷ xs) (y ∷ ys) → (x ≡ y) × (xs ≡ ys)
 same_lines x y xs ys e = (cc, cc)
 
 -- lines that begin so, before others

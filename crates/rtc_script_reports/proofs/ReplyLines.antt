@@ -20,8 +20,32 @@ use Rattle.rtc_run_history.specs.Past.{table_rows}
 use Rattle.rtc_script_reports.specs.Outputs.{end_line, error_line, output_line, polled_lines}
 use Rattle.rtc_script_reports.specs.Report.{table_lines}
 use Rattle.rtc_script_reports.specs.Rows.{channel_report_line, row_report_line}
-use Rattle.rtc_script_reports.specs.Alike.{table_channels, end_lines, outcome_ends, lines_behind, outputs_of}
-use Rattle.rtc_script_reports.proofs.LineTexts.{AllBegin, first_of, text_of}
+use Rattle.rtc_script_reports.proofs.Cuts.{text_of}
+use Rattle.rtc_script_reports.proofs.LineTexts.{AllBegin, first_of}
+use Rattle.rtc_script_reports.proofs.OutputTexts.{end_lines}
+
+-- ---- the lines of a reply
+
+-- the outputs of polls, and the lines of what ended them
+abbrev pub outputs_of : Outcome PlainMediaEvent → List (Shown PlainMediaEvent)
+outputs_of (Polled outputs end) = outputs
+outputs_of outcome = []
+
+abbrev pub outcome_ends : Outcome PlainMediaEvent → List (List ℕ)
+outcome_ends (Polled outputs end) = end_lines end
+outcome_ends outcome = []
+
+-- the channels of a table, if there is one
+abbrev pub table_channels : Option Table → List ChannelRow
+table_channels None = []
+table_channels (Some table) = table.channels
+
+-- the lines behind that of the step
+abbrev pub lines_behind : Reply PlainMediaEvent → List (List ℕ)
+lines_behind reply =
+    map output_line (outputs_of reply.outcome)
+    ++ (outcome_ends reply.outcome
+    ++ (map row_report_line (table_rows reply.table) ++ map channel_report_line (table_channels reply.table)))
 
 -- ---- how lines begin
 

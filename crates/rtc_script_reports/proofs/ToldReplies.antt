@@ -15,16 +15,20 @@ use Rattle.rtc_script_reports.specs.Outcomes.{outcome_text}
 use Rattle.rtc_script_reports.specs.Outputs.{output_line, polled_lines}
 use Rattle.rtc_script_reports.specs.Report.{report_from, step_line, step_lines, table_lines}
 use Rattle.rtc_script_reports.specs.Rows.{channel_report_line, row_report_line}
-use Rattle.rtc_script_reports.specs.Alike.{AreAlike, AreReplies, ReportsTell, table_channels, outcome_ends, lines_behind, outputs_of}
-use Rattle.rtc_script_reports.proofs.LineTexts.{GoesOn, cut_line, cut_text, split_by, text_of}
-use Rattle.rtc_script_reports.proofs.OutcomeKinds.{same_words}
-use Rattle.rtc_script_reports.proofs.ReplyLines.{behind_begins, behind_text, channels_all, ends_all, outputs_all, rest_begins, rows_all, table_begins}
+use Rattle.rtc_script_reports.specs.Alike.{AreAlike, ReportsTell}
+use Rattle.rtc_script_reports.specs.Fits.{AnswersStep, AreAnswered, AreFit, FitsReply, PrintInLine, PrintsInLine}
+use Rattle.rtc_script_reports.proofs.Cuts.{text_of}
+use Rattle.rtc_script_reports.proofs.LineTexts.{GoesOn, cut_line, cut_text, split_by}
+use Rattle.rtc_script_reports.proofs.OutcomeTexts.{outcome_whole, same_outcome}
+use Rattle.rtc_script_reports.proofs.ReplyLines.{behind_begins, behind_text, channels_all, ends_all, lines_behind, outcome_ends, outputs_all, outputs_of, rest_begins, rows_all, table_begins, table_channels}
+use Rattle.rtc_script_reports.proofs.WholeReplies.{lines_whole, same_table}
 
 -- ---- one reply
 
 -- replies of the same lines agree
-same_behind : (reply other : Reply PlainMediaEvent) → outcome_text reply.outcome ≡ outcome_text other.outcome → lines_behind reply ≡ lines_behind other → AreAlike reply other
-same_behind reply other words same =
+same_behind : (step : Step) (reply other : Reply PlainMediaEvent) → FitsReply reply → FitsReply other → AnswersStep step reply.outcome → AnswersStep step other.outcome → PrintsInLine reply.outcome → PrintsInLine other.outcome
+    → outcome_text reply.outcome ≡ outcome_text other.outcome → lines_behind reply ≡ lines_behind other → AreAlike reply other
+same_behind step reply other fit fit' one another line line' words same =
     let outputs = split_by (λ c. c == 111) (map output_line (outputs_of reply.outcome)) (map output_line (outputs_of other.outcome)) _ _ (outputs_all (λ c. c == 111) true reply.outcome refl)
     (outputs_all (λ c. c == 111) true other.outcome refl) (rest_begins (λ c. c == 111) false reply refl refl refl refl) (rest_begins (λ c. c == 111) false other refl refl refl refl) same in
     let ends = split_by (λ c. (c == 101) || (c == 110)) (outcome_ends reply.outcome) (outcome_ends other.outcome) _ _ (ends_all (λ c. (c == 101) || (c == 110)) true reply.outcome refl refl)
@@ -33,14 +37,7 @@ same_behind reply other words same =
     let rows = split_by (λ c. c == 108) (map row_report_line (table_rows reply.table)) (map row_report_line (table_rows other.table)) (map channel_report_line (table_channels reply.table))
     (map channel_report_line (table_channels other.table)) (rows_all (λ c. c == 108) true reply.table refl) (rows_all (λ c. c == 108) true other.table refl)
     (channels_all (λ c. c == 108) false reply.table refl) (channels_all (λ c. c == 108) false other.table refl) ends.1 in
-    record {
-      words = words;
-      outcomes = same_words reply.outcome other.outcome words;
-      outputs = outputs.0;
-      ends = ends.0;
-      rows = rows.0;
-      channels = rows.1;
-    }
+    (same_outcome step reply.outcome other.outcome fit.0 fit'.0 fit.1 fit'.1 one another line line' words outputs.0 ends.0, same_table reply.table other.table fit.2 fit'.2 rows.0 rows.1)
 
 -- ---- one step
 
@@ -76,22 +73,23 @@ reply_text number step reply more =
 
 -- ---- all steps
 
-replies_agree : (number : ℕ) (steps : List Step) (replies others : List (Reply PlainMediaEvent)) → AreReplies steps replies → AreReplies steps others
+replies_agree : (number : ℕ) (steps : List Step) (replies others : List (Reply PlainMediaEvent)) → AreFit steps replies → AreAnswered steps replies → PrintInLine replies → AreFit steps others → AreAnswered steps others → PrintInLine others
     → report_from number steps replies ≡ report_from number steps others → AllZip AreAlike replies others
-replies_agree number [] [] [] one other same = tt
-replies_agree number [] (reply ∷ replies) others one other same = absurd one
-replies_agree number [] [] (reply ∷ others) one other same = absurd other
-replies_agree number (step ∷ steps) [] others one other same = absurd one
-replies_agree number (step ∷ steps) (reply ∷ replies) [] one other same = absurd other
-replies_agree number (step ∷ steps) (reply ∷ replies) (answer ∷ others) one other same =
+replies_agree number [] [] [] fit one line fit' other line' same = tt
+replies_agree number [] (reply ∷ replies) others fit one line fit' other line' same = absurd one
+replies_agree number [] [] (answer ∷ others) fit one line fit' other line' same = absurd other
+replies_agree number (step ∷ steps) [] others fit one line fit' other line' same = absurd one
+replies_agree number (step ∷ steps) (reply ∷ replies) [] fit one line fit' other line' same = absurd other
+replies_agree number (step ∷ steps) (reply ∷ replies) (answer ∷ others) fit one line fit' other line' same =
     let more : List ℕ = report_from (number + 1) steps replies in
     let rest : List ℕ = report_from (number + 1) steps others in
     let words : outcome_text reply.outcome ++ 10 ∷ (text_of (lines_behind reply) ++ more) ≡ outcome_text answer.outcome ++ 10 ∷ (text_of (lines_behind answer) ++ rest) =
     append_cancel_left (front number step) _ _ (sym (reply_text number step reply more) ∙ same ∙ reply_text number step answer rest) in
-    let cut = cut_line (outcome_text reply.outcome) (outcome_text answer.outcome) _ _ one.0.outcome other.0.outcome words in
-    let lines = cut_text (λ c. c == 115) (lines_behind reply) (lines_behind answer) more rest one.0.behind other.0.behind (behind_begins (λ c. c == 115) false reply refl refl refl refl refl)
-    (behind_begins (λ c. c == 115) false answer refl refl refl refl refl) (steps_begin (number + 1) steps replies) (steps_begin (number + 1) steps others) cut.1 in
-    (same_behind reply answer cut.0 lines.0, replies_agree (number + 1) steps replies others one.1 other.1 lines.1)
+    let cut = cut_line (outcome_text reply.outcome) (outcome_text answer.outcome) _ _ (outcome_whole step reply.outcome one.0 line.0) (outcome_whole step answer.outcome other.0 line'.0) words in
+    let lines = cut_text (λ c. c == 115) (lines_behind reply) (lines_behind answer) more rest (lines_whole reply fit.0 line.0) (lines_whole answer fit'.0 line'.0)
+    (behind_begins (λ c. c == 115) false reply refl refl refl refl refl) (behind_begins (λ c. c == 115) false answer refl refl refl refl refl)
+    (steps_begin (number + 1) steps replies) (steps_begin (number + 1) steps others) cut.1 in
+    (same_behind step reply answer fit.0 fit'.0 one.0 other.0 line.0 line'.0 cut.0 lines.0, replies_agree (number + 1) steps replies others fit.1 one.1 line.1 fit'.1 other.1 line'.1 lines.1)
 
 pub reports_tell : ReportsTell
-reports_tell = λ steps replies others one other same. replies_agree 0 steps replies others one other same
+reports_tell = λ steps replies fit one others line fit' other line' same. replies_agree 0 steps replies others fit one line fit' other line' same

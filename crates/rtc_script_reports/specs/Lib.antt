@@ -3,4 +3,5 @@ pub mod Events
 pub mod Outputs
 pub mod Report
 pub mod Rows
+pub mod Fits
 pub mod Alike

@@ -1,5 +1,7 @@
 //! Lines of channels.
 ghost use Rattle.std.specs.Prelude.{◌≡◌, ◌++◌, OnOk, string_bytes};
+ghost use Rattle.std.specs.List.{AllByRecursion};
+ghost use Rattle.rtc_script_reports.specs.Fits.{FitsChannel, FitsStream};
 ghost use Rattle.rtc_script_reports.specs.Rows.{stream_text, channel_report_line, channel_lines};
 
 use crate::pushing::{push_named, push_number};
@@ -7,7 +9,8 @@ use rtc_channels::ChannelRow;
 use std::alloc::AllocError;
 
 fn push_stream(out: &mut String, stream: Option<u16>) -> Result<(), AllocError>
-    ensures { OnOk result (string_bytes out.new ≡ string_bytes out.old ++ stream_text stream) }
+    ensures text { OnOk result (string_bytes out.new ≡ string_bytes out.old ++ stream_text stream) }
+    ensures fit { FitsStream stream }
 {
     match stream {
         None => out.push_str("-"),
@@ -16,7 +19,8 @@ fn push_stream(out: &mut String, stream: Option<u16>) -> Result<(), AllocError>
 }
 
 fn push_channel(out: &mut String, row: &ChannelRow) -> Result<(), AllocError>
-    ensures { OnOk result (string_bytes out.new ≡ string_bytes out.old ++ channel_report_line row.now) }
+    ensures text { OnOk result (string_bytes out.new ≡ string_bytes out.old ++ channel_report_line row.now) }
+    ensures fit { OnOk result (FitsChannel row.now) }
 {
     push_named(out, "channel ", row.id.number())?;
     out.push_str(" ")?;
@@ -27,7 +31,8 @@ fn push_channel(out: &mut String, row: &ChannelRow) -> Result<(), AllocError>
 
 /// Puts the lines of channels behind a text.
 pub fn push_channels(out: &mut String, rows: &[ChannelRow]) -> Result<(), AllocError>
-    ensures { OnOk result (string_bytes out.new ≡ string_bytes out.old ++ channel_lines rows.now) }
+    ensures text { OnOk result (string_bytes out.new ≡ string_bytes out.old ++ channel_lines rows.now) }
+    ensures fit { OnOk result (AllByRecursion FitsChannel rows.now) }
 {
     for row in rows {
         push_channel(out, row)?;

@@ -1,5 +1,7 @@
 //! Words of events.
-ghost use Rattle.std.specs.Prelude.{◌≡◌, ◌++◌, OnOk, string_bytes};
+ghost use Rattle.std.specs.Prelude.{◌≡◌, ◌<◌, ◌^◌, ◌++◌, OnOk, string_bytes};
+ghost use Rattle.hex.specs.Hex.{IsBytes};
+ghost use Rattle.rtc_script_reports.specs.Fits.{FitsEvent, FitsMediaEvent, FitsPacket, IsName};
 ghost use Rattle.rtc_script_reports.specs.Events.{event_text, line_bytes_text, media_event_text, raw_packet_text, state_text};
 ghost use Rattle.rtc_script.specs.Words.{hex_word, message_kind_text};
 ghost use Rattle.rtc_peer_transport.specs.declared.event.Event.TheVariants.{ChannelData as DataOf, ChannelOpen as OpenOf};
@@ -29,7 +31,8 @@ fn state_word(state: IceConnectionState) -> &'static str
 
 // Puts bytes as hex digits behind a text.
 fn push_hex(alloc: Global, out: &mut String, bytes: &[u8]) -> Result<(), AllocError>
-    ensures { OnOk result (string_bytes out.new ≡ string_bytes out.old ++ hex_word bytes.now) }
+    ensures text { OnOk result (string_bytes out.new ≡ string_bytes out.old ++ hex_word bytes.now) }
+    ensures fit { IsBytes bytes.now }
 {
     if bytes.is_empty() {
         return out.push_str("-");
@@ -39,7 +42,8 @@ fn push_hex(alloc: Global, out: &mut String, bytes: &[u8]) -> Result<(), AllocEr
 }
 
 fn push_raw(out: &mut String, packet: &RawPacket) -> Result<(), AllocError>
-    ensures { OnOk result (string_bytes out.new ≡ string_bytes out.old ++ raw_packet_text packet.now) }
+    ensures text { OnOk result (string_bytes out.new ≡ string_bytes out.old ++ raw_packet_text packet.now) }
+    ensures fit { FitsPacket packet.now }
 {
     match packet {
         RawPacket::RtcpTx(bytes) => { push_named(out, "rtcptx ", bytes.as_slice().len() as u64) }
@@ -50,7 +54,8 @@ fn push_raw(out: &mut String, packet: &RawPacket) -> Result<(), AllocError>
 }
 
 fn push_media_event(out: &mut String, event: &PlainMediaEvent) -> Result<(), AllocError>
-    ensures { OnOk result (string_bytes out.new ≡ string_bytes out.old ++ media_event_text event.now) }
+    ensures text { OnOk result (string_bytes out.new ≡ string_bytes out.old ++ media_event_text event.now) }
+    ensures fit { OnOk result (FitsMediaEvent event.now) }
 {
     match event {
         PlainMediaEvent::Added(mid, kind, dir) => {
@@ -80,7 +85,8 @@ fn message_kind_word(binary: bool) -> &'static str
 }
 
 fn push_message(alloc: Global, out: &mut String, message: &ChannelData) -> Result<(), AllocError>
-    ensures { OnOk result (string_bytes out.new ≡ string_bytes out.old ++ event_text (DataOf message.now)) }
+    ensures text { OnOk result (string_bytes out.new ≡ string_bytes out.old ++ event_text (DataOf message.now)) }
+    ensures fit { OnOk result (FitsEvent (DataOf message.now)) }
 {
     push_named(out, "data ", message.id.number())?;
     push_word(out, message_kind_word(message.binary))?;
@@ -94,7 +100,8 @@ fn push_opening(
     id: ChannelId,
     label: &Text,
 ) -> Result<(), AllocError>
-    ensures { OnOk result (string_bytes out.new ≡ string_bytes out.old ++ event_text (OpenOf id label.now)) }
+    ensures text { OnOk result (string_bytes out.new ≡ string_bytes out.old ++ event_text (OpenOf id label.now)) }
+    ensures fit { OnOk result (FitsEvent (OpenOf id label.now)) }
 {
     push_named(out, "open ", id.number())?;
     out.push_str(" ")?;
@@ -103,7 +110,8 @@ fn push_opening(
 
 // Puts how many bytes were counted of a peer.
 fn push_totals(out: &mut String, stats: &PeerStats) -> Result<(), AllocError>
-    ensures { OnOk result (string_bytes out.new ≡ string_bytes out.old ++ event_text (TotalsOf stats.now)) }
+    ensures text { OnOk result (string_bytes out.new ≡ string_bytes out.old ++ event_text (TotalsOf stats.now)) }
+    ensures fit { OnOk result (FitsEvent (TotalsOf stats.now)) }
 {
     push_named(out, "stats ", stats.peer_bytes_rx)?;
     push_named(out, " ", stats.peer_bytes_tx)
@@ -111,7 +119,8 @@ fn push_totals(out: &mut String, stats: &PeerStats) -> Result<(), AllocError>
 
 // Puts how many bytes were counted of a line.
 fn push_line_bytes(out: &mut String, mid: Mid, bytes: u64) -> Result<(), AllocError>
-    ensures { OnOk result (string_bytes out.new ≡ string_bytes out.old ++ line_bytes_text mid bytes) }
+    ensures text { OnOk result (string_bytes out.new ≡ string_bytes out.old ++ line_bytes_text mid bytes) }
+    ensures fit { OnOk result (IsName mid × (bytes < 2 ^ 64)) }
 {
     out.push_str(mid.as_str())?;
     push_named(out, " ", bytes)
@@ -123,7 +132,8 @@ pub fn push_event(
     out: &mut String,
     event: &Event<PlainMediaEvent>,
 ) -> Result<(), AllocError>
-    ensures { OnOk result (string_bytes out.new ≡ string_bytes out.old ++ event_text event.now) }
+    ensures text { OnOk result (string_bytes out.new ≡ string_bytes out.old ++ event_text event.now) }
+    ensures fit { OnOk result (FitsEvent event.now) }
 {
     match event {
         Event::Connected => out.push_str("connected"),

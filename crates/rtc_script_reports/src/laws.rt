@@ -1,11 +1,14 @@
 //! A law of reports.
 ghost use Rattle.rtc_script_reports.specs.Alike.{ReportsTell};
 
-/// Two lists of replies to the same steps that have one report agree, each text of which is one line: in the kind and
-/// the words of each outcome, in each output as it is shown, in what ended polls, and in each row and each channel.
+/// Two lists of replies to the same steps that have one report agree: in the kind of each outcome with its numbers and
+/// names, in the number of each error and what it prints, in each output with all that is shown of it, in what ended
+/// polls, and in each table.
 ///
-/// If no row follows, a report does not show whether memory ran out before a step or in it. It does not show which of
-/// two causes ended polls without memory, nor why no offer was made.
+/// The replies are of their types, which [`write_report`](crate::write_report) tells, each answer is of the kind that
+/// its operation gives, and what an error prints is one line. If no row follows, a report does not show whether memory
+/// ran out before a step or in it. It does not show which of two causes ended polls without memory, nor why no offer
+/// was made.
 pub fn reports_tell_replies()
     ensures { ReportsTell }
 {}

@@ -1,5 +1,7 @@
 //! Outcomes.
 ghost use Rattle.std.specs.Prelude.{◌≡◌, ◌++◌, OnOk, string_bytes};
+ghost use Rattle.std.specs.List.{AllByRecursion};
+ghost use Rattle.rtc_script_reports.specs.Fits.{FitsAnswer, FitsMade, FitsWords};
 ghost use Rattle.rtc_script_reports.specs.Outcomes.{op_answer_text, more_answers, answers_text, made_text, outcome_text};
 
 use crate::pushing::{push_named, push_number};
@@ -8,7 +10,8 @@ use rtc_run_history::{Made, OpAnswer, Outcome};
 use std::alloc::AllocError;
 
 fn push_answer(out: &mut String, answer: &OpAnswer) -> Result<(), AllocError>
-    ensures { OnOk result (string_bytes out.new ≡ string_bytes out.old ++ op_answer_text answer.now) }
+    ensures text { OnOk result (string_bytes out.new ≡ string_bytes out.old ++ op_answer_text answer.now) }
+    ensures fit { OnOk result (FitsAnswer answer.now) }
 {
     match answer {
         OpAnswer::Mid(mid) => out.push_str(mid.as_str()),
@@ -24,7 +27,8 @@ fn push_answer(out: &mut String, answer: &OpAnswer) -> Result<(), AllocError>
 
 // Results behind the first, each behind a comma.
 fn push_more_answers(out: &mut String, answers: &[OpAnswer]) -> Result<(), AllocError>
-    ensures { OnOk result (string_bytes out.new ≡ string_bytes out.old ++ more_answers answers.now) }
+    ensures text { OnOk result (string_bytes out.new ≡ string_bytes out.old ++ more_answers answers.now) }
+    ensures fit { OnOk result (AllByRecursion FitsAnswer answers.now) }
 {
     for answer in answers {
         out.push_str(",")?;
@@ -34,7 +38,8 @@ fn push_more_answers(out: &mut String, answers: &[OpAnswer]) -> Result<(), Alloc
 }
 
 fn push_answers(out: &mut String, answers: &[OpAnswer]) -> Result<(), AllocError>
-    ensures { OnOk result (string_bytes out.new ≡ string_bytes out.old ++ answers_text answers.now) }
+    ensures text { OnOk result (string_bytes out.new ≡ string_bytes out.old ++ answers_text answers.now) }
+    ensures fit { OnOk result (AllByRecursion FitsAnswer answers.now) }
 {
     match answers.split_first() {
         None => out.push_str("-"),
@@ -46,7 +51,8 @@ fn push_answers(out: &mut String, answers: &[OpAnswer]) -> Result<(), AllocError
 }
 
 fn push_made(out: &mut String, made: Made) -> Result<(), AllocError>
-    ensures { OnOk result (string_bytes out.new ≡ string_bytes out.old ++ made_text made) }
+    ensures text { OnOk result (string_bytes out.new ≡ string_bytes out.old ++ made_text made) }
+    ensures fit { OnOk result (FitsMade made) }
 {
     match made {
         Made::NotAsked | Made::Nothing => out.push_str("-"),
@@ -57,7 +63,8 @@ fn push_made(out: &mut String, made: Made) -> Result<(), AllocError>
 
 /// Puts the words of an outcome behind a text.
 pub fn push_outcome<E>(out: &mut String, outcome: &Outcome<E>) -> Result<(), AllocError>
-    ensures { OnOk result (string_bytes out.new ≡ string_bytes out.old ++ outcome_text outcome.now) }
+    ensures text { OnOk result (string_bytes out.new ≡ string_bytes out.old ++ outcome_text outcome.now) }
+    ensures fit { OnOk result (FitsWords outcome.now) }
 {
     match outcome {
         Outcome::Negotiated { answers, made } => {

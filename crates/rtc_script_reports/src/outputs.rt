@@ -1,6 +1,8 @@
 //! Lines of what polls gave.
-ghost use Rattle.std.specs.Prelude.{◌≡◌, ◌++◌, OnOk, codes, string_bytes};
+ghost use Rattle.std.specs.Prelude.{◌≡◌, ◌<◌, ◌^◌, ◌++◌, OnOk, codes, string_bytes};
+ghost use Rattle.std.specs.List.{AllByRecursion};
 ghost use Rattle.rtc_peer_core.specs.RtcErrorText.{rtc_error_text};
+ghost use Rattle.rtc_script_reports.specs.Fits.{FitsPolled, FitsShown};
 ghost use Rattle.rtc_script_reports.specs.Outputs.{end_line, error_line, moment_text, output_line, outputs_lines};
 ghost use Rattle.rtc_script_reports.specs.Outputs.{polled_lines, reason_text};
 
@@ -35,7 +37,8 @@ fn reason_word(reason: Reason) -> &'static str
 }
 
 fn push_moment(out: &mut String, moment: Moment) -> Result<(), AllocError>
-    ensures { OnOk result (string_bytes out.new ≡ string_bytes out.old ++ moment_text moment) }
+    ensures text { OnOk result (string_bytes out.new ≡ string_bytes out.old ++ moment_text moment) }
+    ensures fit { OnOk result (moment < 2 ^ 64) }
 {
     let nanos = moment.nanos();
     if nanos == u64::MAX {
@@ -50,7 +53,8 @@ fn push_output(
     out: &mut String,
     shown: &Shown<PlainMediaEvent>,
 ) -> Result<(), AllocError>
-    ensures { OnOk result (string_bytes out.new ≡ string_bytes out.old ++ output_line shown.now) }
+    ensures text { OnOk result (string_bytes out.new ≡ string_bytes out.old ++ output_line shown.now) }
+    ensures fit { OnOk result (FitsShown shown.now) }
 {
     match shown {
         Shown::Timeout(moment, reason) => {
@@ -77,7 +81,8 @@ fn push_outputs(
     out: &mut String,
     outputs: &[Shown<PlainMediaEvent>],
 ) -> Result<(), AllocError>
-    ensures { OnOk result (string_bytes out.new ≡ string_bytes out.old ++ outputs_lines outputs.now) }
+    ensures text { OnOk result (string_bytes out.new ≡ string_bytes out.old ++ outputs_lines outputs.now) }
+    ensures fit { OnOk result (AllByRecursion FitsShown outputs.now) }
 {
     for shown in outputs {
         push_output(alloc, out, shown)?;
@@ -125,7 +130,8 @@ pub fn push_polled(
     out: &mut String,
     outcome: &Outcome<PlainMediaEvent>,
 ) -> Result<(), AllocError>
-    ensures { OnOk result (string_bytes out.new ≡ string_bytes out.old ++ polled_lines outcome.now) }
+    ensures text { OnOk result (string_bytes out.new ≡ string_bytes out.old ++ polled_lines outcome.now) }
+    ensures fit { OnOk result (FitsPolled outcome.now) }
 {
     match outcome {
         Outcome::Polled { outputs, end } => {

@@ -1,5 +1,6 @@
 //! Whole reports.
 ghost use Rattle.std.specs.Prelude.{◌≡◌, ◌++◌, OnOk, IfOk, string_bytes};
+ghost use Rattle.rtc_script_reports.specs.Fits.{AreFit, FitsReply, FitsTable, FitsWords};
 ghost use Rattle.rtc_script_reports.specs.Report.{table_lines, step_line, step_lines, report};
 
 use crate::channels::push_channels;
@@ -13,7 +14,8 @@ use rtc_run_history::{Outcome, Reply, Step, Table};
 use std::alloc::{AllocError, Global};
 
 fn push_table(out: &mut String, table: &Option<Table>) -> Result<(), AllocError>
-    ensures { OnOk result (string_bytes out.new ≡ string_bytes out.old ++ table_lines table.now) }
+    ensures text { OnOk result (string_bytes out.new ≡ string_bytes out.old ++ table_lines table.now) }
+    ensures fit { OnOk result (FitsTable table.now) }
 {
     match table {
         None => Ok(()),
@@ -32,7 +34,8 @@ fn push_step_line<E>(
     step: &Step,
     outcome: &Outcome<E>,
 ) -> Result<(), AllocError>
-    ensures { OnOk result (string_bytes out.new ≡ string_bytes out.old ++ step_line number step.now outcome.now) }
+    ensures text { OnOk result (string_bytes out.new ≡ string_bytes out.old ++ step_line number step.now outcome.now) }
+    ensures fit { OnOk result (FitsWords outcome.now) }
 {
     push_named(out, "step ", number as u64)?;
     push_word(out, side_word(step.side()))?;
@@ -48,7 +51,8 @@ fn push_step(
     step: &Step,
     reply: &Reply<PlainMediaEvent>,
 ) -> Result<(), AllocError>
-    ensures { OnOk result (string_bytes out.new ≡ string_bytes out.old ++ step_lines number step.now reply.now) }
+    ensures text { OnOk result (string_bytes out.new ≡ string_bytes out.old ++ step_lines number step.now reply.now) }
+    ensures fit { OnOk result (FitsReply reply.now) }
 {
     push_step_line(out, number, step, &reply.outcome)?;
     push_polled(alloc, out, &reply.outcome)?;
@@ -62,7 +66,8 @@ pub fn write_report(
     steps: &[Step],
     replies: &[Reply<PlainMediaEvent>],
 ) -> Result<Vec<u8>, AllocError>
-    ensures { IfOk result (λ bytes. bytes.items ≡ report steps.now replies.now) }
+    ensures report { IfOk result (λ bytes. bytes.items ≡ report steps.now replies.now) }
+    ensures fit { IfOk result (λ bytes. AreFit steps.now replies.now) }
 {
     let mut out = String::new(alloc);
     for (number, step) in steps.iter().enumerate() {

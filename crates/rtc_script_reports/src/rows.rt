@@ -1,5 +1,7 @@
 //! Lines of rows.
 ghost use Rattle.std.specs.Prelude.{◌≡◌, ◌++◌, OnOk, string_bytes};
+ghost use Rattle.std.specs.List.{AllByRecursion};
+ghost use Rattle.rtc_script_reports.specs.Fits.{FitsRow};
 ghost use Rattle.rtc_script_reports.specs.Rows.{row_report_line, row_lines};
 
 use crate::pushing::{push_named, push_word};
@@ -8,7 +10,8 @@ use rtc_sdp_values::LineRow;
 use std::alloc::AllocError;
 
 fn push_row(out: &mut String, row: &LineRow) -> Result<(), AllocError>
-    ensures { OnOk result (string_bytes out.new ≡ string_bytes out.old ++ row_report_line row.now) }
+    ensures text { OnOk result (string_bytes out.new ≡ string_bytes out.old ++ row_report_line row.now) }
+    ensures fit { OnOk result (FitsRow row.now) }
 {
     match row {
         LineRow::Media {
@@ -40,7 +43,8 @@ fn push_row(out: &mut String, row: &LineRow) -> Result<(), AllocError>
 
 /// Puts the lines of rows behind a text.
 pub fn push_rows(out: &mut String, rows: &[LineRow]) -> Result<(), AllocError>
-    ensures { OnOk result (string_bytes out.new ≡ string_bytes out.old ++ row_lines rows.now) }
+    ensures text { OnOk result (string_bytes out.new ≡ string_bytes out.old ++ row_lines rows.now) }
+    ensures fit { OnOk result (AllByRecursion FitsRow rows.now) }
 {
     for row in rows {
         push_row(out, row)?;
