@@ -1,4 +1,4 @@
-//! Runs stored examples of values: open messages, hashes of certificates, copies, records of a file, sources and sinks of bytes, and
+//! Runs stored examples of values: kinds of datagrams, open messages, hashes of certificates, copies, records of a file, sources and sinks of bytes, and
 //! configurations with their codecs.
 //!
 //! Each line of the input names a subject and an example of it. It is printed again behind `agrees` or `differs`.
@@ -9,6 +9,7 @@ mod config;
 mod config_of_peers;
 mod configs;
 mod copies;
+mod datagrams;
 mod descriptions;
 mod messages;
 mod records;
@@ -28,6 +29,7 @@ impl Examples for Values {
             "codecs" => codecs::does_agree(alloc, name),
             "configs" => configs::does_agree(alloc, name),
             "copies" => copies::does_agree(alloc, name),
+            "datagrams" => datagrams::does_agree(name),
             "descriptions" => descriptions::does_agree(alloc, name),
             "messages" => messages::does_agree(alloc, name),
             "records" => records::does_agree(alloc, name),
