@@ -110,6 +110,7 @@ fn refuse_chunks<S: Association>(sctp: &mut RtcSctp<S>) -> bool {
         Some("AQAAFAAAAAcAEAAA/////wAAAAg="),
     );
     let short = takes(sctp, "AQ", false);
+    let enabled = sctp.snap_enabled();
     let none = tells(sctp.local_sctp_init_for_sdp(), None);
     let again = is_ok(sctp.ensure_local_snap_init(&mut ids));
     let next = tells(
@@ -120,7 +121,7 @@ fn refuse_chunks<S: Association>(sctp: &mut RtcSctp<S>) -> bool {
     let told = tells(sctp.snap_remote_init_string(), Some(OTHER_CHUNK));
     let built = is_ok(sctp.build_snap_init_data());
     every(&[
-        other, drawn, own, short, none, again, next, taken, told, built,
+        other, drawn, own, short, enabled, none, again, next, taken, told, built,
     ])
 }
 
