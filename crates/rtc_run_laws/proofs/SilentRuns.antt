@@ -1,5 +1,5 @@
 -- What is told in runs of channels that the other side has not announced.
-use Rattle.std.proofs.Common.{◌≡◌, ◌∙◌, ◌⊎◌, ◌++◌, ◌∷◌, if◌then◌else◌, ℕ, Bool, true, false, true≢false, List, [], Some, inl, inr, refl, sym, ap, subst}
+use Rattle.std.proofs.Common.{◌≡◌, ◌∙◌, ◌⊎◌, ◌≤◌, ◌<◌, ◌-◌, ◌^◌, ◌++◌, ◌∷◌, if◌then◌else◌, ℕ, Bool, true, false, true≢false, List, [], Some, inl, inr, refl, sym, ap, subst, arith}
 use Rattle.rtc_assoc_state.specs.Contents.{Contents}
 use Rattle.rtc_channels.specs.Channels.{Channels, no_channels}
 use Rattle.rtc_part_values.specs.Draws.{Draws}
@@ -33,6 +33,7 @@ use Rattle.rtc_run_laws.proofs.BandedChanges.{AreBandedTokens}
 use Rattle.rtc_run_laws.proofs.BandedInputs.{SideBanded}
 use Rattle.rtc_run_laws.proofs.BandedMoments.{IsBanded}
 use Rattle.rtc_run_laws.proofs.BandedRuns.{PairBanded, run_banded}
+use Rattle.rtc_run_laws.proofs.ConfirmedRuns.{last_rows}
 use Rattle.rtc_run_laws.proofs.ForwardSteps.{forward_entry}
 use Rattle.rtc_run_laws.proofs.RunsTold.{PairTold, new_pair_told, reached_told}
 use Rattle.rtc_run_laws.proofs.StandingEntries.{AreBanded}
@@ -76,6 +77,9 @@ told_is : (s g : ℕ) (sent told : List (Bool × List ℕ)) (others : List Chann
 told_is s g sent told others silent (inl none) = inl (silent none)
 told_is s g sent told others silent (inr over) = inr over
 
+less_before : (n k : ℕ) → n ≤ k → k < 2 ^ 64 - 1 → n < 2 ^ 64 - 1
+less_before n k up left = omega (arith, up, left)
+
 module _ {N : Type 0} (draws : Draws N) where
   -- ---- new pairs
 
@@ -109,12 +113,20 @@ module _ {N : Type 0} (draws : Draws N) where
   -- ---- runs
 
   module _ (stun : List ℕ → Bool) (start : PlainPair N) (new : IsNewPair draws start) (none : start.sdps ≡ []) where
+    -- a number was left before the last step, if one is behind it
+    numbers_before : (entry : Entry PlainMediaEvent) (past : List (Entry PlainMediaEvent)) (pair : PlainPair N)
+        → go_forward (steps_of (entry ∷ past)) ≡ true → (ran : Reached (plain_over draws) stun start (entry ∷ past) pair) → HaveNumbersLeft pair
+        → HaveNumbersLeft ran.0
+    numbers_before entry past pair go ran numbers = λ at.
+        let up = (last_rows (plain_over draws) (plain_over_laws draws) stun start entry past pair go ran at).given in
+        less_before (rtc_at at ran.0).core.channels.given (rtc_at at pair).core.channels.given up (numbers at)
+
     sent_uses : (past : List (Entry PlainMediaEvent)) (pair : PlainPair N) → go_forward (steps_of past) ≡ true → AreInBandSteps (steps_of past)
-        → (ran : Reached (plain_over draws) stun start past pair) → HaveNumbersLeft draws stun start past pair ran → (at : Side) (s g : ℕ)
+        → (ran : Reached (plain_over draws) stun start past pair) → HaveNumbersLeft pair → (at : Side) (s g : ℕ)
         → IsSentOver draws s g (sent_over (plain_over draws) stun start at past pair ran s g) (uses_of (plain_over draws) stun start at past pair ran)
     sent_uses [] pair go steps ran numbers at s g = inl refl
     sent_uses (entry ∷ past) pair go steps ran numbers at s g =
-        by (same_side (side_of entry.step) at) refl (sent_uses past ran.0 forward.0 both.0 ran.1 numbers.1 at s g)
+        by (same_side (side_of entry.step) at) refl (sent_uses past ran.0 forward.0 both.0 ran.1 (numbers_before entry past pair go ran numbers) at s g)
       where
         forward : (go_forward (steps_of past) ≡ true) × (goes_forward entry.step ≡ true)
         forward = forward_entry entry past go
@@ -152,7 +164,7 @@ module _ {N : Type 0} (draws : Draws N) where
         acted h =
             let here = side (side_of entry.step) in
             after_step draws here.1.side.written here.1.side.read (uses (side_of entry.step)) (rtc_at (side_of entry.step) ran.0) here.1.side.told
-            (entries_band (rtc_at (side_of entry.step) ran.0) (band.sides (side_of entry.step))) (numbers.0 (side_of entry.step)) s g
+            (entries_band (rtc_at (side_of entry.step) ran.0) (band.sides (side_of entry.step))) (numbers_before entry past pair go ran numbers (side_of entry.step)) s g
             (sent (side_of entry.step) s g) h
             stun (addr_at (other_side (side_of entry.step)) ran.0) (addr_at (side_of entry.step) ran.0) entry.step ran.0.sdps ran.0.packets entry.outcome entry.table
             (rtc_at (side_of entry.step) pair) pair.sdps pair.packets ran.2.performs.acts
@@ -166,7 +178,7 @@ module _ {N : Type 0} (draws : Draws N) where
         by false e h = h
 
     pub run_sent : (past : List (Entry PlainMediaEvent)) (pair : PlainPair N) → go_forward (steps_of past) ≡ true → AreInBandSteps (steps_of past)
-        → (ran : Reached (plain_over draws) stun start past pair) → HaveNumbersLeft draws stun start past pair ran → (at : Side)
+        → (ran : Reached (plain_over draws) stun start past pair) → HaveNumbersLeft pair → (at : Side)
         → AreSentOfAnnounced (uses_of (plain_over draws) stun start at past pair ran) (sent_over (plain_over draws) stun start at past pair ran)
     run_sent past pair go steps ran numbers at = λ s g.
         sent_is s g (sent_over (plain_over draws) stun start at past pair ran s g) (uses_of (plain_over draws) stun start at past pair ran)
@@ -188,7 +200,7 @@ module _ {N : Type 0} (draws : Draws N) where
         (λ x. told_over (plain_over draws) stun start x past pair ran)
         (reached_told draws stun start past pair go ran (new_pair_told draws start new)) at
 
-    module _ (none : start.sdps ≡ []) (steps : AreInBandSteps (steps_of past)) (numbers : HaveNumbersLeft draws stun start past pair ran) (at : Side) where
+    module _ (none : start.sdps ≡ []) (steps : AreInBandSteps (steps_of past)) (numbers : HaveNumbersLeft pair) (at : Side) where
       pub run_told : AreToldOfAnnounced (uses_of (plain_over draws) stun start (other_side at) past pair ran)
           (told_over (plain_over draws) stun start at past pair ran)
       run_told = λ c s g.

@@ -1,5 +1,5 @@
 -- What each step of a side changes of its channels and of the entries of their streams.
-use Rattle.std.proofs.Common.{◌≡◌, ◌⊎◌, inl, inr, ℕ, Bool, true, false, true≢false, List, [], Option, Result, Ok, Err, sym, subst}
+use Rattle.std.proofs.Common.{◌≡◌, ◌⊎◌, ◌≤◌, inl, inr, ℕ, Bool, true, false, true≢false, List, [], Option, Result, Ok, Err, sym, subst, arith}
 use Rattle.rtc_wire.specs.declared.addr.Addr.{Addr}
 use Rattle.rtc_sctp_laws.specs.StreamMessages.{StreamMessage}
 use Rattle.rtc_peer_core.specs.declared.phase.Phase.TheVariants.{Closed}
@@ -19,6 +19,7 @@ use Rattle.rtc_peer_laws.specs.RowsChanged.{RowsChanged, RowsPolled}
 use Rattle.rtc_peer_laws.proofs.ActedPolls.{poll_acts}
 use Rattle.rtc_peer_laws.proofs.ChangedRows.{changed_on, none_changed}
 use Rattle.rtc_peer_laws.proofs.PolledRows.{polled_changes}
+use Rattle.rtc_peer_laws.proofs.StreamsJoin.{given_on}
 use Rattle.rtc_peer_laws.specs.KeptChannels.{CallKeepsStreams}
 use Rattle.rtc_peer_laws.proofs.KeptInputs.{input_keeps}
 use Rattle.rtc_peer_laws.proofs.KeptPeers.{channel_close_keeps, channel_write_keeps, close_keeps}
@@ -40,18 +41,23 @@ use Rattle.rtc_run_laws.proofs.RowLemmas.{closed_stays}
 use Rattle.rtc_run_laws.proofs.StepWalks.{CallsKeep, calls_keep, close_keep, datagram_keep, drain_keep, poll_keep, write_keep}
 
 module _ {I D S M E X T W N : Type 0} (m : Meanings I D S M E X T W N) where
-  -- the changes of a peer that is not closed, and a closed one stays so
+  -- the changes of a peer that is not closed; a closed one stays so, and no number that a channel was given is taken back
   pub record StepRows (p q : PolledPeer I D S M N) : Type 0 where
     pub closed : p.core.phase ≡ Closed → q.core.phase ≡ Closed
+    pub given : p.core.channels.given ≤ q.core.channels.given
     pub changed : (q.core.phase ≡ Closed) ⊎ RowsChanged m.association p.core.channels p.core.sctp q.core.channels q.core.sctp
 
   pub rows_none : (p q : PolledPeer I D S M N) → q ≡ p → StepRows p q
   rows_none p q is =
       subst (λ (x : PolledPeer I D S M N). StepRows p x) (sym is)
-      (record { closed = λ k. k; changed = inr (none_changed m.association p.core.channels p.core.sctp) })
+      (record { closed = λ k. k; given = omega arith; changed = inr (none_changed m.association p.core.channels p.core.sctp) })
 
   rows_on : (p b q : PolledPeer I D S M N) → StepRows p b → StepRows b q → StepRows p q
-  rows_on p b q h k = record { closed = λ e. k.closed (h.closed e); changed = by h.changed k.changed }
+  rows_on p b q h k = record {
+    closed = λ e. k.closed (h.closed e);
+    given = given_on p.core.channels.given b.core.channels.given q.core.channels.given h.given k.given;
+    changed = by h.changed k.changed;
+  }
     where
       by : (b.core.phase ≡ Closed) ⊎ RowsChanged m.association p.core.channels p.core.sctp b.core.channels b.core.sctp
           → (q.core.phase ≡ Closed) ⊎ RowsChanged m.association b.core.channels b.core.sctp q.core.channels q.core.sctp
@@ -62,7 +68,7 @@ module _ {I D S M E X T W N : Type 0} (m : Meanings I D S M E X T W N) where
           inr (changed_on m.association p.core.channels p.core.sctp b.core.channels b.core.sctp q.core.channels q.core.sctp first after)
 
   call_rows : (p q : PolledPeer I D S M N) (wrote : List StreamMessage) → CallKeepsStreams m p wrote q → StepRows p q
-  call_rows p q wrote keeps = record { closed = keeps.closed; changed = keeps.changed }
+  call_rows p q wrote keeps = record { closed = keeps.closed; given = keeps.given; changed = keeps.changed }
 
   module _ (laws : PartsLaws m) where
     -- polls
@@ -78,6 +84,7 @@ module _ {I D S M E X T W N : Type 0} (m : Meanings I D S M E X T W N) where
     poll_rows : (p : PolledPeer I D S M N) (answer : Result (Output E) RtcError) (q : PolledPeer I D S M N) → PollsPeer m p answer q → StepRows p q
     poll_rows p answer q h = record {
       closed = λ e. (closed_stays m p answer q e h).1;
+      given = (poll_acts m laws p answer q h).streams.given;
       changed = answer_rows p answer q h (poll_acts m laws p answer q h).streams.changed;
     }
 

@@ -114,10 +114,10 @@ pub record HandsOut {N : Type 0} (draws : Draws N) (stun : List ℕ → Bool) (s
       (reached_by (plain_over draws) stun start run.past pair run.went))
       (told_over (plain_over draws) stun start at run.past pair (reached_by (plain_over draws) stun start run.past pair run.went))
   pub unannounced : start.sdps ≡ [] → AreInBandSteps steps
-      → HaveNumbersLeft draws stun start run.past pair (reached_by (plain_over draws) stun start run.past pair run.went) → (at : Side)
+      → HaveNumbersLeft pair → (at : Side)
       → AreToldOfAnnounced (uses_in_run (plain_over draws) stun start steps replies pair run (other_side at))
       (told_over (plain_over draws) stun start at run.past pair (reached_by (plain_over draws) stun start run.past pair run.went))
   pub silent : start.sdps ≡ [] → AreInBandSteps steps
-      → HaveNumbersLeft draws stun start run.past pair (reached_by (plain_over draws) stun start run.past pair run.went) → (at : Side)
+      → HaveNumbersLeft pair → (at : Side)
       → AreGotOfAnnounced (uses_in_run (plain_over draws) stun start steps replies pair run (other_side at))
       (uses_in_run (plain_over draws) stun start steps replies pair run at)

@@ -1,14 +1,10 @@
 -- What is reported and got of a channel that the other side has not announced.
-use Rattle.std.specs.Prelude.{ℕ, ◌≡◌, ◌<◌, ◌-◌, ◌^◌, ◌⊎◌, Bool, true, List, [], ◌∷◌, Some}
+use Rattle.std.specs.Prelude.{ℕ, ◌≡◌, ◌<◌, ◌-◌, ◌^◌, ◌⊎◌, Bool, true, List, [], Some}
 use Rattle.rtc_part_values.specs.Among.{Member}
-use Rattle.rtc_part_values.specs.Draws.{Draws}
-use Rattle.rtc_plain_media.specs.declared.plain_media_event.PlainMediaEvent.{PlainMediaEvent}
 use Rattle.rtc_run_history.specs.declared.side.Side.{Side}
 use Rattle.rtc_run_history.specs.PairState.{rtc_at}
-use Rattle.rtc_run_history.specs.Past.{Entry}
-use Rattle.rtc_run_history.specs.Runs.{Reached}
 use Rattle.rtc_run_laws.specs.ChannelUses.{ChannelUse}
-use Rattle.rtc_run_laws.specs.PlainPairs.{PlainPair, plain_over}
+use Rattle.rtc_run_laws.specs.PlainPairs.{PlainPair}
 use Rattle.rtc_run_laws.specs.ToldMessages.{MessagesTold}
 
 -- a side announced a channel in-band over a generation of a stream
@@ -41,9 +37,6 @@ abbrev pub AreGotOfAnnounced : (others uses : List ChannelUse) → Type 0
 AreGotOfAnnounced others uses =
     (x : ChannelUse) → Member x uses → x.in_band ≡ true → (s : ℕ) → x.stream ≡ Some s → (x.got ≡ []) ⊎ IsAnnouncedOver s x.generation others
 
--- before each step a number was left at both sides for a channel
-abbrev pub HaveNumbersLeft : {N : Type 0} → (draws : Draws N) (stun : List ℕ → Bool) (start : PlainPair N)
-    (past : List (Entry PlainMediaEvent)) (pair : PlainPair N) → Reached (plain_over draws) stun start past pair → Type 0
-HaveNumbersLeft draws stun start [] pair ran = Unit {0}
-HaveNumbersLeft draws stun start (entry ∷ past) pair ran =
-    ((at : Side) → (rtc_at at ran.0).core.channels.given < 2 ^ 64 - 1) × HaveNumbersLeft draws stun start past ran.0 ran.1
+-- a number is left for a channel at both sides
+abbrev pub HaveNumbersLeft : {N : Type 0} → PlainPair N → Type 0
+HaveNumbersLeft pair = (at : Side) → (rtc_at at pair).core.channels.given < 2 ^ 64 - 1

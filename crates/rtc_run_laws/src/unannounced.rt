@@ -37,17 +37,17 @@ pub fn unannounced_channels_are_silent<N: Ids>()
         (uses_of (plain_over N.ids) stun start at past pair ran) }
     ensures sent { (stun : List ℕ → Bool) (start pair : PlainPair N) (past : List (Entry PlainMediaEvent)) → IsNewPair N.ids start
         → start.sdps ≡ [] → go_forward (steps_of past) ≡ true → AreInBandSteps (steps_of past)
-        → (ran : Reached (plain_over N.ids) stun start past pair) → HaveNumbersLeft N.ids stun start past pair ran → (at : Side)
+        → (ran : Reached (plain_over N.ids) stun start past pair) → HaveNumbersLeft pair → (at : Side)
         → AreSentOfAnnounced (uses_of (plain_over N.ids) stun start at past pair ran)
         (sent_over (plain_over N.ids) stun start at past pair ran) }
     ensures told { (stun : List ℕ → Bool) (start pair : PlainPair N) (past : List (Entry PlainMediaEvent)) → IsNewPair N.ids start
         → start.sdps ≡ [] → go_forward (steps_of past) ≡ true → AreInBandSteps (steps_of past)
-        → (ran : Reached (plain_over N.ids) stun start past pair) → HaveNumbersLeft N.ids stun start past pair ran → (at : Side)
+        → (ran : Reached (plain_over N.ids) stun start past pair) → HaveNumbersLeft pair → (at : Side)
         → AreToldOfAnnounced (uses_of (plain_over N.ids) stun start (other_side at) past pair ran)
         (told_over (plain_over N.ids) stun start at past pair ran) }
     ensures got { (stun : List ℕ → Bool) (start pair : PlainPair N) (past : List (Entry PlainMediaEvent)) → IsNewPair N.ids start
         → start.sdps ≡ [] → go_forward (steps_of past) ≡ true → AreInBandSteps (steps_of past)
-        → (ran : Reached (plain_over N.ids) stun start past pair) → HaveNumbersLeft N.ids stun start past pair ran → (at : Side)
+        → (ran : Reached (plain_over N.ids) stun start past pair) → HaveNumbersLeft pair → (at : Side)
         → AreGotOfAnnounced (uses_of (plain_over N.ids) stun start (other_side at) past pair ran)
         (uses_of (plain_over N.ids) stun start at past pair ran) }
 {}
