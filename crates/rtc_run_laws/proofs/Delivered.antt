@@ -175,23 +175,23 @@ module _ {N : Type 0} (draws : Draws N) where
         (all_member (InBandTold (plain_over draws) y.written y.read q) vs l y.told.each theirs h.writer_in_band))
 
   module _ (pair : PlainPair N) (uses : Side → List ChannelUse) (sent : Side → Sent) (told : Side → MessagesTold) (h : PairTold draws pair uses sent told) where
-    pair_delivered : (at : Side) → HeardSide (uses at) (rtc_at at pair)
-        → AreAllDelivered (uses at) (rtc_at at pair) (uses (other_side at)) (rtc_at (other_side at) pair)
-    pair_delivered Left heard = λ x y mine theirs d acknowledged.
+    pair_delivered : (at : Side) (drained : ℕ → Type 0) → ((channel : ℕ) → drained channel → HeardSide channel (uses at) (rtc_at at pair))
+        → AreAllDelivered drained (uses at) (rtc_at at pair) (uses (other_side at)) (rtc_at (other_side at) pair)
+    pair_delivered Left drained heard = λ x y mine theirs rested d acknowledged.
         delivered h.acts.left h.acts.right (uses Left) (uses Right) pair.left pair.right h.left.side h.right.side x y d mine theirs
         (λ here there none. side_all h.acts pair Right d.reader.stream x.generation h.exchange here there none) acknowledged
-        (heard_open draws (uses Left) pair.left x heard mine d.reader_in_band d.reader.stream d.reader.of d.there d.reader.generation)
-    pair_delivered Right heard = λ x y mine theirs d acknowledged.
+        (heard_open draws (uses Left) pair.left x (heard x.channel rested) mine d.reader_in_band d.reader.stream d.reader.of d.there d.reader.generation)
+    pair_delivered Right drained heard = λ x y mine theirs rested d acknowledged.
         delivered h.acts.right h.acts.left (uses Right) (uses Left) pair.right pair.left h.right.side h.left.side x y d mine theirs
         (λ here there none. side_all h.acts pair Left d.reader.stream x.generation h.exchange here there none) acknowledged
-        (heard_open draws (uses Right) pair.right x heard mine d.reader_in_band d.reader.stream d.reader.of d.there d.reader.generation)
+        (heard_open draws (uses Right) pair.right x (heard x.channel rested) mine d.reader_in_band d.reader.stream d.reader.of d.there d.reader.generation)
 
   pub run_delivered : (stun : List ℕ → Bool) (start : PlainPair N) → IsNewPair draws start → (past : List (Entry PlainMediaEvent)) (pair : PlainPair N)
-      → go_forward (steps_of past) ≡ true → (ran : Reached (plain_over draws) stun start past pair) → (at : Side) → IsDrained at past
-      → AreAllDelivered (uses_of (plain_over draws) stun start at past pair ran) (rtc_at at pair)
+      → go_forward (steps_of past) ≡ true → (ran : Reached (plain_over draws) stun start past pair) → (at : Side)
+      → AreAllDelivered (λ channel. IsDrained at channel past) (uses_of (plain_over draws) stun start at past pair ran) (rtc_at at pair)
       (uses_of (plain_over draws) stun start (other_side at) past pair ran) (rtc_at (other_side at) pair)
-  run_delivered stun start new past pair go ran at drained =
+  run_delivered stun start new past pair go ran at =
       pair_delivered pair (λ x. uses_of (plain_over draws) stun start x past pair ran) (λ x. sent_over (plain_over draws) stun start x past pair ran)
       (λ x. told_over (plain_over draws) stun start x past pair ran)
-      (reached_told draws stun start past pair go ran (new_pair_told draws start new)) at
-      (heard_reached draws stun start past pair go ran (new_pair_told draws start new) (new_unused draws start new) at drained)
+      (reached_told draws stun start past pair go ran (new_pair_told draws start new)) at (λ channel. IsDrained at channel past)
+      (λ channel drained. heard_reached draws stun start past pair go ran (new_pair_told draws start new) (new_unused draws start new) at channel drained)

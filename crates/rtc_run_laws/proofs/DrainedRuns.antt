@@ -1,4 +1,4 @@
--- Where a side was drained, all was got that was sent.
+-- Where a side was drained for a channel, all was got that was sent over it.
 use Rattle.std.proofs.Common.{◌≡◌, ◌∙◌, ◌∷◌, ◌&&◌, ap, if◌then◌else◌, ℕ, Bool, true, false, true≢false, List, [], refl, sym, subst}
 use Rattle.rtc_part_association.specs.AssociationActs.{LimitsSet, Stirred}
 use Rattle.rtc_part_values.specs.Why.{Other}
@@ -65,42 +65,42 @@ module _ {N : Type 0} (draws : Draws N) where
   new_unused pair h Right = new_empty pair.right h.right
 
   -- a step of this side called its peer, or left it and what was announced
-  heard_here : (called : Bool) (step : Step) (outcome : Outcome PlainMediaEvent) (earlier : Type 0) (old new : PlainPolled N) (uses acted : List ChannelUse)
-      → ((earlier → HeardSide uses old) → DrainedByStep step outcome earlier → HeardSide acted new)
-      → (called ≡ false → (new ≡ old) × (acted ≡ uses)) → (earlier → HeardSide uses old) → DrainedByEntry called step outcome earlier → HeardSide acted new
-  heard_here true step outcome earlier old new uses acted acts same before d = acts before d
-  heard_here false step outcome earlier old new uses acted acts same before d =
-      subst (λ (l : List ChannelUse). HeardSide l new) (sym (same refl).1) (subst (λ (p : PlainPolled N). HeardSide uses p) (sym (same refl).0) (before d))
+  heard_here : (c : ℕ) (called : Bool) (step : Step) (outcome : Outcome PlainMediaEvent) (earlier : Type 0) (old new : PlainPolled N) (uses acted : List ChannelUse)
+      → ((earlier → HeardSide c uses old) → DrainedByStep c step outcome earlier → HeardSide c acted new)
+      → (called ≡ false → (new ≡ old) × (acted ≡ uses)) → (earlier → HeardSide c uses old) → DrainedByEntry c called step outcome earlier → HeardSide c acted new
+  heard_here c true step outcome earlier old new uses acted acts same before d = acts before d
+  heard_here c false step outcome earlier old new uses acted acts same before d =
+      subst (λ (l : List ChannelUse). HeardSide c l new) (sym (same refl).1) (subst (λ (p : PlainPolled N). HeardSide c uses p) (sym (same refl).0) (before d))
 
   -- a step of one side, as either of them sees it
-  heard_after : (at x : Side) (between pair : PlainPair N) (uses : Side → List ChannelUse) (acted : List ChannelUse → List ChannelUse) (step : Step)
+  heard_after : (c : ℕ) (at x : Side) (between pair : PlainPair N) (uses : Side → List ChannelUse) (acted : List ChannelUse → List ChannelUse) (step : Step)
       (outcome : Outcome PlainMediaEvent) (earlier : Side → Type 0) → rtc_at (other_side at) pair ≡ rtc_at (other_side at) between
-      → ((earlier at → HeardSide (uses at) (rtc_at at between)) → DrainedByStep step outcome (earlier at)
-      → HeardSide (acted (uses at)) (rtc_at at pair))
+      → ((earlier at → HeardSide c (uses at) (rtc_at at between)) → DrainedByStep c step outcome (earlier at)
+      → HeardSide c (acted (uses at)) (rtc_at at pair))
       → (calls_peer outcome ≡ false → (rtc_at at pair ≡ rtc_at at between) × (acted (uses at) ≡ uses at))
-      → (earlier x → HeardSide (uses x) (rtc_at x between))
-      → DrainedByEntry (same_side at x && calls_peer outcome) step outcome (earlier x)
-      → HeardSide (if same_side at x then acted (uses x) else uses x) (rtc_at x pair)
-  heard_after Left Left between pair uses acted step outcome earlier other acts same before d =
-      heard_here (calls_peer outcome) step outcome (earlier Left) (rtc_at Left between) (rtc_at Left pair) (uses Left) (acted (uses Left)) acts same before d
-  heard_after Left Right between pair uses acted step outcome earlier other acts same before d =
-      subst (λ (p : PlainPolled N). HeardSide (uses Right) p) (sym other) (before d)
-  heard_after Right Left between pair uses acted step outcome earlier other acts same before d =
-      subst (λ (p : PlainPolled N). HeardSide (uses Left) p) (sym other) (before d)
-  heard_after Right Right between pair uses acted step outcome earlier other acts same before d =
-      heard_here (calls_peer outcome) step outcome (earlier Right) (rtc_at Right between) (rtc_at Right pair) (uses Right) (acted (uses Right)) acts same before d
+      → (earlier x → HeardSide c (uses x) (rtc_at x between))
+      → DrainedByEntry c (same_side at x && calls_peer outcome) step outcome (earlier x)
+      → HeardSide c (if same_side at x then acted (uses x) else uses x) (rtc_at x pair)
+  heard_after c Left Left between pair uses acted step outcome earlier other acts same before d =
+      heard_here c (calls_peer outcome) step outcome (earlier Left) (rtc_at Left between) (rtc_at Left pair) (uses Left) (acted (uses Left)) acts same before d
+  heard_after c Left Right between pair uses acted step outcome earlier other acts same before d =
+      subst (λ (p : PlainPolled N). HeardSide c (uses Right) p) (sym other) (before d)
+  heard_after c Right Left between pair uses acted step outcome earlier other acts same before d =
+      subst (λ (p : PlainPolled N). HeardSide c (uses Left) p) (sym other) (before d)
+  heard_after c Right Right between pair uses acted step outcome earlier other acts same before d =
+      heard_here c (calls_peer outcome) step outcome (earlier Right) (rtc_at Right between) (rtc_at Right pair) (uses Right) (acted (uses Right)) acts same before d
 
   pub heard_reached : (stun : List ℕ → Bool) (start : PlainPair N) (past : List (Entry PlainMediaEvent)) (pair : PlainPair N)
       → go_forward (steps_of past) ≡ true → (ran : Reached (plain_over draws) stun start past pair) → PairTold draws start (λ x. []) (λ x s g. []) (λ x c s g. []) → AreUnused (plain_over draws) (plain_over_laws draws) start
-      → (at : Side) → IsDrained at past → HeardSide (uses_of (plain_over draws) stun start at past pair ran) (rtc_at at pair)
-  heard_reached stun start [] pair go ran h unused at d = absurd d
-  heard_reached stun start (entry ∷ past) pair go ran h unused at d =
-      heard_after (side_of entry.step) at ran.0 pair uses acted entry.step entry.outcome
-      (λ x. IsDrained x past) ran.2.performs.other
+      → (at : Side) (c : ℕ) → IsDrained at c past → HeardSide c (uses_of (plain_over draws) stun start at past pair ran) (rtc_at at pair)
+  heard_reached stun start [] pair go ran h unused at c d = absurd d
+  heard_reached stun start (entry ∷ past) pair go ran h unused at c d =
+      heard_after c (side_of entry.step) at ran.0 pair uses acted entry.step entry.outcome
+      (λ x. IsDrained x c past) ran.2.performs.other
       (λ before e.
-      acts_heard draws there.other (rtc_at (other_side (side_of entry.step)) ran.0) (sent (side_of entry.step)) stun (addr_at (other_side (side_of entry.step)) ran.0) (addr_at (side_of entry.step) ran.0) entry.step (rtc_at (side_of entry.step) ran.0) ran.0.sdps
+      acts_heard draws c there.other (rtc_at (other_side (side_of entry.step)) ran.0) (sent (side_of entry.step)) stun (addr_at (other_side (side_of entry.step)) ran.0) (addr_at (side_of entry.step) ran.0) entry.step (rtc_at (side_of entry.step) ran.0) ran.0.sdps
       ran.0.packets entry.outcome entry.table (rtc_at (side_of entry.step) pair) pair.sdps pair.packets (uses (side_of entry.step))
-      (told (side_of entry.step)) (forward_entry entry past go).1 ran.2.performs.acts there.stood (IsDrained (side_of entry.step) past) before e
+      (told (side_of entry.step)) (forward_entry entry past go).1 ran.2.performs.acts there.stood (IsDrained (side_of entry.step) c past) before e
       (empty (side_of entry.step)))
       (λ none. (
         uncalled_same (plain_over draws) stun (addr_at (other_side (side_of entry.step)) ran.0) (addr_at (side_of entry.step) ran.0) entry.step (rtc_at (side_of entry.step) ran.0) ran.0.sdps
@@ -108,7 +108,7 @@ module _ {N : Type 0} (draws : Draws N) where
         uncalled_uses (plain_over draws) stun (addr_at (other_side (side_of entry.step)) ran.0) (addr_at (side_of entry.step) ran.0) entry.step (rtc_at (side_of entry.step) ran.0) ran.0.sdps
             ran.0.packets entry.outcome entry.table (rtc_at (side_of entry.step) pair) pair.sdps pair.packets ran.2.performs.acts (uses (side_of entry.step)) none,
       ))
-      (λ e. heard_reached stun start past ran.0 (forward_entry entry past go).0 ran.1 h unused at e) d
+      (λ e. heard_reached stun start past ran.0 (forward_entry entry past go).0 ran.1 h unused at c e) d
     where
       uses : Side → List ChannelUse
       uses x = uses_of (plain_over draws) stun start x past ran.0 ran.1
@@ -134,12 +134,12 @@ module _ {N : Type 0} (draws : Draws N) where
 
   pub pair_drained : (stun : List ℕ → Bool) (start : PlainPair N) (past : List (Entry PlainMediaEvent)) (pair : PlainPair N)
       → go_forward (steps_of past) ≡ true → (ran : Reached (plain_over draws) stun start past pair) → PairTold draws start (λ x. []) (λ x s g. []) (λ x c s g. []) → AreUnused (plain_over draws) (plain_over_laws draws) start
-      → (at : Side) → IsDrained at past
-      → AreAllHandedOut draws (uses_of (plain_over draws) stun start at past pair ran) (rtc_at at pair)
+      → (at : Side)
+      → AreAllHandedOut draws (λ channel. IsDrained at channel past) (uses_of (plain_over draws) stun start at past pair ran) (rtc_at at pair)
       (uses_of (plain_over draws) stun start (other_side at) past pair ran) (rtc_at (other_side at) pair)
-  pair_drained stun start past pair go ran h unused at d = λ x y mine theirs joined acknowledged.
+  pair_drained stun start past pair go ran h unused at = λ x y mine theirs d joined acknowledged.
       pair_wholly draws pair (λ z. uses_of (plain_over draws) stun start z past pair ran) (λ z. sent_over (plain_over draws) stun start z past pair ran)
       (λ z. told_over (plain_over draws) stun start z past pair ran) at (reached_told draws stun start past pair go ran h) x y mine theirs
       joined acknowledged
-      (heard_there draws (uses_of (plain_over draws) stun start at past pair ran) (rtc_at at pair) x (heard_reached stun start past pair go ran h unused at d) mine
+      (heard_there draws (uses_of (plain_over draws) stun start at past pair ran) (rtc_at at pair) x (heard_reached stun start past pair go ran h unused at x.channel d) mine
       joined.reader_in_band joined.reader)

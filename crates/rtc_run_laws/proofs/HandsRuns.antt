@@ -39,8 +39,8 @@ module _ {N : Type 0} (draws : Draws N) where
             (λ z. told_over (plain_over draws) stun start z run.past pair ran) at told;
         all = λ at. pair_wholly draws pair (uses_in_run (plain_over draws) stun start steps replies pair run) (λ z. sent_over (plain_over draws) stun start z run.past pair ran)
             (λ z. told_over (plain_over draws) stun start z run.past pair ran) at told;
-        drained = λ at d. pair_drained draws stun start run.past pair go ran (new_pair_told draws start new) (new_unused draws start new) at d;
-        delivered = λ at d. run_delivered draws stun start new run.past pair go ran at d;
+        drained = λ at. pair_drained draws stun start run.past pair go ran (new_pair_told draws start new) (new_unused draws start new) at;
+        delivered = λ at. run_delivered draws stun start new run.past pair go ran at;
         unsent = λ at. run_told_sent draws stun start new run.past pair go ran at;
         unannounced = λ none banded numbers at.
             run_told draws stun start new run.past pair go ran none (subst (λ (l : List Step). AreInBandSteps l) (sym run.steps_are) banded) numbers at;

@@ -35,7 +35,7 @@ module _ {N : Type 0} (draws : Draws N) where
 
   pub side_open : (a b : PeerActs) (us vs : List ChannelUse) (p q : PlainPolled N) → SideStood draws a us p → SideStood draws b vs q
       → IsSettledPeer p → IsSettledPeer q → AreHeard plain_meaning p.core.sctp.association p.core.sctp.entries
-      → AreHeard plain_meaning q.core.sctp.association q.core.sctp.entries → AreAllHandedOut draws us p vs q → AreAllHandedOut draws vs q us p
+      → AreHeard plain_meaning q.core.sctp.association q.core.sctp.entries → AreAllHandedOut draws (λ channel. Unit {0}) us p vs q → AreAllHandedOut draws (λ channel. Unit {0}) vs q us p
       → ((s g : ℕ) → IsPrefix (read s g a.association) (written s g b.association))
       → ((s g : ℕ) → ended s g a.association ≡ false → ended s g b.association ≡ false
       → has_unacknowledged s p.core.sctp.association.outbox.items ≡ false
@@ -59,10 +59,10 @@ module _ {N : Type 0} (draws : Draws N) where
         other_member = it.member;
         joined = it.joined;
         got =
-            got mine.use_of it.other mine.member it.member it.joined
+            got mine.use_of it.other mine.member it.member tt it.joined
             (none_has it.joined.writer.stream q.core.sctp.association.outbox.items there.acknowledged);
         sent =
-            sent it.other mine.use_of it.member mine.member (joined_back mine.use_of p it.other q it.joined)
+            sent it.other mine.use_of it.member mine.member tt (joined_back mine.use_of p it.other q it.joined)
             (none_has it.joined.reader.stream p.core.sctp.association.outbox.items here.acknowledged);
       }
     where

@@ -26,6 +26,7 @@ use Rattle.rtc_run_laws.proofs.RunsExchange.{side_all, side_reads}
 use Rattle.rtc_run_laws.proofs.StepsExchange.{plain_over_laws}
 use Rattle.rtc_run_laws.specs.ChannelUses.{ChannelUse}
 use Rattle.rtc_run_laws.specs.DrainedSides.{IsDrained}
+use Rattle.rtc_run_laws.specs.HandedOut.{AreAllHandedOut}
 use Rattle.rtc_run_laws.specs.SentMessages.{sent_over}
 use Rattle.rtc_run_laws.specs.ToldMessages.{told_over}
 use Rattle.rtc_run_laws.specs.ConfirmedChannels.{WasConfirmed}
@@ -67,8 +68,8 @@ module _ {N : Type 0} (draws : Draws N) where
         went_unused (plain_over draws) (plain_over_laws draws) (λ earlier between one after. Enters (plain_over draws) stun between one after)
         (λ earlier between one after k. (stun, k)) start past pair unused ran
 
-    drained : (at : Side) → IsDrained at past
-    drained at = resting_drained at past (settled.resting at)
+    drained : (at : Side) (channel : ℕ) → IsDrained at channel past
+    drained at channel = resting_drained at channel past (settled.resting at)
 
     pub heard : (at : Side) → AreHeard plain_meaning (rtc_at at pair).core.sctp.association (rtc_at at pair).core.sctp.entries
     heard at = last_heard draws (rtc_at at pair) (resting_last (plain_over draws) (λ n. Unit {0}) stun start past pair ran at (settled.resting at)) (settled.peers at) (empty at).empty
@@ -84,16 +85,21 @@ module _ {N : Type 0} (draws : Draws N) where
     settled_level at s =
         record { generation_is = (level at s).generation_is; unclosed_here = (level at s).here; unclosed_there = (level at s).there }
 
+    all_drained : (at : Side)
+        → AreAllHandedOut draws (λ channel. Unit {0}) (uses at) (rtc_at at pair) (uses (other_side at)) (rtc_at (other_side at) pair)
+    all_drained at = λ x y mine theirs rests joined acknowledged.
+        pair_drained draws stun start past pair go ran h unused at x y mine theirs (drained at x.channel) joined acknowledged
+
     pub settled_open : (at : Side) → AreOpenAtBoth draws (uses at) (rtc_at at pair) (uses (other_side at)) (rtc_at (other_side at) pair)
     settled_open Left =
         side_open draws told.acts.left told.acts.right (uses Left) (uses Right) pair.left pair.right told.left.side told.right.side (settled.peers Left)
-        (settled.peers Right) (heard Left) (heard Right) (pair_drained draws stun start past pair go ran h unused Left (drained Left))
-        (pair_drained draws stun start past pair go ran h unused Right (drained Right)) (λ s g. side_reads told.acts pair Right s g told.exchange)
+        (settled.peers Right) (heard Left) (heard Right) (all_drained Left)
+        (all_drained Right) (λ s g. side_reads told.acts pair Right s g told.exchange)
         (λ s g. side_all told.acts pair Left s g told.exchange) (level Left)
     settled_open Right =
         side_open draws told.acts.right told.acts.left (uses Right) (uses Left) pair.right pair.left told.right.side told.left.side (settled.peers Right)
-        (settled.peers Left) (heard Right) (heard Left) (pair_drained draws stun start past pair go ran h unused Right (drained Right))
-        (pair_drained draws stun start past pair go ran h unused Left (drained Left)) (λ s g. side_reads told.acts pair Left s g told.exchange)
+        (settled.peers Left) (heard Right) (heard Left) (all_drained Right)
+        (all_drained Left) (λ s g. side_reads told.acts pair Left s g told.exchange)
         (λ s g. side_all told.acts pair Right s g told.exchange) (level Right)
 
     none_taken : (at : Side) (s : ℕ) → AreInBandStreams s (rtc_at at pair) (rtc_at (other_side at) pair)

@@ -118,15 +118,15 @@ module _ {N : Type 0} (draws : Draws N) where
   stands_heard q c s t g got rest same are live (IsOver closed k) = absurd (live closed)
 
   -- over a connection by which application data can go
-  waited_heard : (p q : PlainPolled N) (moment : ℕ) (uses : List ChannelUse) (written read : List StreamMessage)
+  waited_heard : (own : ℕ) (p q : PlainPolled N) (moment : ℕ) (uses : List ChannelUse) (written read : List StreamMessage)
       → PollsPeer (plain_over draws) p (Ok (Timeout moment)) q → can_send plain_dtls q.core.dtls ≡ true → is_established q.core.sctp.state ≡ true
       → is_started q.core.sctp.association ≡ true → SideTold (plain_over draws) uses written read q → (q.core.phase ≡ Closed → ⊥)
-      → Ends (plain_over draws) moment q → HeardUses uses q
-  waited_heard p q moment uses written read polled sends established started told live (AtRest closed is reason) = absurd (live closed)
-  waited_heard p q moment uses written read polled sends established started told live (Waiting last v visit alive unclosed is same) =
+      → Ends (plain_over draws) moment q → HeardUses own uses q
+  waited_heard own p q moment uses written read polled sends established started told live (AtRest closed is reason) = absurd (live closed)
+  waited_heard own p q moment uses written read polled sends established started told live (Waiting last v visit alive unclosed is same) =
       record {
         quiet = subst (λ (d : DtlsState DtlsContents). HoldsNoOutput d.instance) (sym dtls_is) (rests_empty v.core.dtls.active v.core.dtls.instance v.transport.dtls_wake drained.dtls can);
-        each = all_kept (InBandTold (plain_over draws) written read q) (HeardUse q) uses by told.each;
+        each = all_kept (InBandTold (plain_over draws) written read q) (HeardUse own q) uses by told.each;
       }
     where
       drained : Drained (plain_over draws) (plain_over_laws draws) v
@@ -150,8 +150,8 @@ module _ {N : Type 0} (draws : Draws N) where
       are : AreHeard plain_meaning q.core.sctp.association q.core.sctp.entries
       are = all.streams (both_are (is_established q.core.sctp.state) (is_started q.core.sctp.association) established started)
 
-      by : (x : ChannelUse) → InBandTold (plain_over draws) written read q x → HeardUse q x
-      by x t = λ band s of.
+      by : (x : ChannelUse) → InBandTold (plain_over draws) written read q x → HeardUse own q x
+      by x t = λ band is s of.
           let k = t band in
           stands_heard q x.channel k.stream s x.generation x.got k.rest (some_is k.stream s (sym k.stream_is ∙ of)) are live k.stands
 
@@ -179,23 +179,23 @@ module _ {N : Type 0} (draws : Draws N) where
   stands_live c s g got rest read q live some running (HasGone gone past k) = inr gone
   stands_live c s g got rest read q live some running (IsOver closed k) = absurd (live closed)
 
-  some_live : (uses : List ChannelUse) (written read : List StreamMessage) (q : PlainPolled N) → (q.core.phase ≡ Closed → ⊥)
+  some_live : (own : ℕ) (uses : List ChannelUse) (written read : List StreamMessage) (q : PlainPolled N) → (q.core.phase ≡ Closed → ⊥)
       → AllUses (InBandTold (plain_over draws) written read q) uses → AllUses (λ x. AreRunning plain_meaning q.core.sctp) uses
-      → IsReadLive read q ⊎ AllUses (GoneUse q) uses
-  some_live [] written read q live told running = inr tt
-  some_live (x ∷ uses) written read q live told running = first x.in_band refl (some_live uses written read q live told.1 running.1)
+      → IsReadLive read q ⊎ AllUses (GoneUse own q) uses
+  some_live own [] written read q live told running = inr tt
+  some_live own (x ∷ uses) written read q live told running = first x.in_band refl (some_live own uses written read q live told.1 running.1)
     where
-      joined : IsReadLive read q ⊎ IsGone x.channel q.core.channels → IsReadLive read q ⊎ AllUses (GoneUse q) uses
-          → IsReadLive read q ⊎ (GoneUse q x × AllUses (GoneUse q) uses)
+      joined : IsReadLive read q ⊎ IsGone x.channel q.core.channels → IsReadLive read q ⊎ AllUses (GoneUse own q) uses
+          → IsReadLive read q ⊎ (GoneUse own q x × AllUses (GoneUse own q) uses)
       joined (inl found) rest = inl found
       joined (inr gone) (inl found) = inl found
-      joined (inr gone) (inr others) = inr (λ band. gone, others)
+      joined (inr gone) (inr others) = inr (λ band is. gone, others)
 
-      skipped : (x.in_band ≡ true → ⊥) → IsReadLive read q ⊎ AllUses (GoneUse q) uses → IsReadLive read q ⊎ (GoneUse q x × AllUses (GoneUse q) uses)
+      skipped : (x.in_band ≡ true → ⊥) → IsReadLive read q ⊎ AllUses (GoneUse own q) uses → IsReadLive read q ⊎ (GoneUse own q x × AllUses (GoneUse own q) uses)
       skipped out (inl found) = inl found
-      skipped out (inr others) = inr (λ band. absurd (out band), others)
+      skipped out (inr others) = inr (λ band is. absurd (out band), others)
 
-      first : (b : Bool) → x.in_band ≡ b → IsReadLive read q ⊎ AllUses (GoneUse q) uses → IsReadLive read q ⊎ (GoneUse q x × AllUses (GoneUse q) uses)
+      first : (b : Bool) → x.in_band ≡ b → IsReadLive read q ⊎ AllUses (GoneUse own q) uses → IsReadLive read q ⊎ (GoneUse own q x × AllUses (GoneUse own q) uses)
       first true e rest =
           let t = told.0 e in
           joined
@@ -203,24 +203,24 @@ module _ {N : Type 0} (draws : Draws N) where
           (some_read t.stream x.generation read t.before t.last t.rest t.read_is) running.0 t.stands) rest
       first false e rest = skipped (λ band. true≢false (sym band ∙ e)) rest
 
-  pub timeout_side : (p q : PlainPolled N) (moment : ℕ) (acts : PeerActs) (uses : List ChannelUse) → PollsPeer (plain_over draws) p (Ok (Timeout moment)) q
+  pub timeout_side : (own : ℕ) (p q : PlainPolled N) (moment : ℕ) (acts : PeerActs) (uses : List ChannelUse) → PollsPeer (plain_over draws) p (Ok (Timeout moment)) q
       → IsUnused (plain_over draws) (plain_over_laws draws) q.core → SideStood draws acts uses q → AllUses (λ x. AreRunning plain_meaning q.core.sctp) uses
-      → HeardSide uses q
-  timeout_side p q moment acts uses polled unused side running = by q.core.phase refl
+      → HeardSide own uses q
+  timeout_side own p q moment acts uses polled unused side running = by q.core.phase refl
     where
-      found : (q.core.phase ≡ Closed → ⊥) → IsReadLive side.read q ⊎ AllUses (GoneUse q) uses → HeardUses uses q ⊎ AllUses (GoneUse q) uses
+      found : (q.core.phase ≡ Closed → ⊥) → IsReadLive side.read q ⊎ AllUses (GoneUse own q) uses → HeardUses own uses q ⊎ AllUses (GoneUse own q) uses
       found live (inr gone) = inr gone
       found live (inl h) =
           inl
-          (waited_heard p q moment uses side.written side.read polled
+          (waited_heard own p q moment uses side.written side.read polled
           (both_are (is_some q.core.dtls.active) (phase_is_finished q.core.dtls.instance.phase) (unused.role h.running.0)
           (read_finished draws acts uses q side h.some)) h.running.1 h.running.0 side.told live
           (poll_ends (plain_over draws) p.core.phase moment p q refl polled))
 
-      waited : (q.core.phase ≡ Closed → ⊥) → HeardUses uses q ⊎ AllUses (GoneUse q) uses
-      waited live = found live (some_live uses side.written side.read q live side.told.each running)
+      waited : (q.core.phase ≡ Closed → ⊥) → HeardUses own uses q ⊎ AllUses (GoneUse own q) uses
+      waited live = found live (some_live own uses side.written side.read q live side.told.each running)
 
-      by : (phase : Phase) → q.core.phase ≡ phase → HeardSide uses q
+      by : (phase : Phase) → q.core.phase ≡ phase → HeardSide own uses q
       by Closed e = inl e
       by Alive e = inr (waited (λ closed. let clash : Alive ≡ Closed = sym e ∙ closed in cc))
       by Closing e = inr (waited (λ closed. let clash : Closing ≡ Closed = sym e ∙ closed in cc))

@@ -54,13 +54,15 @@ AreToldWhole readers writers told =
     → x.generation ≡ y.generation
     → told x.channel s x.generation ≡ x.got
 
--- If two such channels stay open at both sides, and the writer has no unacknowledged item of the stream, all was got that was sent.
-abbrev pub AreAllHandedOut : {N : Type 0} → Draws N → (readers : List ChannelUse) → PlainPolled N → (writers : List ChannelUse)
-    → PlainPolled N → Type 0
-AreAllHandedOut draws readers p writers q =
+-- If two such channels stay open at both sides, the reader was drained for its own, and the writer has no unacknowledged item of the
+-- stream, all was got that was sent.
+abbrev pub AreAllHandedOut : {N : Type 0} → Draws N → (drained : ℕ → Type 0) → (readers : List ChannelUse) → PlainPolled N
+    → (writers : List ChannelUse) → PlainPolled N → Type 0
+AreAllHandedOut draws drained readers p writers q =
     (x y : ChannelUse)
     → Member x readers
     → Member y writers
+    → drained x.channel
     → (h : AreJoinedUses (plain_over draws) x p y q)
     → has_unacknowledged h.writer.stream q.core.sctp.association.outbox.items ≡ false
     → x.got ≡ y.sent
@@ -101,12 +103,10 @@ pub record HandsOut {N : Type 0} (draws : Draws N) (stun : List ℕ → Bool) (s
       → AreWhollyHandedOut draws (uses_in_run (plain_over draws) stun start steps replies pair run at) (rtc_at at pair)
       (uses_in_run (plain_over draws) stun start steps replies pair run (other_side at)) (rtc_at (other_side at) pair)
   pub drained : (at : Side)
-      → IsDrained at run.past
-      → AreAllHandedOut draws (uses_in_run (plain_over draws) stun start steps replies pair run at) (rtc_at at pair)
+      → AreAllHandedOut draws (λ channel. IsDrained at channel run.past) (uses_in_run (plain_over draws) stun start steps replies pair run at) (rtc_at at pair)
       (uses_in_run (plain_over draws) stun start steps replies pair run (other_side at)) (rtc_at (other_side at) pair)
   pub delivered : (at : Side)
-      → IsDrained at run.past
-      → AreAllDelivered (uses_in_run (plain_over draws) stun start steps replies pair run at) (rtc_at at pair)
+      → AreAllDelivered (λ channel. IsDrained at channel run.past) (uses_in_run (plain_over draws) stun start steps replies pair run at) (rtc_at at pair)
       (uses_in_run (plain_over draws) stun start steps replies pair run (other_side at)) (rtc_at (other_side at) pair)
   pub unsent : (at : Side)
       → AreToldOfSent

@@ -44,11 +44,11 @@ returns-clause-all g c = λ stun start pair past new go ran at.
     (reached_told g.N.Ids.ids stun start past pair go ran (new_pair_told g.N.Ids.ids start new))
 
 pub returns-clause-drained : goal.returns-clause-drained
-returns-clause-drained g c = λ stun start pair past new go ran at drained.
-    pair_drained g.N.Ids.ids stun start past pair go ran (new_pair_told g.N.Ids.ids start new) (new_unused g.N.Ids.ids start new) at drained
+returns-clause-drained g c = λ stun start pair past new go ran at.
+    pair_drained g.N.Ids.ids stun start past pair go ran (new_pair_told g.N.Ids.ids start new) (new_unused g.N.Ids.ids start new) at
 
 pub returns-clause-delivered : goal.returns-clause-delivered
-returns-clause-delivered g c = λ stun start pair past new go ran at drained. run_delivered g.N.Ids.ids stun start new past pair go ran at drained
+returns-clause-delivered g c = λ stun start pair past new go ran at. run_delivered g.N.Ids.ids stun start new past pair go ran at
 
 pub returns-clause-ran : goal.returns-clause-ran
 returns-clause-ran g c = λ stun start pair steps replies new go run. run_hands_out g.N.Ids.ids stun start pair steps replies new go run
