@@ -79,12 +79,10 @@ AreWhollyHandedOut draws readers p writers q =
     → has_unread p.core.sctp.association h.reader.stream x.generation ≡ false
     → x.got ≡ y.sent
 
--- In a run by these steps with these replies, of the channels that were opened in-band, each side announced each at most once, and at most
--- one over each generation of a stream, to which it sent nothing before. If the other side announced one over that generation too, nothing
--- was reported to it of its own channel there before, and it got over it a prefix of what the other side sent over its own. At the end of
--- the run that is all of it, if both stay open and all was delivered, as it was if the side was drained since its last input and all is
--- acknowledged. Nothing was reported to it of a generation to which the other side sent nothing. If no step added a channel that was
--- negotiated out-of-band, nothing was of one over which the other side announced no channel.
+-- What channels that were opened in-band hand out in a run by these steps with these replies. Each is announced once, and so is a
+-- generation of a stream, to which its side sent nothing before. What one side got over its channel is a prefix of what the other side sent
+-- over its own, and all of it once that was delivered. Nothing is reported of a generation to which the other side sent nothing; nor, if no
+-- step added a channel that is negotiated out-of-band, of one over which it announced no channel.
 pub record HandsOut {N : Type 0} (draws : Draws N) (stun : List ℕ → Bool) (start : PlainPair N) (steps : List Step)
     (replies : List (Reply PlainMediaEvent)) (pair : PlainPair N) (run : Runs (plain_over draws) stun start steps replies pair)
     : Type 0 where

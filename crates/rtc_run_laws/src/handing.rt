@@ -22,19 +22,14 @@ ghost use Rattle.rtc_run_laws.specs.UsesOfRuns.{uses_of};
 
 use rtc_part_values::Ids;
 
-/// Whatever datagrams a run of two peers loses, repeats or reorders: of the channels that were opened in-band, each
-/// side announces each at most once. Each side announces at most one over each generation of a stream, and sent nothing
-/// to that generation before.
+/// Whatever datagrams a run of two peers loses, repeats or reorders, of channels that were opened in-band:
 ///
-/// Each side may announce such a channel over the same generation of the same stream. Then what one got over its
-/// channel since is all that was reported to it of that generation, and a prefix of what the other sent over its own
-/// since. It is all of that if both channels stay open, the writer has no unacknowledged item of the stream, and the
-/// reader has no whole message of the generation unread.
-///
-/// The reader has none if it was drained: since its last input, and since a channel was last reported as open, a poll
-/// of it returned a timeout. A drained reader got all of it also if the writer is closed, or an association is closing
-/// or closed. For this it suffices that the channel of the reader is open, and that both sides still have the
-/// generation, which neither closed.
+/// - Each side announces each once, and at most one over each generation of a stream. It sent nothing to that generation before.
+/// - If both sides announced one over the same generation of the same stream, what one received over its own is all that was reported to
+///   it of that generation, and a prefix of what the other sent over its own.
+/// - It is all of that if neither side closed the generation, the writer has no unacknowledged item of the stream, and the channel of the
+///   reader is open and was drained: a poll returned a timeout after the last input, and after the channel was announced.
+/// - So it is if both channels stay open, all is acknowledged, and the reader has no whole message of the generation unread.
 ///
 /// No step brings in a text or bytes of anybody, and none rolls an offer back.
 pub fn channels_hand_out_prefixes<N: Ids>()

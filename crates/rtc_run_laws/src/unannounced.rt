@@ -17,13 +17,13 @@ ghost use Rattle.rtc_run_laws.specs.Unannounced.{HaveNumbersLeft};
 
 use rtc_part_values::Ids;
 
-/// Whatever datagrams a run of two peers loses, repeats or reorders: a side is given nothing of a channel while the
-/// channel has a stream in a generation to which the other side sent nothing. A channel that was announced in-band over
-/// such a generation got nothing.
+/// Whatever datagrams a run of two peers loses, repeats or reorders: nothing is reported of a channel while it has a
+/// stream in a generation to which the other side sent nothing. A channel that was announced in-band over such a
+/// generation received nothing.
 ///
-/// Suppose that no step added a channel that is negotiated out-of-band, and that channel numbers were never exhausted.
-/// Then a side sends to a generation of a stream only once it announced a channel over it. So nothing is reported of a
-/// generation over which the other side announced none, and nothing was got.
+/// Let no step add a channel that is negotiated out-of-band, and channel numbers be left at the end. Then a side sends to
+/// a generation of a stream only once it announced a channel over it. So nothing is reported of a generation over which
+/// the other side announced none, and nothing was received.
 ///
 /// No step brings in a text or bytes of anybody, and none rolls an offer back.
 pub fn unannounced_channels_are_silent<N: Ids>()
