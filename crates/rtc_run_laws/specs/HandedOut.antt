@@ -67,7 +67,7 @@ AreAllHandedOut draws drained readers p writers q =
     → has_unacknowledged h.writer.stream q.core.sctp.association.outbox.items ≡ false
     → x.got ≡ y.sent
 
--- The same if, besides, the reader has no whole message of the generation unread.
+-- The same if the reader, drained or not, has no whole message of the generation unread.
 abbrev pub AreWhollyHandedOut : {N : Type 0} → Draws N → (readers : List ChannelUse) → PlainPolled N → (writers : List ChannelUse)
     → PlainPolled N → Type 0
 AreWhollyHandedOut draws readers p writers q =
