@@ -14,7 +14,7 @@ use Rattle.rtc_run_history.specs.Memory.{lacks_memory, outcome_lacks, tells_faul
 use Rattle.rtc_run_history.specs.Orderly.{Course, course_of, are_orderly, has_failed, can_connect, is_ok, negotiates, AreNumbersLeft}
 use Rattle.rtc_run_history.specs.PairState.{PairState, stances_of}
 use Rattle.rtc_run_history.specs.Past.{Entry, MadeSdp, steps_of, replies_of, reply_of, remote_sdp, holds_token, is_right, numbers_in, numbers_told, numbers_or}
-use Rattle.rtc_run_history.specs.Native.{go_forward, goes_forward}
+use Rattle.rtc_run_history.specs.Native.{are_native, is_native}
 use Rattle.rtc_run_history.specs.Runs.{Went, EntersSoundly, Runs}
 use Rattle.rtc_run_history.specs.Sides.{same_side, side_of}
 use Rattle.rtc_run_history.specs.Sizes.{step_size, steps_size}
@@ -215,31 +215,31 @@ demo_negotiates (suc rounds) seed few =
     ∙ rw (demo_negotiates rounds seed (omega arith), round_negotiates (round_steps seed rounds) rounds (round_form seed rounds (omega arith))) refl
 
 -- a step that negotiates brings nothing foreign in, and rolls nothing back
-negotiating_forward : (step : Step) → negotiates step ≡ true → goes_forward step ≡ true
-negotiating_forward (Negotiate at ops apply) negotiating = refl
-negotiating_forward (AcceptOffer at offer) negotiating = refl
-negotiating_forward (AcceptAnswer at token answer) negotiating = refl
-negotiating_forward (Time at now) negotiating = absurd (cc)
-negotiating_forward (Datagram at packet now) negotiating = absurd (cc)
-negotiating_forward (Poll at) negotiating = absurd (cc)
-negotiating_forward (Drain at) negotiating = absurd (cc)
-negotiating_forward (Write at channel binary bytes) negotiating = absurd (cc)
-negotiating_forward (CloseChannel at channel) negotiating = absurd (cc)
-negotiating_forward (Close at) negotiating = absurd (cc)
-negotiating_forward (Rollback at token) negotiating = absurd (cc)
-negotiating_forward (ForeignOffer at text) negotiating = absurd (cc)
-negotiating_forward (ForeignAnswer at token text) negotiating = absurd (cc)
-negotiating_forward (Raw at bytes now) negotiating = absurd (cc)
+negotiating_native : (step : Step) → negotiates step ≡ true → is_native step ≡ true
+negotiating_native (Negotiate at ops apply) negotiating = refl
+negotiating_native (AcceptOffer at offer) negotiating = refl
+negotiating_native (AcceptAnswer at token answer) negotiating = refl
+negotiating_native (Time at now) negotiating = absurd (cc)
+negotiating_native (Datagram at packet now) negotiating = absurd (cc)
+negotiating_native (Poll at) negotiating = absurd (cc)
+negotiating_native (Drain at) negotiating = absurd (cc)
+negotiating_native (Write at channel binary bytes) negotiating = absurd (cc)
+negotiating_native (CloseChannel at channel) negotiating = absurd (cc)
+negotiating_native (Close at) negotiating = absurd (cc)
+negotiating_native (Rollback at token) negotiating = absurd (cc)
+negotiating_native (ForeignOffer at text) negotiating = absurd (cc)
+negotiating_native (ForeignAnswer at token text) negotiating = absurd (cc)
+negotiating_native (Raw at bytes now) negotiating = absurd (cc)
 
-all_forward : (steps : List Step) → list_all negotiates steps ≡ true → go_forward steps ≡ true
-all_forward [] all = refl
-all_forward (step ∷ steps) all =
+all_native : (steps : List Step) → list_all negotiates steps ≡ true → are_native steps ≡ true
+all_native [] all = refl
+all_native (step ∷ steps) all =
     let both = and_parts (negotiates step) (list_all negotiates steps) all in
-    rw (negotiating_forward step both.0, all_forward steps both.1) refl
+    rw (negotiating_native step both.0, all_native steps both.1) refl
 
 -- so do the steps of a demo
-pub demo_forward : (rounds seed : ℕ) → rounds ≤ 100 → go_forward (demo_steps rounds seed) ≡ true
-demo_forward rounds seed few = all_forward (demo_steps rounds seed) (demo_negotiates rounds seed few)
+pub demo_native : (rounds seed : ℕ) → rounds ≤ 100 → are_native (demo_steps rounds seed) ≡ true
+demo_native rounds seed few = all_native (demo_steps rounds seed) (demo_negotiates rounds seed few)
 
 demo_answers : (rounds seed : ℕ) → rounds ≤ 100 → answers_in (demo_steps rounds seed) ≡ rounds
 demo_answers zero seed few = refl

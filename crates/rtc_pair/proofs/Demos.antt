@@ -2,7 +2,7 @@
 use Rattle.std.proofs.Common.{◌≡◌, ◌≤◌, ℕ, Bool, true, false, not, ◌&&◌, List, [], Option, refl, ap, subst, ◌∙◌}
 use Rattle.std.specs.declared.alloc.Global.{Global}
 use Rattle.rtc_config.specs.RtcConfig.{default_ice}
-use Rattle.rtc_demo.proofs.FinishedDemos.{demo_finishes, demo_forward}
+use Rattle.rtc_demo.proofs.FinishedDemos.{demo_finishes, demo_native}
 use Rattle.rtc_demo.proofs.OrderlyDemos.{demo_orderly}
 use Rattle.rtc_demo.specs.DemoCounts.{count_finished}
 use Rattle.rtc_run_history.specs.Orderly.{can_connect}
@@ -66,7 +66,7 @@ performs_demo alloc rounds seed script replies pair written written' last few is
       ran = demo;
       tells = told;
       orderly = demo_orderly rounds seed few;
-      forward = demo_forward rounds seed few;
+      native = demo_native rounds seed few;
       finished = ran_finishes alloc rounds seed replies pair few demo told.memory;
     }
 
@@ -76,4 +76,4 @@ demo_off alloc rounds seed script replies pair written written' faults faults' f
     let P : List ℕ → Type 0 = λ (text : List ℕ). text ≡ demo_text rounds script.steps replies in
     let demo : RanScript alloc (demo_script rounds seed) replies pair = subst (λ (s : Script). RanScript alloc s replies pair) is ran in
     breaks_off_as P (IsDemoText alloc rounds seed) written written' faults faults'
-    (λ text told. record { replies = replies; pair = pair; ran = demo; forward = demo_forward rounds seed few; is = subst (λ (s : Script). text ≡ demo_text rounds s.steps replies) is told }) off
+    (λ text told. record { replies = replies; pair = pair; ran = demo; native = demo_native rounds seed few; is = subst (λ (s : Script). text ≡ demo_text rounds s.steps replies) is told }) off

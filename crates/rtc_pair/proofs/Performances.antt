@@ -57,9 +57,9 @@ ran_joined {E = E} alloc script start pair replies (Ok (kept, told)) (kept_is, t
       read_back = read;
       plain = λ drew. known ran drew;
       no_fault = plain_unfaulted start pair script.steps told ran;
-      channels = λ forward. run_hands_out counting is_ice_message start pair script.steps told (program_new alloc _ _ start program) forward ran;
-      settles = λ forward. run_settles_open counting is_ice_message start pair script.steps told (program_new alloc _ _ start program) forward ran;
-      acknowledges = λ forward. run_acknowledges counting is_ice_message start pair script.steps told (program_new alloc _ _ start program) forward ran;
+      channels = λ native. run_hands_out counting is_ice_message start pair script.steps told (program_new alloc _ _ start program) native ran;
+      settles = λ native. run_settles_open counting is_ice_message start pair script.steps told (program_new alloc _ _ start program) native ran;
+      acknowledges = λ native. run_acknowledges counting is_ice_message start pair script.steps told (program_new alloc _ _ start program) native ran;
       crossed = crossed;
       drains = λ moments. program_drains alloc _ _ start pair script.steps told program moments ran;
     })

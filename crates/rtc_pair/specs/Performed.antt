@@ -11,7 +11,7 @@ use Rattle.rtc_run_history.specs.Memory.{lacks_memory, tell_fault}
 use Rattle.rtc_run_laws.specs.Crossed.{CrossedOffersMeet}
 use Rattle.rtc_run_history.specs.DrawnInRuns.{AllPlain, DrawsUnused}
 use Rattle.rtc_run_history.specs.Fresh.{ArePeersFormed}
-use Rattle.rtc_run_history.specs.Native.{go_forward}
+use Rattle.rtc_run_history.specs.Native.{are_native}
 use Rattle.rtc_run_history.specs.Runs.{Runs}
 use Rattle.rtc_run_history.specs.Signalled.{AllReadBack}
 use Rattle.rtc_plain_ice.specs.Messages.{is_ice_message}
@@ -49,11 +49,11 @@ IsPairOf alloc script pair =
 
 -- A script was run on the program's pair, which is formed, with these replies, which left this pair. Each description that was made is read
 -- back as it was written, if each SSRC was unused when it was drawn. No reply reports that a part failed: those in memory never do. If no
--- step brings in a text or bytes of anybody, and none rolls an offer back, channels hand out what the other side sent, and of those that
--- were opened in-band each is announced at most once. A buffered amount of 0 says that all that was sent over a channel is acknowledged, if
--- its last message is not empty. If the run then leaves the pair settled, a channel that is open at a side, over a stream that both keep,
--- is open at both, and was announced at both. On glare a polite and an impolite side that are in step meet. A drain shows at most as many
--- outputs as its peer weighs before it.
+-- step brings in a text or bytes of anybody, channels hand out what the other side sent, and of those that were opened in-band each is
+-- announced at most once. A buffered amount of 0 says that all that was sent over a channel is acknowledged, if its last message is not
+-- empty. If the run then leaves the pair settled, a channel that is open at a side, over a stream that both keep, is open at both, and was
+-- announced at both. On glare a polite and an impolite side that are in step meet. A drain shows at most as many outputs as its peer weighs
+-- before it.
 pub record RanScript (alloc : Global) (script : Script) (replies : List (Reply PlainMediaEvent)) (pair : PlainPairState) : Type 0 where
   pub start : PlainPairState
   pub program : IsPairOf alloc script start
@@ -62,9 +62,9 @@ pub record RanScript (alloc : Global) (script : Script) (replies : List (Reply P
   pub read_back : AllReadBack pair.sdps
   pub plain : DrawsUnused plain_parts is_ice_message start script.steps replies pair runs → AllPlain pair.sdps
   pub no_fault : tell_fault replies ≡ false
-  pub channels : go_forward script.steps ≡ true → HandsOut counting is_ice_message start script.steps replies pair runs
-  pub settles : go_forward script.steps ≡ true → SettlesOpen counting is_ice_message start script.steps replies pair runs
-  pub acknowledges : go_forward script.steps ≡ true → Acknowledges counting is_ice_message start script.steps replies pair runs
+  pub channels : are_native script.steps ≡ true → HandsOut counting is_ice_message start script.steps replies pair runs
+  pub settles : are_native script.steps ≡ true → SettlesOpen counting is_ice_message start script.steps replies pair runs
+  pub acknowledges : are_native script.steps ≡ true → Acknowledges counting is_ice_message start script.steps replies pair runs
   pub crossed : CrossedOffersMeet plain_parts is_ice_message start
   pub drains : HaveMoments script.steps → DrainsWithin plain_parts is_ice_message start runs.past pair
 

@@ -4,7 +4,7 @@ use Rattle.std.specs.declared.alloc.Global.{Global}
 use Rattle.std.specs.Io.KnownBytes.{Appends}
 use Rattle.rtc_demo.specs.DemoCounts.{count_finished, counts_in, counts_text}
 use Rattle.rtc_demo.specs.DemoSteps.{demo_steps}
-use Rattle.rtc_run_history.specs.Native.{go_forward}
+use Rattle.rtc_run_history.specs.Native.{are_native}
 use Rattle.rtc_run_history.specs.Orderly.{are_orderly}
 use Rattle.rtc_run_history.specs.declared.reply.Reply.{Reply}
 use Rattle.rtc_run_history.specs.declared.step.Step.{Step}
@@ -37,7 +37,7 @@ pub record PerformsDemo (alloc : Global) (rounds seed : ℕ) (written written' :
   pub ran : RanScript alloc (demo_script rounds seed) replies pair
   pub tells : TellsCounts rounds (demo_steps rounds seed) replies pair written written' last
   pub orderly : are_orderly (demo_steps rounds seed) ≡ true
-  pub forward : go_forward (demo_steps rounds seed) ≡ true
+  pub native : are_native (demo_steps rounds seed) ≡ true
   pub finished : count_finished replies ≡ rounds
 
 -- This text is the lines of a run of a demo.
@@ -45,5 +45,5 @@ pub record IsDemoText (alloc : Global) (rounds seed : ℕ) (text : List ℕ) : T
   pub replies : List (Reply PlainMediaEvent)
   pub pair : PlainPairState
   pub ran : RanScript alloc (demo_script rounds seed) replies pair
-  pub forward : go_forward (demo_steps rounds seed) ≡ true
+  pub native : are_native (demo_steps rounds seed) ≡ true
   pub is : text ≡ demo_text rounds (demo_steps rounds seed) replies

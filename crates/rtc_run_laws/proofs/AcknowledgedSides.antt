@@ -13,7 +13,7 @@ use Rattle.rtc_run_history.specs.declared.reply.Reply.{Reply}
 use Rattle.rtc_run_history.specs.declared.side.Side.{Side}
 use Rattle.rtc_run_history.specs.declared.side.Side.TheVariants.{Left, Right}
 use Rattle.rtc_run_history.specs.declared.step.Step.{Step}
-use Rattle.rtc_run_history.specs.Native.{go_forward}
+use Rattle.rtc_run_history.specs.Native.{are_native}
 use Rattle.rtc_run_history.specs.PairState.{rtc_at}
 use Rattle.rtc_run_history.specs.Past.{Entry, steps_of}
 use Rattle.rtc_run_history.specs.Runs.{Reached, Runs}
@@ -45,13 +45,13 @@ module _ {N : Type 0} (draws : Draws N) where
   pair_acknowledged pair uses sent told Right h = side_acknowledged h.acts.right (uses Right) (sent Right) (told Right) pair.right h.right
 
   pub run_acknowledged : (stun : List ℕ → Bool) (start : PlainPair N) → IsNewPair draws start → (past : List (Entry PlainMediaEvent)) (pair : PlainPair N)
-      → go_forward (steps_of past) ≡ true → (ran : Reached (plain_over draws) stun start past pair) → (at : Side)
+      → are_native (steps_of past) ≡ true → (ran : Reached (plain_over draws) stun start past pair) → (at : Side)
       → AreAcknowledged draws (uses_of (plain_over draws) stun start at past pair ran) (sent_over (plain_over draws) stun start at past pair ran) (rtc_at at pair)
   run_acknowledged stun start new past pair go ran at =
       pair_acknowledged pair (λ z. uses_of (plain_over draws) stun start z past pair ran) (λ z. sent_over (plain_over draws) stun start z past pair ran)
       (λ z. told_over (plain_over draws) stun start z past pair ran) at (reached_told draws stun start past pair go ran (new_pair_told draws start new))
 
   pub run_acknowledges : (stun : List ℕ → Bool) (start pair : PlainPair N) (steps : List Step) (replies : List (Reply PlainMediaEvent)) → IsNewPair draws start
-      → go_forward steps ≡ true → (run : Runs (plain_over draws) stun start steps replies pair) → Acknowledges draws stun start steps replies pair run
+      → are_native steps ≡ true → (run : Runs (plain_over draws) stun start steps replies pair) → Acknowledges draws stun start steps replies pair run
   run_acknowledges stun start pair steps replies new go run at =
-      run_acknowledged stun start new run.past pair (ap go_forward run.steps_are ∙ go) (reached_by (plain_over draws) stun start run.past pair run.went) at
+      run_acknowledged stun start new run.past pair (ap are_native run.steps_are ∙ go) (reached_by (plain_over draws) stun start run.past pair run.went) at

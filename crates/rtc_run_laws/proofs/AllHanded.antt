@@ -32,7 +32,7 @@ use Rattle.rtc_run_laws.proofs.GotAndSent.{both_carry}
 use Rattle.rtc_run_laws.proofs.StandingSides.{SideStood}
 use Rattle.rtc_run_laws.proofs.OpenStreams.{open_free, open_placed}
 use Rattle.rtc_run_laws.proofs.UseLists.{all_member, prefix_same}
-use Rattle.rtc_run_laws.proofs.UsesTold.{HasGone, InBandTold, IsOver, Lives, StandsSo, UseTold}
+use Rattle.rtc_run_laws.proofs.UsesTold.{HasGone, InBandTold, IsOver, Lives, StandsSo, UseStands, UseTold, opened_of}
 
 module _ {S : Type 0} (m : AssociationMeaning S) (w : AssociationLaws m) (v : GenerationLaws m) where
   spent_by : (s : ℕ) (a : S) → m.closed_here a s ≡ true → is_spent_stream m s a ≡ true
@@ -101,6 +101,18 @@ module _ {N : Type 0} (draws : Draws N) where
       absurd (no_some stream (sym (none_under c p.core.channels.rows gone.1) ∙ open_placed c stream p there))
   all_told p c s g stream got rest there (IsOver closed k) = absurd (open_free c stream p there closed)
 
+  -- a channel that is open was not rolled back
+  pub open_told : (written read : List StreamMessage) (p : PlainPolled N) (x : ChannelUse) (stream : ℕ) → open_stream_under x.channel p ≡ Some stream
+      → UseStands (plain_over draws) written read p x → UseTold (plain_over draws) written read p x.channel x.stream x.generation x.sent x.got
+  open_told written read p x stream there u = by x.rolled_back refl
+    where
+      by : (b : Bool) → x.rolled_back ≡ b → UseTold (plain_over draws) written read p x.channel x.stream x.generation x.sent x.got
+      by true e =
+          absurd
+          (no_some stream
+          (sym (none_under x.channel p.core.channels.rows (u.undone e).gone.1) ∙ open_placed x.channel stream p there))
+      by false e = u.kept e
+
   -- neither end closed the generation
   pub side_unended : (a : PeerActs) (us : List ChannelUse) (p : PlainPolled N) (x : ChannelUse) → SideStood draws a us p → (h : StaysOpen (plain_over draws) x p)
       → ended h.stream x.generation a.association ≡ false
@@ -136,7 +148,8 @@ module _ {N : Type 0} (draws : Draws N) where
         → read h.reader.stream k.generation a.association ≡ written h.reader.stream k.generation b.association → k.got ≡ l.sent
     all_got t u same =
         let carry =
-        both_carry draws h.reader.stream k.generation a b us vs p q x y k.channel l.channel k.stream l.stream k.sent k.got l.sent l.got t u
+        both_carry draws h.reader.stream k.generation a b us vs p q x y l.channel k.stream l.stream k.got l.sent l.got
+        (opened_of (plain_over draws) x.written x.read p k.channel k.stream k.generation k.sent k.got t) u
         (some_is t.stream h.reader.stream (sym t.stream_is ∙ h.reader.of)) (some_is u.stream h.reader.stream (sym u.stream_is ∙ sym h.stream_is ∙ h.reader.of))
         (prefix_same (read h.reader.stream k.generation a.association) (written h.reader.stream k.generation b.association) same) in
         all_told p k.channel t.stream k.generation h.reader.stream k.got t.rest h.reader.there t.stands
@@ -152,7 +165,10 @@ module _ {N : Type 0} (draws : Draws N) where
         → has_unacknowledged h.writer.stream q.core.sctp.association.outbox.items ≡ false
         → has_unread p.core.sctp.association h.reader.stream k.generation ≡ false → k.got ≡ l.sent
     all_handed mine theirs all acknowledged heard =
-        all_got (all_member (InBandTold (plain_over draws) x.written x.read p) us k x.told.each mine h.reader_in_band)
+        all_got
+        (open_told x.written x.read p k h.reader.stream h.reader.there
+        (all_member (InBandTold (plain_over draws) x.written x.read p) us k x.told.each mine h.reader_in_band))
         (subst (λ (n : ℕ). UseTold (plain_over draws) y.written y.read q l.channel l.stream n l.sent l.got) (sym h.generation_is)
-        (all_member (InBandTold (plain_over draws) y.written y.read q) vs l y.told.each theirs h.writer_in_band))
+        (open_told y.written y.read q l h.writer.stream h.writer.there
+        (all_member (InBandTold (plain_over draws) y.written y.read q) vs l y.told.each theirs h.writer_in_band)))
         (all_read all acknowledged heard)

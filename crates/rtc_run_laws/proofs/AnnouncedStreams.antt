@@ -3,6 +3,7 @@ use Rattle.std.proofs.Common.{◌≡◌, ◌∙◌, ◌⊎◌, ◌≤◌, ◌++�
 use Rattle.std.specs.Prelude.{is_some}
 use Rattle.rtc_part_association.specs.AssociationLaws.{AssociationLaws}
 use Rattle.rtc_part_values.specs.Among.{Member}
+use Rattle.rtc_channels.specs.Channels.{Channel}
 use Rattle.rtc_sctp_entries.specs.declared.stream_entry.StreamEntry.{StreamEntry}
 use Rattle.rtc_sctp_entries.specs.Entries.{config_or_fresh, stream_config}
 use Rattle.rtc_sctp_laws.specs.StreamMessages.{StreamMessage}
@@ -26,8 +27,8 @@ use Rattle.rtc_peer_laws.specs.Acts.{PollActs}
 use Rattle.rtc_peer_laws.specs.ChannelStreams.{AnnouncesOver, AreNumberedChannels, AreNumbersGiven, IsUsedStream, UnlessLacking, WasOpenInBand, Already, Announced, NoNumber}
 use Rattle.rtc_peer_laws.proofs.ChannelsOver.{under_over}
 use Rattle.rtc_peer_laws.proofs.StreamsJoin.{given_on}
-use Rattle.rtc_peer_laws.specs.KeptChannels.{CallKeepsStreams}
-use Rattle.rtc_run_laws.specs.ChannelUses.{ChannelUse, announced_use, generation_under, uses_told, with_got_message, with_sent_message}
+use Rattle.rtc_peer_laws.specs.KeptChannels.{CallKeepsStreams, CallLeavesStreams}
+use Rattle.rtc_run_laws.specs.ChannelUses.{ChannelUse, announced_use, generation_under, loses_channel, uses_told, with_got_message, with_rolled_back, with_sent_message}
 use Rattle.rtc_run_laws.proofs.RowLemmas.{closed_stays}
 use Rattle.rtc_run_laws.proofs.UsesTold.{UsedUnlessClosed}
 
@@ -70,6 +71,16 @@ over_got s own c message (x ∷ uses) (inr h) = inr (over_got s own c message us
 over_got s own c message (x ∷ uses) (inl h) = inl (by (x.channel == c))
   where
     by : (b : Bool) → IsUseOver s own (if b then record x { got = x.got ++ message ∷ [] } else x)
+    by true = h
+    by false = h
+
+pub over_rolled : (s : ℕ) (own : Option ℕ) (before after : List Channel) (uses : List ChannelUse) → HasUseOver s own uses
+    → HasUseOver s own (with_rolled_back before after uses)
+over_rolled s own before after [] h = h
+over_rolled s own before after (x ∷ uses) (inr h) = inr (over_rolled s own before after uses h)
+over_rolled s own before after (x ∷ uses) (inl h) = inl (by (loses_channel x.channel before after))
+  where
+    by : (b : Bool) → IsUseOver s own (if b then record x { rolled_back = true } else x)
     by true = h
     by false = h
 
@@ -160,6 +171,15 @@ module _ {I D S M E X T W N : Type 0} (m : Meanings I D S M E X T W N) where
       inr
       (λ s own k.
       given_more p q (HasUseOver s own uses) (HasUseOver s own uses') keeps.given (more s own) (h s own (keeps.fresh s own k)))
+
+  -- a rollback
+  pub announced_left : (p q : PolledPeer I D S M N) (wrote : List StreamMessage) (uses uses' : List ChannelUse) → CallLeavesStreams m p wrote q
+      → ((s : ℕ) (own : Option ℕ) → HasUseOver s own uses → HasUseOver s own uses') → AnnouncedUnlessClosed uses p → AnnouncedUnlessClosed uses' q
+  announced_left p q wrote uses uses' leaves more (inl closed) = inl (leaves.closed closed)
+  announced_left p q wrote uses uses' leaves more (inr h) =
+      inr
+      (λ s own k.
+      given_more p q (HasUseOver s own uses) (HasUseOver s own uses') leaves.given (more s own) (h s own (leaves.fresh s own k)))
 
   -- a poll that tells a channel to be open
   module _ (w : AssociationLaws m.association) (v : GenerationLaws m.association) (p q : PolledPeer I D S M N) (id : ℕ) (label : List ℕ)

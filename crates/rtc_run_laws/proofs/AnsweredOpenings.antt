@@ -31,7 +31,7 @@ use Rattle.rtc_run_laws.proofs.HeardOpenings.{entry_among, none_has, reads_dcep}
 use Rattle.rtc_run_laws.proofs.OpenSides.{not_closed}
 use Rattle.rtc_run_laws.proofs.StandingSides.{SideStood}
 use Rattle.rtc_run_laws.proofs.UseLists.{all_member, named_kept}
-use Rattle.rtc_run_laws.proofs.UsesTold.{InBandTold, UsedUnlessClosed}
+use Rattle.rtc_run_laws.proofs.UsesTold.{use_opened, InBandTold, UsedUnlessClosed}
 
 -- ---- the one entry of a stream
 
@@ -141,7 +141,9 @@ module _ {N : Type 0} (draws : Draws N) where
     begun_by s own fits (inr full) = let left = there.numbers in absurd (omega (arith, left, full))
     begun_by s own fits (inl over) =
         let it = found s own vs over in
-        let t = all_member (InBandTold (plain_over draws) y.written y.read q) vs it.use_over y.told.each it.member it.is_over.0 in
+        let t =
+        use_opened (plain_over draws) y.written y.read q it.use_over
+        (all_member (InBandTold (plain_over draws) y.written y.read q) vs it.use_over y.told.each it.member it.is_over.0) in
         let g : it.use_over.generation ≡ generation_of q.core.sctp.association s =
         eqb-true it.use_over.generation (generation_of q.core.sctp.association s)
         (ap (λ (o : Option ℕ). fits_generation o (generation_of q.core.sctp.association s)) (sym it.is_over.2) ∙ fits) in

@@ -4,7 +4,7 @@ use Rattle.std.proofs.Common.{◌≡◌, ◌+◌, ◌++◌, ◌∷◌, if◌then
 use Rattle.rtc_wire.specs.declared.channel_config.ChannelConfig.{ChannelConfig}
 use Rattle.rtc_channels.specs.Allocation.{all_allocated, channel_ensured, is_ensured, opened_by_other, rows_given, sought_by, stream_given}
 use Rattle.rtc_channels.specs.Channels.{Channel, Channels, all_confirmed, has_id, rows_confirmed, unconfirmed, with_channel}
-use Rattle.rtc_channels.specs.Holds.{channels_without}
+use Rattle.rtc_channels.specs.Holds.{all_cancelled, cancelled_if, channels_without, is_unconfirmed}
 use Rattle.rtc_channels.specs.Openings.{rows_opened}
 use Rattle.rtc_run_laws.specs.OwnOpenings.{IsInBandChannel}
 
@@ -58,6 +58,16 @@ without_banded id (row ∷ rows) h = by (has_id id row) (without_banded id rows 
     by : (b : Bool) → AreBandedRows (channels_without id rows) → AreBandedRows (if b then rows else row ∷ channels_without id rows)
     by true rest = h.1
     by false rest = (h.0, rest)
+
+pub cancelled_banded : (channels : List (ℕ × ChannelConfig)) (held : Channels) → AreBandedRows held.rows
+    → AreBandedRows (all_cancelled channels held).rows
+cancelled_banded [] held h = h
+cancelled_banded (channel ∷ rest) held h =
+    cancelled_banded rest (cancelled_if (is_unconfirmed channel.0 held.rows) channel.0 held) (by (is_unconfirmed channel.0 held.rows))
+  where
+    by : (b : Bool) → AreBandedRows (cancelled_if b channel.0 held).rows
+    by true = without_banded channel.0 held.rows h
+    by false = h
 
 -- a config is handed on
 pub opened_banded : (id : ℕ) (rows : List Channel) → AreBandedRows rows → AreBandedRows (rows_opened id rows)

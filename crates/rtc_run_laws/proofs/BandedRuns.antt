@@ -17,7 +17,7 @@ use Rattle.rtc_run_history.specs.declared.kept.Kept.{Kept}
 use Rattle.rtc_run_history.specs.declared.side.Side.{Side}
 use Rattle.rtc_run_history.specs.declared.side.Side.TheVariants.{Left, Right}
 use Rattle.rtc_run_history.specs.declared.step.Step.{Step}
-use Rattle.rtc_run_history.specs.Native.{go_forward}
+use Rattle.rtc_run_history.specs.Native.{are_native}
 use Rattle.rtc_run_history.specs.PairState.{addr_at, PairState, rtc_at}
 use Rattle.rtc_run_history.specs.Past.{Entry, steps_of}
 use Rattle.rtc_run_history.specs.Runs.{Reached}
@@ -39,7 +39,7 @@ use Rattle.rtc_run_laws.proofs.OpenSides.{not_closed}
 use Rattle.rtc_run_laws.proofs.RunsTold.{PairTold}
 use Rattle.rtc_run_laws.proofs.StandingEntries.{AreBanded}
 use Rattle.rtc_run_laws.proofs.UnresetSides.{settled_unreset}
-use Rattle.rtc_run_laws.proofs.ForwardSteps.{forward_entry}
+use Rattle.rtc_run_laws.proofs.NativeSteps.{native_entry}
 
 -- the last of the steps, and those before
 first_steps : (steps : List Step) (step : Step) → AreInBandSteps (steps ++ step ∷ []) → AreInBandSteps steps × IsInBandStep step
@@ -64,15 +64,15 @@ module _ {I D S M E X T W N : Type 0} (m : Meanings I D S M E X T W N) (laws : P
   band_at Right Right between pair h same k = h k
 
   pub run_banded : (stun : List ℕ → Bool) (start : PairState I D S M N) (past : List (Entry E)) (pair : PairState I D S M N)
-      → go_forward (steps_of past) ≡ true → Reached m stun start past pair → AreInBandSteps (steps_of past) → PairBanded start → PairBanded pair
+      → are_native (steps_of past) ≡ true → Reached m stun start past pair → AreInBandSteps (steps_of past) → PairBanded start → PairBanded pair
   run_banded stun start [] pair go ran steps h = subst (λ (x : PairState I D S M N). PairBanded x) (sym ran) h
   run_banded stun start (entry ∷ past) pair go ran steps h =
-      let forward = forward_entry entry past go in
+      let native = native_entry entry past go in
       let both = first_steps (steps_of past) entry.step steps in
-      let before = run_banded stun start past ran.0 forward.0 ran.1 both.0 h in
+      let before = run_banded stun start past ran.0 native.0 ran.1 both.0 h in
       let step =
       acts_band m laws stun (addr_at (other_side (side_of entry.step)) ran.0) (addr_at (side_of entry.step) ran.0) entry.step (rtc_at (side_of entry.step) ran.0) ran.0.sdps ran.0.packets entry.outcome entry.table
-      (rtc_at (side_of entry.step) pair) pair.sdps pair.packets forward.1 both.1 ran.2.performs.acts in
+      (rtc_at (side_of entry.step) pair) pair.sdps pair.packets native.1 both.1 ran.2.performs.acts in
       record {
         sides = λ at. band_at (side_of entry.step) at ran.0 pair (step.side before.tokens) ran.2.performs.other (before.sides at);
         tokens = step.tokens before.tokens;
@@ -115,7 +115,7 @@ module _ {N : Type 0} (draws : Draws N) where
       by Right = inr (new_banded pair.right h.right)
 
   module _ (stun : List ℕ → Bool) (start : PlainPair N) (past : List (Entry PlainMediaEvent)) (pair : PlainPair N)
-      (go : go_forward (steps_of past) ≡ true) (ran : Reached (plain_over draws) stun start past pair) (new : IsNewPair draws start) (none : start.sdps ≡ [])
+      (go : are_native (steps_of past) ≡ true) (ran : Reached (plain_over draws) stun start past pair) (new : IsNewPair draws start) (none : start.sdps ≡ [])
       (steps : AreInBandSteps (steps_of past)) (settled : IsSettledPair past pair) where
     band_by : (at : Side) → SideBanded (plain_over draws) (rtc_at at pair) → IsBanded (rtc_at at pair).core.channels (rtc_at at pair).core.sctp.entries
     band_by at (inl closed) = absurd (not_closed draws (rtc_at at pair) (settled.peers at).alive closed)
@@ -145,6 +145,6 @@ module _ {N : Type 0} (draws : Draws N) where
         → AreConfirmedFirst draws (λ c. WasConfirmed (plain_over draws) stun start at c past pair ran)
         (uses_of (plain_over draws) stun start at past pair ran) (rtc_at at pair)
         (uses_of (plain_over draws) stun start (other_side at) past pair ran) (rtc_at (other_side at) pair)
-    settled_first told unused at later = λ c s confirmed under first.
+    settled_first told unused at later = λ c s confirmed under stand first.
         let band = settled_in_band at s in
-        settled_unreset draws stun start past pair go ran new told unused settled at later c s confirmed under band.0 band.1 first
+        settled_unreset draws stun start past pair go ran new told unused settled at later c s confirmed under band.0 band.1 stand first

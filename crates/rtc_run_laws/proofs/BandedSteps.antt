@@ -5,6 +5,7 @@ use Rattle.rtc_wire.specs.declared.addr.Addr.{Addr}
 use Rattle.rtc_sctp_entries.specs.declared.stream_entry.StreamEntry.{StreamEntry}
 use Rattle.rtc_channels.specs.Channels.{Channels, all_confirmed}
 use Rattle.rtc_change.specs.PendingOffer.{PendingOffer}
+use Rattle.rtc_sctp.specs.Streams.{SctpStreams}
 use Rattle.rtc_peer_core.specs.declared.phase.Phase.TheVariants.{Closed}
 use Rattle.rtc_peer_core.specs.declared.rtc_error.RtcError.{RtcError}
 use Rattle.rtc_peer_core.specs.declared.rtc_error.RtcError.TheVariants.{Alloc as PeerAlloc}
@@ -27,7 +28,7 @@ use Rattle.rtc_peer_laws.proofs.KeptPeers.{close_keeps}
 use Rattle.rtc_run_history.specs.declared.kept.Kept.{Kept}
 use Rattle.rtc_run_history.specs.declared.op.Op.{Op}
 use Rattle.rtc_run_history.specs.declared.outcome.Outcome.{Outcome}
-use Rattle.rtc_run_history.specs.declared.outcome.Outcome.TheVariants.{Negotiated, Answered, Finished, Refused, NoSuch, Alloc}
+use Rattle.rtc_run_history.specs.declared.outcome.Outcome.TheVariants.{Negotiated, Answered, Finished, Done, Refused, NoSuch, Alloc}
 use Rattle.rtc_run_history.specs.declared.sent_packet.SentPacket.{SentPacket}
 use Rattle.rtc_run_history.specs.declared.side.Side.{Side}
 use Rattle.rtc_run_history.specs.declared.step.Step.{Step}
@@ -35,12 +36,12 @@ use Rattle.rtc_run_history.specs.declared.step.Step.TheVariants.{Negotiate, Acce
 use Rattle.rtc_run_history.specs.declared.step.Step.TheVariants.{Write, CloseChannel, Close, Rollback, ForeignOffer, ForeignAnswer, Raw}
 use Rattle.rtc_run_history.specs.declared.table.Table.{Table}
 use Rattle.rtc_run_history.specs.Memory.{answers_lack}
-use Rattle.rtc_run_history.specs.Native.{goes_forward}
+use Rattle.rtc_run_history.specs.Native.{is_native}
 use Rattle.rtc_run_history.specs.PairState.{held_token, kept_remote_sdp, remote_packet}
-use Rattle.rtc_run_history.specs.Performs.{Acts, Negotiates, StepAcceptsAnswer, StepAcceptsOffer, kept_answer, lent}
+use Rattle.rtc_run_history.specs.Performs.{Acts, Negotiates, StepAcceptsAnswer, StepAcceptsOffer, StepRollsBack, kept_answer, lent}
 use Rattle.rtc_run_history.specs.Signalled.{Signalled, NotMade, Unreadable, Readable}
 use Rattle.rtc_run_laws.specs.InBandSteps.{AreInBandOps, IsInBandStep}
-use Rattle.rtc_run_laws.proofs.BandedRows.{AreBandedRows, confirmed_banded}
+use Rattle.rtc_run_laws.proofs.BandedRows.{AreBandedRows, cancelled_banded, confirmed_banded}
 use Rattle.rtc_run_laws.proofs.BandedMoments.{IsBanded, polled_banded}
 use Rattle.rtc_run_laws.proofs.BandedInputs.{KeepsBand, SideBanded, band_stays, input_band, shut_band, write_band}
 use Rattle.rtc_run_laws.proofs.BandedChanges.{AreBandedTokens, IsBandedToken, fitting_banded, held_banded, spent_banded, tokens_more}
@@ -49,6 +50,7 @@ use Rattle.rtc_run_laws.proofs.BandedAcceptances.{AnswerLeft, LeavesBoth, answer
 use Rattle.rtc_run_laws.proofs.KeptNegotiation.{answer_step_keeps, offer_step_keeps}
 use Rattle.rtc_run_laws.proofs.RowLemmas.{closed_stays}
 use Rattle.rtc_run_laws.proofs.StandingEntries.{AreBanded}
+use Rattle.rtc_run_laws.proofs.StepRows.{RowsCancelled, rollback_rows}
 use Rattle.rtc_run_laws.proofs.StepWalks.{CallsKeep, calls_keep, close_keep, datagram_keep, drain_keep, poll_keep, write_keep}
 
 module _ {I D S M E X T W N : Type 0} (m : Meanings I D S M E X T W N) (laws : PartsLaws m) where
@@ -183,10 +185,31 @@ module _ {I D S M E X T W N : Type 0} (m : Meanings I D S M E X T W N) (laws : P
   }
   token_band t token answer old sdps outcome table new sdps' h closed held = absurd h
 
+  -- a rollback
+  cancels_band : (p q : PolledPeer I D S M N) → RowsCancelled m p q → KeepsBand m p q
+  cancels_band p q h (inl closed) = inl (h.phase ∙ closed)
+  cancels_band p q h (inr k) = inr (record {
+    rows =
+        subst (λ (held : Channels). AreBandedRows held.rows) (sym h.cancelled) (cancelled_banded h.channels p.core.channels k.rows);
+    entries = subst (λ (x : SctpStreams S). AreBanded x.entries) (sym h.sctp) k.entries;
+  })
+
+  rolled_tokens : (t : ℕ) (token : Option PendingOffer) (old : PolledPeer I D S M N) (sdps : List Kept) (outcome : Outcome E) (table : Option Table)
+      (new : PolledPeer I D S M N) (sdps' : List Kept) → StepRollsBack m t token old.core sdps outcome table new.core sdps' → AreBandedTokens sdps
+      → AreBandedTokens sdps'
+  rolled_tokens t None old sdps Alloc None new sdps' h tokens = subst (λ (l : List Kept). AreBandedTokens l) (sym h.sdps_kept) tokens
+  rolled_tokens t (Some token) old sdps Alloc None new sdps' h tokens = subst (λ (l : List Kept). AreBandedTokens l) (sym h.sdps_kept) tokens
+  rolled_tokens t None old sdps NoSuch (Some table) new sdps' h tokens = subst (λ (l : List Kept). AreBandedTokens l) (sym h.0.sdps_kept) tokens
+  rolled_tokens t (Some token) old sdps Done (Some table) new sdps' h tokens =
+      subst (λ (l : List Kept). AreBandedTokens l) (sym h.1) (spent_banded t sdps tokens)
+  rolled_tokens t (Some token) old sdps (Refused error) (Some table) new sdps' h tokens =
+      subst (λ (l : List Kept). AreBandedTokens l) (sym h.1) (spent_banded t sdps tokens)
+  rolled_tokens t token old sdps outcome table new sdps' h tokens = absurd h
+
   -- ---- each step, an arm each
 
   pub acts_band : (stun : List ℕ → Bool) (other own : Addr) (step : Step) (old : PolledPeer I D S M N) (sdps : List Kept) (packets : List SentPacket)
-      (outcome : Outcome E) (table : Option Table) (new : PolledPeer I D S M N) (sdps' : List Kept) (packets' : List SentPacket) → goes_forward step ≡ true → IsInBandStep step
+      (outcome : Outcome E) (table : Option Table) (new : PolledPeer I D S M N) (sdps' : List Kept) (packets' : List SentPacket) → is_native step ≡ true → IsInBandStep step
       → Acts m stun other own step old sdps packets outcome table new sdps' packets' → StepBanded old sdps new sdps'
   acts_band stun other own (Negotiate at ops apply) old sdps packets outcome table new sdps' packets' go band h =
       negotiates_band at ops apply old sdps outcome table new sdps' band h.0
@@ -217,7 +240,10 @@ module _ {I D S M E X T W N : Type 0} (m : Meanings I D S M E X T W N) (laws : P
       (close_keep m (KeepsBand m) calls_band (open_stream_under channel old) channel old outcome table new h.0)
   acts_band stun other own (Close at) old sdps packets outcome table new sdps' packets' go band h =
       same_tokens old sdps new sdps' h.1 (calls_keep m (KeepsBand m) calls_band (ClosesPeer m) close_band old outcome table new h.0)
-  acts_band stun other own (Rollback at token) old sdps packets outcome table new sdps' packets' go band h = absurd (true≢false (sym go))
+  acts_band stun other own (Rollback at token) old sdps packets outcome table new sdps' packets' go band h = record {
+    side = λ tokens. cancels_band old new (rollback_rows m token (held_token sdps at token) old sdps outcome table new sdps' h.0);
+    tokens = λ tokens. rolled_tokens token (held_token sdps at token) old sdps outcome table new sdps' h.0 tokens;
+  }
   acts_band stun other own (ForeignOffer at text) old sdps packets outcome table new sdps' packets' go band h = absurd (true≢false (sym go))
   acts_band stun other own (ForeignAnswer at token text) old sdps packets outcome table new sdps' packets' go band h = absurd (true≢false (sym go))
   acts_band stun other own (Raw at bytes now) old sdps packets outcome table new sdps' packets' go band h = absurd (true≢false (sym go))

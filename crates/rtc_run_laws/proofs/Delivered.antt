@@ -21,7 +21,7 @@ use Rattle.rtc_sctp_laws.proofs.PlainGenerations.{plain_generations}
 use Rattle.rtc_peer_transport.specs.ChannelCalls.{open_stream_under}
 use Rattle.rtc_peer_laws.specs.PeerActs.{PeerActs}
 use Rattle.rtc_peer_laws.proofs.ChannelsOver.{none_under}
-use Rattle.rtc_run_history.specs.Native.{go_forward}
+use Rattle.rtc_run_history.specs.Native.{are_native}
 use Rattle.rtc_run_history.specs.PairState.{rtc_at}
 use Rattle.rtc_run_history.specs.Past.{Entry, steps_of}
 use Rattle.rtc_run_history.specs.Runs.{Reached}
@@ -36,7 +36,7 @@ use Rattle.rtc_run_laws.specs.PlainPairs.{PlainPair, PlainPolled, plain_over}
 use Rattle.rtc_run_laws.specs.SentMessages.{sent_over}
 use Rattle.rtc_run_laws.specs.ToldMessages.{MessagesTold, told_over}
 use Rattle.rtc_run_laws.specs.UsesOfRuns.{uses_of}
-use Rattle.rtc_run_laws.proofs.AllHanded.{none_unread}
+use Rattle.rtc_run_laws.proofs.AllHanded.{none_unread, open_told}
 use Rattle.rtc_run_laws.proofs.DrainedRuns.{heard_reached, new_unused}
 use Rattle.rtc_run_laws.proofs.GotAndSent.{both_carry}
 use Rattle.rtc_run_laws.proofs.HeardSides.{HeardSide, heard_open}
@@ -45,7 +45,7 @@ use Rattle.rtc_run_laws.proofs.RunsExchange.{side_all}
 use Rattle.rtc_run_laws.proofs.RunsTold.{PairTold, new_pair_told, reached_told}
 use Rattle.rtc_run_laws.proofs.StandingSides.{Sent, SideStood}
 use Rattle.rtc_run_laws.proofs.UseLists.{all_member, prefix_same}
-use Rattle.rtc_run_laws.proofs.UsesTold.{HasGone, InBandTold, IsOver, Lives, StandsSo, UseTold}
+use Rattle.rtc_run_laws.proofs.UsesTold.{HasGone, InBandTold, IsOver, Lives, StandsSo, UseTold, opened_of}
 
 -- ---- generations that this end closed
 
@@ -160,7 +160,8 @@ module _ {N : Type 0} (draws : Draws N) where
         → UseTold (plain_over draws) y.written y.read q l.channel l.stream k.generation l.sent l.got → k.got ≡ l.sent
     got_is t u =
         let carry =
-        both_carry draws s k.generation a b us vs p q x y k.channel l.channel k.stream l.stream k.sent k.got l.sent l.got t u
+        both_carry draws s k.generation a b us vs p q x y l.channel k.stream l.stream k.got l.sent l.got
+        (opened_of (plain_over draws) x.written x.read p k.channel k.stream k.generation k.sent k.got t) u
         (some_is t.stream s (sym t.stream_is ∙ h.reader.of)) (some_is u.stream s (sym u.stream_is ∙ sym h.stream_is ∙ h.reader.of))
         (prefix_same (read s k.generation a.association) (written s k.generation b.association) all_read) in
         all_told p k.channel t.stream k.generation s k.got t.rest h.there t.stands
@@ -170,9 +171,11 @@ module _ {N : Type 0} (draws : Draws N) where
 
     delivered : k.got ≡ l.sent
     delivered =
-        got_is (all_member (InBandTold (plain_over draws) x.written x.read p) us k x.told.each mine h.reader_in_band)
+        got_is
+        (open_told draws x.written x.read p k s h.there
+        (all_member (InBandTold (plain_over draws) x.written x.read p) us k x.told.each mine h.reader_in_band))
         (subst (λ (n : ℕ). UseTold (plain_over draws) y.written y.read q l.channel l.stream n l.sent l.got) (sym h.generation_is)
-        (all_member (InBandTold (plain_over draws) y.written y.read q) vs l y.told.each theirs h.writer_in_band))
+        ((all_member (InBandTold (plain_over draws) y.written y.read q) vs l y.told.each theirs h.writer_in_band).kept h.writer_kept))
 
   module _ (pair : PlainPair N) (uses : Side → List ChannelUse) (sent : Side → Sent) (told : Side → MessagesTold) (h : PairTold draws pair uses sent told) where
     pair_delivered : (at : Side) (drained : ℕ → Type 0) → ((channel : ℕ) → drained channel → HeardSide channel (uses at) (rtc_at at pair))
@@ -187,7 +190,7 @@ module _ {N : Type 0} (draws : Draws N) where
         (heard_open draws (uses Right) pair.right x (heard x.channel rested) mine d.reader_in_band d.reader.stream d.reader.of d.there d.reader.generation)
 
   pub run_delivered : (stun : List ℕ → Bool) (start : PlainPair N) → IsNewPair draws start → (past : List (Entry PlainMediaEvent)) (pair : PlainPair N)
-      → go_forward (steps_of past) ≡ true → (ran : Reached (plain_over draws) stun start past pair) → (at : Side)
+      → are_native (steps_of past) ≡ true → (ran : Reached (plain_over draws) stun start past pair) → (at : Side)
       → AreAllDelivered (λ channel. IsDrained at channel past) (uses_of (plain_over draws) stun start at past pair ran) (rtc_at at pair)
       (uses_of (plain_over draws) stun start (other_side at) past pair ran) (rtc_at (other_side at) pair)
   run_delivered stun start new past pair go ran at =

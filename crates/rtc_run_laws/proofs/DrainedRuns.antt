@@ -16,7 +16,7 @@ use Rattle.rtc_run_history.specs.declared.outcome.Outcome.{Outcome}
 use Rattle.rtc_run_history.specs.declared.side.Side.{Side}
 use Rattle.rtc_run_history.specs.declared.side.Side.TheVariants.{Left, Right}
 use Rattle.rtc_run_history.specs.declared.step.Step.{Step}
-use Rattle.rtc_run_history.specs.Native.{go_forward}
+use Rattle.rtc_run_history.specs.Native.{are_native}
 use Rattle.rtc_run_history.specs.PairState.{addr_at, rtc_at}
 use Rattle.rtc_run_history.specs.Past.{Entry, steps_of}
 use Rattle.rtc_run_history.specs.Runs.{Reached}
@@ -39,7 +39,7 @@ use Rattle.rtc_run_laws.proofs.DrainedSteps.{acts_heard}
 use Rattle.rtc_run_laws.proofs.HeardSides.{HeardSide, heard_there}
 use Rattle.rtc_run_laws.proofs.StandingSides.{Sent}
 use Rattle.rtc_run_laws.proofs.RunsTold.{PairTold, StoodIn, pair_wholly, reached_told, stood_in}
-use Rattle.rtc_run_laws.proofs.ForwardSteps.{forward_entry}
+use Rattle.rtc_run_laws.proofs.NativeSteps.{native_entry}
 
 module _ {N : Type 0} (draws : Draws N) where
   -- a new pair has no stream in use, and has started no association
@@ -91,7 +91,7 @@ module _ {N : Type 0} (draws : Draws N) where
       heard_here c (calls_peer outcome) step outcome (earlier Right) (rtc_at Right between) (rtc_at Right pair) (uses Right) (acted (uses Right)) acts same before d
 
   pub heard_reached : (stun : List ℕ → Bool) (start : PlainPair N) (past : List (Entry PlainMediaEvent)) (pair : PlainPair N)
-      → go_forward (steps_of past) ≡ true → (ran : Reached (plain_over draws) stun start past pair) → PairTold draws start (λ x. []) (λ x s g. []) (λ x c s g. []) → AreUnused (plain_over draws) (plain_over_laws draws) start
+      → are_native (steps_of past) ≡ true → (ran : Reached (plain_over draws) stun start past pair) → PairTold draws start (λ x. []) (λ x s g. []) (λ x c s g. []) → AreUnused (plain_over draws) (plain_over_laws draws) start
       → (at : Side) (c : ℕ) → IsDrained at c past → HeardSide c (uses_of (plain_over draws) stun start at past pair ran) (rtc_at at pair)
   heard_reached stun start [] pair go ran h unused at c d = absurd d
   heard_reached stun start (entry ∷ past) pair go ran h unused at c d =
@@ -100,7 +100,7 @@ module _ {N : Type 0} (draws : Draws N) where
       (λ before e.
       acts_heard draws c there.other (rtc_at (other_side (side_of entry.step)) ran.0) (sent (side_of entry.step)) stun (addr_at (other_side (side_of entry.step)) ran.0) (addr_at (side_of entry.step) ran.0) entry.step (rtc_at (side_of entry.step) ran.0) ran.0.sdps
       ran.0.packets entry.outcome entry.table (rtc_at (side_of entry.step) pair) pair.sdps pair.packets (uses (side_of entry.step))
-      (told (side_of entry.step)) (forward_entry entry past go).1 ran.2.performs.acts there.stood (IsDrained (side_of entry.step) c past) before e
+      (told (side_of entry.step)) (native_entry entry past go).1 ran.2.performs.acts there.stood (IsDrained (side_of entry.step) c past) before e
       (empty (side_of entry.step)))
       (λ none. (
         uncalled_same (plain_over draws) stun (addr_at (other_side (side_of entry.step)) ran.0) (addr_at (side_of entry.step) ran.0) entry.step (rtc_at (side_of entry.step) ran.0) ran.0.sdps
@@ -108,7 +108,7 @@ module _ {N : Type 0} (draws : Draws N) where
         uncalled_uses (plain_over draws) stun (addr_at (other_side (side_of entry.step)) ran.0) (addr_at (side_of entry.step) ran.0) entry.step (rtc_at (side_of entry.step) ran.0) ran.0.sdps
             ran.0.packets entry.outcome entry.table (rtc_at (side_of entry.step) pair) pair.sdps pair.packets ran.2.performs.acts (uses (side_of entry.step)) none,
       ))
-      (λ e. heard_reached stun start past ran.0 (forward_entry entry past go).0 ran.1 h unused at c e) d
+      (λ e. heard_reached stun start past ran.0 (native_entry entry past go).0 ran.1 h unused at c e) d
     where
       uses : Side → List ChannelUse
       uses x = uses_of (plain_over draws) stun start x past ran.0 ran.1
@@ -130,10 +130,10 @@ module _ {N : Type 0} (draws : Draws N) where
           (λ earlier between one after k. (stun, k)) start (entry ∷ past) pair unused ran
 
       there : StoodIn draws (side_of entry.step) ran.0 uses sent told
-      there = stood_in draws (side_of entry.step) ran.0 uses sent told (reached_told draws stun start past ran.0 (forward_entry entry past go).0 ran.1 h)
+      there = stood_in draws (side_of entry.step) ran.0 uses sent told (reached_told draws stun start past ran.0 (native_entry entry past go).0 ran.1 h)
 
   pub pair_drained : (stun : List ℕ → Bool) (start : PlainPair N) (past : List (Entry PlainMediaEvent)) (pair : PlainPair N)
-      → go_forward (steps_of past) ≡ true → (ran : Reached (plain_over draws) stun start past pair) → PairTold draws start (λ x. []) (λ x s g. []) (λ x c s g. []) → AreUnused (plain_over draws) (plain_over_laws draws) start
+      → are_native (steps_of past) ≡ true → (ran : Reached (plain_over draws) stun start past pair) → PairTold draws start (λ x. []) (λ x s g. []) (λ x c s g. []) → AreUnused (plain_over draws) (plain_over_laws draws) start
       → (at : Side)
       → AreAllHandedOut draws (λ channel. IsDrained at channel past) (uses_of (plain_over draws) stun start at past pair ran) (rtc_at at pair)
       (uses_of (plain_over draws) stun start (other_side at) past pair ran) (rtc_at (other_side at) pair)

@@ -36,21 +36,21 @@ use Rattle.rtc_run_history.specs.declared.step.Step.{Step}
 use Rattle.rtc_run_history.specs.declared.step.Step.TheVariants as step
 use Rattle.rtc_run_history.specs.declared.table.Table.{Table}
 use Rattle.rtc_run_history.specs.CallReplies.{ClosesOpenChannel, FindsNone, StepCalls, StepClosesChannel, StepWrites, StepWritesOpen}
-use Rattle.rtc_run_history.specs.Native.{goes_forward}
+use Rattle.rtc_run_history.specs.Native.{is_native}
 use Rattle.rtc_run_history.specs.PairState.{held_token, kept_remote_sdp}
 use Rattle.rtc_run_history.specs.Performs.{Acts, DrainsOn, DrainsPeer, PollsOnce, PollsShown, StepPollsPeer}
 use Rattle.rtc_run_history.specs.Sides.{side_of}
 use Rattle.rtc_run_laws.proofs.UnusedStreams.{IsUnused}
 use Rattle.rtc_run_laws.specs.PlainPairs.{PlainPolled, plain_over}
-use Rattle.rtc_run_laws.proofs.NegotiationActed.{answer_acts, negotiates_did, offer_acts}
+use Rattle.rtc_run_laws.proofs.NegotiationActed.{answer_acts, negotiates_did, offer_acts, rollback_acts}
 use Rattle.rtc_run_laws.proofs.StepsExchange.{plain_over_laws}
 use Rattle.rtc_run_laws.specs.ChannelUses.{ChannelUse, announced_use, uses_shown, uses_told}
 use Rattle.rtc_run_laws.specs.DrainedSides.{DrainedByEvent, DrainedByOutcome, DrainedByOutputs, DrainedByStep}
 use Rattle.rtc_run_laws.specs.PollsOfRuns.{by_drain, by_drain_step, by_poll, by_poll_step, by_polls}
 use Rattle.rtc_run_laws.specs.ToldMessages.{MessagesTold, told_shown}
 use Rattle.rtc_run_laws.specs.UsesOfRuns.{uses_acted, uses_written}
-use Rattle.rtc_run_laws.proofs.HeardSides.{HeardSide, heard_got, heard_kept, heard_more, heard_same, heard_sent}
-use Rattle.rtc_run_laws.proofs.KeptNegotiation.{answer_step_keeps, negotiates_keep, offer_step_keeps}
+use Rattle.rtc_run_laws.proofs.HeardSides.{HeardSide, heard_got, heard_kept, heard_more, heard_rolled, heard_same, heard_sent}
+use Rattle.rtc_run_laws.proofs.KeptNegotiation.{answer_step_keeps, negotiates_keep, offer_step_keeps, rollback_leaves}
 use Rattle.rtc_run_laws.proofs.PolledSteps.{shown_stood}
 use Rattle.rtc_run_laws.proofs.RowLemmas.{closed_stays}
 use Rattle.rtc_run_laws.proofs.StandingSides.{Sent, Stood}
@@ -248,7 +248,7 @@ module _ {N : Type 0} (draws : Draws N) (c : ℕ) where
   module _ (b : PeerActs) (q : PlainPolled N) (sent : Sent) where
     pub acts_heard : (stun : List ℕ → Bool) (other own : Addr) (one : Step) (old : PlainPolled N) (sdps : List Kept) (packets : List SentPacket)
         (outcome : Outcome PlainMediaEvent) (table : Option Table) (new : PlainPolled N) (sdps' : List Kept) (packets' : List SentPacket)
-        (uses : List ChannelUse) (told : MessagesTold) → goes_forward one ≡ true
+        (uses : List ChannelUse) (told : MessagesTold) → is_native one ≡ true
         → (h : Acts (plain_over draws) stun other own one old sdps packets outcome table new sdps' packets')
         → Stood draws (side_of one) packets b q uses sent told old → (earlier : Type 0) → (earlier → HeardSide c uses old)
         → DrainedByStep c one outcome earlier → IsUnused (plain_over draws) (plain_over_laws draws) new.core
@@ -278,7 +278,11 @@ module _ {N : Type 0} (draws : Draws N) (c : ℕ) where
     acts_heard stun other own (step.Close at) old sdps packets outcome table new sdps' packets' uses told go h stood earlier before d unused =
         calls_heard (ClosesPeer (plain_over draws)) uses (λ p r next closes k. closed_heard uses p r next closes k) old outcome table new h.0 (before d)
     acts_heard stun other own (step.Rollback at token) old sdps packets outcome table new sdps' packets' uses told go h stood earlier before d unused =
-        absurd (true≢false (sym go))
+        let leaves = rollback_leaves (plain_over draws) token (held_token sdps at token) old sdps outcome table new sdps' h.0 in
+        heard_rolled c old.core.channels.rows new.core.channels.rows uses new
+        (heard_kept draws c begun_here _ [] [] [] old new uses
+        (rollback_acts (plain_over draws) token (held_token sdps at token) old sdps outcome table new sdps' h.0) begun_empty leaves.gone leaves.closed
+        (before d))
     acts_heard stun other own (step.ForeignOffer at text) old sdps packets outcome table new sdps' packets' uses told go h stood earlier before d unused =
         absurd (true≢false (sym go))
     acts_heard stun other own (step.ForeignAnswer at token text) old sdps packets outcome table new sdps' packets' uses told go h stood earlier before d unused =

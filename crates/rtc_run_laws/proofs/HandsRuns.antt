@@ -4,7 +4,7 @@ use Rattle.rtc_part_values.specs.Draws.{Draws}
 use Rattle.rtc_plain_media.specs.declared.plain_media_event.PlainMediaEvent.{PlainMediaEvent}
 use Rattle.rtc_run_history.specs.declared.reply.Reply.{Reply}
 use Rattle.rtc_run_history.specs.declared.step.Step.{Step}
-use Rattle.rtc_run_history.specs.Native.{go_forward}
+use Rattle.rtc_run_history.specs.Native.{are_native}
 use Rattle.rtc_run_history.specs.Past.{steps_of}
 use Rattle.rtc_run_history.specs.Runs.{Reached, Runs}
 use Rattle.rtc_run_laws.specs.HandedOut.{HandsOut}
@@ -16,14 +16,14 @@ use Rattle.rtc_run_laws.specs.ToldMessages.{told_over}
 use Rattle.rtc_run_laws.specs.UsesOfRuns.{reached_by, uses_in_run}
 use Rattle.rtc_run_laws.proofs.Delivered.{run_delivered}
 use Rattle.rtc_run_laws.proofs.DrainedRuns.{new_unused, pair_drained}
-use Rattle.rtc_run_laws.proofs.RunsTold.{PairTold, new_pair_told, pair_handed, pair_once, pair_told_whole, pair_whole, pair_wholly, reached_told}
+use Rattle.rtc_run_laws.proofs.RunsTold.{PairTold, new_pair_told, pair_handed, pair_handed_over, pair_once, pair_told_whole, pair_whole, pair_wholly, reached_told}
 use Rattle.rtc_run_laws.proofs.SilentRuns.{run_got, run_told, run_told_sent}
 
 module _ {N : Type 0} (draws : Draws N) where
   pub run_hands_out : (stun : List ℕ → Bool) (start pair : PlainPair N) (steps : List Step) (replies : List (Reply PlainMediaEvent)) → IsNewPair draws start
-      → go_forward steps ≡ true → (run : Runs (plain_over draws) stun start steps replies pair) → HandsOut draws stun start steps replies pair run
-  run_hands_out stun start pair steps replies new forward run =
-      let go : go_forward (steps_of run.past) ≡ true = ap go_forward run.steps_are ∙ forward in
+      → are_native steps ≡ true → (run : Runs (plain_over draws) stun start steps replies pair) → HandsOut draws stun start steps replies pair run
+  run_hands_out stun start pair steps replies new native run =
+      let go : are_native (steps_of run.past) ≡ true = ap are_native run.steps_are ∙ native in
       let ran : Reached (plain_over draws) stun start run.past pair = reached_by (plain_over draws) stun start run.past pair run.went in
       let told : PairTold draws pair (uses_in_run (plain_over draws) stun start steps replies pair run) (λ z. sent_over (plain_over draws) stun start z run.past pair ran)
       (λ z. told_over (plain_over draws) stun start z run.past pair ran) =
@@ -36,6 +36,8 @@ module _ {N : Type 0} (draws : Draws N) where
         told = λ at. pair_told_whole draws pair (uses_in_run (plain_over draws) stun start steps replies pair run) (λ z. sent_over (plain_over draws) stun start z run.past pair ran)
             (λ z. told_over (plain_over draws) stun start z run.past pair ran) at told;
         handed = λ at. pair_handed draws pair (uses_in_run (plain_over draws) stun start steps replies pair run) (λ z. sent_over (plain_over draws) stun start z run.past pair ran)
+            (λ z. told_over (plain_over draws) stun start z run.past pair ran) at told;
+        over = λ at. pair_handed_over draws pair (uses_in_run (plain_over draws) stun start steps replies pair run) (λ z. sent_over (plain_over draws) stun start z run.past pair ran)
             (λ z. told_over (plain_over draws) stun start z run.past pair ran) at told;
         all = λ at. pair_wholly draws pair (uses_in_run (plain_over draws) stun start steps replies pair run) (λ z. sent_over (plain_over draws) stun start z run.past pair ran)
             (λ z. told_over (plain_over draws) stun start z run.past pair ran) at told;

@@ -6,19 +6,20 @@ use Rattle.rtc_part_dtls.specs.DtlsWords.{dtls_got}
 use Rattle.rtc_assoc_state.specs.Contents.{Contents, generation_of, has_unread}
 use Rattle.rtc_part_values.specs.Draws.{Draws}
 use Rattle.rtc_sctp_laws.specs.StreamMessages.{StreamMessage}
+use Rattle.rtc_channels.specs.Channels.{Channel}
 use Rattle.rtc_peer_core.specs.declared.phase.Phase.TheVariants.{Closed}
 use Rattle.rtc_peer_laws.specs.Acts.{PeerDid}
 use Rattle.rtc_peer_laws.specs.ChannelStreams.{IsGone}
 use Rattle.rtc_peer_laws.specs.PeerActs.{Came}
 use Rattle.rtc_peer_laws.proofs.ChannelsOver.{none_under}
 use Rattle.rtc_run_laws.specs.PlainPairs.{PlainPolled, plain_over}
-use Rattle.rtc_run_laws.specs.ChannelUses.{ChannelUse, with_got_message, with_sent_message}
+use Rattle.rtc_run_laws.specs.ChannelUses.{ChannelUse, with_got_message, with_rolled_back, with_sent_message}
 use Rattle.rtc_run_laws.specs.OpenUses.{StaysOpen}
 use Rattle.rtc_run_laws.proofs.FinishedSides.{none_among}
 use Rattle.rtc_run_laws.proofs.QuietActs.{HoldsNoOutput, StaysHeard, dtls_quiet, quiet_moved}
 use Rattle.rtc_peer_transport.specs.ChannelCalls.{open_stream_under}
 use Rattle.rtc_run_laws.proofs.OpenStreams.{open_free, open_placed}
-use Rattle.rtc_run_laws.proofs.UseLists.{AllUses, all_got, all_kept, all_member, all_more, all_sent}
+use Rattle.rtc_run_laws.proofs.UseLists.{AllUses, all_got, all_kept, all_member, all_more, all_rolled, all_sent}
 
 -- a stream of which nothing stands unread, by acts that bring nothing
 still_heard : (a b : Contents) (s : ℕ) → StaysHeard a b → has_unread a s (generation_of a s) ≡ false → has_unread b s (generation_of b s) ≡ false
@@ -71,6 +72,14 @@ heard_more own x uses p other (inl closed) = inl closed
 heard_more own x uses p other (inr (inl h)) =
     inr (inl (record { quiet = h.quiet; each = all_more (HeardUse own p) uses x h.each (λ band is s of. absurd (other is)) }))
 heard_more own x uses p other (inr (inr gone)) = inr (inr (all_more (GoneUse own p) uses x gone (λ band is. absurd (other is))))
+
+pub heard_rolled : {N : Type 0} (own : ℕ) (before after : List Channel) (uses : List ChannelUse) (p : PlainPolled N) → HeardSide own uses p
+    → HeardSide own (with_rolled_back before after uses) p
+heard_rolled own before after uses p (inl closed) = inl closed
+heard_rolled own before after uses p (inr (inl h)) =
+    inr (inl (record { quiet = h.quiet; each = all_rolled (HeardUse own p) (HeardUse own p) before after uses (λ x e k. k) (λ x e k. k) h.each }))
+heard_rolled own before after uses p (inr (inr gone)) =
+    inr (inr (all_rolled (GoneUse own p) (GoneUse own p) before after uses (λ x e k. k) (λ x e k. k) gone))
 
 pub heard_same : {N : Type 0} (own : ℕ) (uses : List ChannelUse) (p q : PlainPolled N) → q ≡ p → HeardSide own uses p → HeardSide own uses q
 heard_same {N} own uses p q same h = subst (λ (x : PlainPolled N). HeardSide own uses x) (sym same) h

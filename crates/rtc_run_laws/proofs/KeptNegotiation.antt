@@ -12,9 +12,10 @@ use Rattle.rtc_peer_core.specs.Calls.{ChangesLine}
 use Rattle.rtc_peer_core.specs.Meanings.{Meanings}
 use Rattle.rtc_peer_transport.specs.declared.polled_peer.PolledPeer.{PolledPeer}
 use Rattle.rtc_peer_laws.specs.Acts.{with_core}
-use Rattle.rtc_peer_laws.specs.KeptChannels.{CallKeepsStreams}
+use Rattle.rtc_peer_laws.specs.KeptChannels.{CallKeepsStreams, CallLeavesStreams}
 use Rattle.rtc_peer_laws.proofs.KeptAcceptances.{answer_keeps, offer_keeps}
 use Rattle.rtc_peer_laws.proofs.KeptPeers.{calls_on, same_kept}
+use Rattle.rtc_peer_laws.proofs.KeptRollbacks.{leaves_of, rolled_back}
 use Rattle.rtc_peer_laws.proofs.KeptStaging.{applied, channel_added}
 use Rattle.rtc_run_history.specs.Signalled.{Signalled, NotMade, Unreadable, Readable}
 use Rattle.rtc_run_history.specs.declared.side.Side.{Side}
@@ -26,11 +27,11 @@ use Rattle.rtc_run_history.specs.declared.op_answer.OpAnswer.TheVariants.{BadCha
 use Rattle.rtc_run_history.specs.declared.made.Made.{Made}
 use Rattle.rtc_run_history.specs.declared.made.Made.TheVariants.{NotAsked, Nothing, Offer, Alloc as MadeAlloc}
 use Rattle.rtc_run_history.specs.declared.outcome.Outcome.{Outcome}
-use Rattle.rtc_run_history.specs.declared.outcome.Outcome.TheVariants.{Negotiated, Answered, Finished, Refused, NoSuch, Alloc}
+use Rattle.rtc_run_history.specs.declared.outcome.Outcome.TheVariants.{Negotiated, Answered, Finished, Done, Refused, NoSuch, Alloc}
 use Rattle.rtc_run_history.specs.declared.table.Table.{Table}
 use Rattle.rtc_run_history.specs.declared.kept.Kept.{Kept}
 use Rattle.rtc_run_history.specs.Memory.{answers_lack}
-use Rattle.rtc_run_history.specs.Performs.{PerformsOps, MakesOf, Negotiates, StepAcceptsOffer, StepAcceptsAnswer, lent}
+use Rattle.rtc_run_history.specs.Performs.{PerformsOps, MakesOf, Negotiates, StepAcceptsOffer, StepAcceptsAnswer, StepRollsBack, lent}
 
 module _ {I D S M E X T W N : Type 0} (m : Meanings I D S M E X T W N) where
   -- streams, channels and the phase are those of another peer
@@ -102,6 +103,23 @@ module _ {I D S M E X T W N : Type 0} (m : Meanings I D S M E X T W N) where
       (core_on old (lent old.core) h.0 new.core (ops_keep old (lent old.core) ops answers h.0 h.1)
       (makes_keep old (apply && not (answers_lack answers)) at h.0 sdps made new.core sdps' h.2))
   negotiates_keep at ops apply old sdps outcome table new sdps' h = absurd h
+
+  -- a rollback may remove channels
+  lent_leave : (old new : PolledPeer I D S M N) → CallLeavesStreams m (with_core (lent old.core) old) [] (with_core new.core old)
+      → CallLeavesStreams m old [] new
+  lent_leave old new h = record { uses = h.uses; lives = h.lives; numbers = h.numbers; gone = h.gone; closed = h.closed; running = h.running; given = h.given; fresh = h.fresh }
+
+  pub rollback_leaves : (t : ℕ) (token : Option PendingOffer) (old : PolledPeer I D S M N) (sdps : List Kept) (outcome : Outcome E)
+      (table : Option Table) (new : PolledPeer I D S M N) (sdps' : List Kept) → StepRollsBack m t token old.core sdps outcome table new.core sdps'
+      → CallLeavesStreams m old [] new
+  rollback_leaves t None old sdps Alloc None new sdps' h = leaves_of m old new [] (same_keep old new h.peer)
+  rollback_leaves t (Some token) old sdps Alloc None new sdps' h = leaves_of m old new [] (same_keep old new h.peer)
+  rollback_leaves t None old sdps NoSuch (Some table) new sdps' h = leaves_of m old new [] (same_keep old new h.0.peer)
+  rollback_leaves t (Some token) old sdps Done (Some table) new sdps' h =
+      lent_leave old new (rolled_back m (with_core (lent old.core) old) token (Ok tt) new.core h.0)
+  rollback_leaves t (Some token) old sdps (Refused error) (Some table) new sdps' h =
+      lent_leave old new (rolled_back m (with_core (lent old.core) old) token (Err error) new.core h.0)
+  rollback_leaves t token old sdps outcome table new sdps' h = absurd h
 
   module _ (w : AssociationLaws m.association) where
     pub offer_step_keeps : (at : Side) (offer : Signalled) (old : PolledPeer I D S M N) (sdps : List Kept) (outcome : Outcome E) (table : Option Table)

@@ -21,7 +21,7 @@ use Rattle.rtc_sctp.specs.Streams.{SctpStreams, is_established}
 use Rattle.rtc_sctp_laws.specs.GenerationLaws.{GenerationLaws}
 use Rattle.rtc_run_history.specs.declared.side.Side.{Side}
 use Rattle.rtc_run_history.specs.declared.side.Side.TheVariants.{Left, Right}
-use Rattle.rtc_run_history.specs.Native.{go_forward}
+use Rattle.rtc_run_history.specs.Native.{are_native}
 use Rattle.rtc_run_history.specs.PairState.{PairState, rtc_at}
 use Rattle.rtc_run_history.specs.Past.{Entry, steps_of}
 use Rattle.rtc_run_history.specs.Runs.{Reached}
@@ -30,8 +30,8 @@ use Rattle.rtc_run_laws.specs.PlainPairs.{PlainPair, PlainPolled, plain_over}
 use Rattle.rtc_run_laws.proofs.StepsExchange.{plain_over_laws}
 use Rattle.rtc_run_laws.proofs.ConfirmedRuns.{last_rows}
 use Rattle.rtc_run_laws.proofs.KnownRows.{rows_known}
-use Rattle.rtc_run_laws.proofs.StepRows.{StepRows}
-use Rattle.rtc_run_laws.proofs.ForwardSteps.{forward_entry}
+use Rattle.rtc_run_laws.proofs.StepRows.{StepChanges, changes_closed}
+use Rattle.rtc_run_laws.proofs.NativeSteps.{native_entry}
 
 module _ {I D S M E X T W N : Type 0} (m : Meanings I D S M E X T W N) (laws : PartsLaws m) (sound : S → Type 0) (v : GenerationLaws m.association)
     (u : UnreadLaws m.association sound) where
@@ -39,19 +39,20 @@ module _ {I D S M E X T W N : Type 0} (m : Meanings I D S M E X T W N) (laws : P
   abbrev pub SideKnown : PolledPeer I D S M N → Type 0
   SideKnown p = (p.core.phase ≡ Closed) ⊎ AreKnown m.association sound p.core.sctp
 
-  known_on : (p q : PolledPeer I D S M N) → StepRows m p q → SideKnown p → SideKnown q
-  known_on p q h (inl closed) = inl (h.closed closed)
-  known_on p q h (inr known) = by h.changed
+  known_on : (p q : PolledPeer I D S M N) → StepChanges m p q → SideKnown p → SideKnown q
+  known_on p q h (inl closed) = inl (changes_closed m p q h closed)
+  known_on p q (inr h) (inr known) = inr (subst (λ (x : SctpStreams S). AreKnown m.association sound x) (sym h.sctp) known)
+  known_on p q (inl h) (inr known) = by h.changed
     where
       by : (q.core.phase ≡ Closed) ⊎ RowsChanged m.association p.core.channels p.core.sctp q.core.channels q.core.sctp → SideKnown q
       by (inl closed) = inl closed
       by (inr changed) = inr (rows_known m.association sound laws.association v u p.core.channels p.core.sctp q.core.channels q.core.sctp changed known)
 
   pub run_known : (stun : List ℕ → Bool) (start : PairState I D S M N) (past : List (Entry E)) (pair : PairState I D S M N)
-      → go_forward (steps_of past) ≡ true → Reached m stun start past pair → ((at : Side) → SideKnown (rtc_at at start)) → (at : Side) → SideKnown (rtc_at at pair)
+      → are_native (steps_of past) ≡ true → Reached m stun start past pair → ((at : Side) → SideKnown (rtc_at at start)) → (at : Side) → SideKnown (rtc_at at pair)
   run_known stun start [] pair go ran h at = subst (λ (x : PairState I D S M N). SideKnown (rtc_at at x)) (sym ran) (h at)
   run_known stun start (entry ∷ past) pair go ran h at =
-      known_on (rtc_at at ran.0) (rtc_at at pair) (last_rows m laws stun start entry past pair go ran at) (run_known stun start past ran.0 (forward_entry entry past go).0 ran.1 h at)
+      known_on (rtc_at at ran.0) (rtc_at at pair) (last_rows m laws stun start entry past pair go ran at) (run_known stun start past ran.0 (native_entry entry past go).0 ran.1 h at)
 
 -- ---- new peers
 

@@ -101,7 +101,7 @@ pub mod ReadFacts
 mod StartFacts
 pub mod Reaches
 pub mod OutstandingRuns
-mod ForwardSteps
+mod NativeSteps
 pub mod CountedFaults
 pub mod StreamFaults
 pub mod MediaFaults
@@ -132,6 +132,7 @@ mod WorkedRests
 mod UseLists
 mod RowLemmas
 mod UsesTold
+mod RolledUses
 mod AnnouncedStreams
 mod UsesPolled
 mod UsesOpened
@@ -192,6 +193,8 @@ pub mod KnownRuns
 pub mod KnownSides
 pub mod RefusedSides
 mod OwnedRows
+mod SureRows
+mod CancelledSides
 mod OwnedAllocation
 mod OwnedChanges
 mod SideChanges

@@ -31,7 +31,7 @@ use Rattle.rtc_run_laws.specs.PlainPairs.{PlainPolled, plain_over}
 use Rattle.rtc_run_laws.proofs.StepsExchange.{plain_over_laws}
 use Rattle.rtc_run_laws.specs.ChannelUses.{ChannelUse}
 use Rattle.rtc_run_laws.specs.OpenUses.{StaysOpen}
-use Rattle.rtc_run_laws.specs.SettledPairs.{IsInBandStream, IsSettledPeer}
+use Rattle.rtc_run_laws.specs.SettledPairs.{IsInBandStream, IsSettledPeer, NoneRolledBack}
 use Rattle.rtc_run_laws.proofs.AllHanded.{not_past}
 use Rattle.rtc_run_laws.proofs.AnnouncedStreams.{AnnouncedUnlessClosed, HasUseOver, OpenOne, found, open_one}
 use Rattle.rtc_run_laws.proofs.TimeoutSides.{live_open, waits_none}
@@ -178,7 +178,7 @@ module _ {N : Type 0} (draws : Draws N) where
 
   module _ (b : PeerActs) (vs : List ChannelUse) (q : PlainPolled N) (y : SideStood draws b vs q) (there : IsSettledPeer q)
       (heard : AreHeard plain_meaning q.core.sctp.association q.core.sctp.entries) (c s : ℕ) (band : IsInBandStream s q.core.sctp.entries)
-      (shown : open_stream_under c q ≡ Some s) (unclosed : closed_here q.core.sctp.association s ≡ false) where
+      (shown : open_stream_under c q ≡ Some s) (unclosed : closed_here q.core.sctp.association s ≡ false) (stand : NoneRolledBack s vs q) where
     opened : OpenEntry s q.core.sctp.entries
     opened =
         open_entry_of s q.core.sctp.entries band
@@ -188,7 +188,7 @@ module _ {N : Type 0} (draws : Draws N) where
     by_found : (l : ChannelUse) → Member l vs → l.in_band ≡ true → l.stream ≡ Some s
         → l.generation ≡ generation_of q.core.sctp.association s → OwnUse c s vs q
     by_found l mine banded of own =
-        let t = all_member (InBandTold (plain_over draws) y.written y.read q) vs l y.told.each mine banded in
+        let t = (all_member (InBandTold (plain_over draws) y.written y.read q) vs l y.told.each mine banded).kept (stand l mine of own) in
         let at =
         use_stays q l t.rest s of there y.told.numbers (sym own) (ap (λ (d : Bool). d || is_ending q.core.sctp.association) unclosed ∙ there.lasting)
         (subst (λ (n : ℕ). StandsSo (plain_over draws) l.channel n l.generation l.got t.rest q) (some_is t.stream s (sym t.stream_is ∙ of)) t.stands) in

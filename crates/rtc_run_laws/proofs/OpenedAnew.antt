@@ -4,6 +4,7 @@ use Rattle.rtc_part_association.specs.AssociationLaws.{AssociationLaws}
 use Rattle.rtc_sctp_laws.specs.StreamMessages.{StreamMessage, is_dcep_message}
 use Rattle.rtc_sctp_laws.specs.GenerationLaws.{GenerationLaws}
 use Rattle.rtc_sctp_laws.specs.StreamUses.{any_dcep, messages_of}
+use Rattle.rtc_channels.specs.Channels.{Channel}
 use Rattle.rtc_peer_core.specs.Meanings.{Meanings}
 use Rattle.rtc_peer_transport.specs.ChannelCalls.{stream_under}
 use Rattle.rtc_peer_transport.specs.declared.event.Event.TheVariants.{ChannelOpen}
@@ -15,12 +16,12 @@ use Rattle.rtc_peer_laws.specs.ChannelStreams.{AreNumberedChannels}
 use Rattle.rtc_peer_laws.proofs.ChannelsOver.{none_over}
 use Rattle.rtc_peer_laws.proofs.OpenedOnce.{not_again, opened_once}
 use Rattle.rtc_run_laws.specs.AnnouncedOnce.{AreAnnouncedOnce, AreOthers, IsAnother}
-use Rattle.rtc_run_laws.specs.ChannelUses.{ChannelUse, announced_use, generation_under, with_got_message, with_sent_message}
+use Rattle.rtc_run_laws.specs.ChannelUses.{ChannelUse, announced_use, generation_under, loses_channel, with_got_message, with_rolled_back, with_sent_message}
 use Rattle.rtc_run_laws.proofs.RowLemmas.{closed_stays}
 use Rattle.rtc_run_laws.proofs.UseLists.{AllUses}
 use Rattle.rtc_run_laws.proofs.UsesOpened.{opening_placed, settled_out}
 use Rattle.rtc_run_laws.proofs.UsesPolled.{no_timeout}
-use Rattle.rtc_run_laws.proofs.UsesTold.{HasGone, InBandTold, IsOver, Lives, StandsSo, UseTold, UsedUnlessClosed}
+use Rattle.rtc_run_laws.proofs.UsesTold.{HasGone, InBandTold, IsOver, Lives, StandsSo, UseOpened, UseStands, UsedUnlessClosed, use_opened}
 
 -- ---- lists of uses
 
@@ -39,6 +40,13 @@ got_another x y l k true false h = h
 got_another x y l k false true h = h
 got_another x y l k false false h = h
 
+rolled_another : (x y : ChannelUse) (a b : Bool) → IsAnother x y
+    → IsAnother (if a then record x { rolled_back = true } else x) (if b then record y { rolled_back = true } else y)
+rolled_another x y true true h = h
+rolled_another x y true false h = h
+rolled_another x y false true h = h
+rolled_another x y false false h = h
+
 sent_others : (c : ℕ) (message : Bool × List ℕ) (x : ChannelUse) (uses : List ChannelUse) → AreOthers x uses
     → AreOthers (if x.channel == c then record x { sent = x.sent ++ message ∷ [] } else x) (with_sent_message c message uses)
 sent_others c message x [] h = tt
@@ -54,6 +62,18 @@ got_others c message x (y ∷ uses) h = (
   got_another x y (x.got ++ message ∷ []) (y.got ++ message ∷ []) (x.channel == c) (y.channel == c) h.0,
   got_others c message x uses h.1,
 )
+
+rolled_others : (before after : List Channel) (x : ChannelUse) (uses : List ChannelUse) → AreOthers x uses
+    → AreOthers (if loses_channel x.channel before after then record x { rolled_back = true } else x) (with_rolled_back before after uses)
+rolled_others before after x [] h = tt
+rolled_others before after x (y ∷ uses) h = (
+  rolled_another x y (loses_channel x.channel before after) (loses_channel y.channel before after) h.0,
+  rolled_others before after x uses h.1,
+)
+
+pub once_rolled : (before after : List Channel) (uses : List ChannelUse) → AreAnnouncedOnce uses → AreAnnouncedOnce (with_rolled_back before after uses)
+once_rolled before after [] h = tt
+once_rolled before after (x ∷ uses) h = (rolled_others before after x uses h.0, once_rolled before after uses h.1)
 
 pub once_sent : (c : ℕ) (message : Bool × List ℕ) (uses : List ChannelUse) → AreAnnouncedOnce uses → AreAnnouncedOnce (with_sent_message c message uses)
 once_sent c message [] h = tt
@@ -105,14 +125,23 @@ module _ {I D S M E X T W N : Type 0} (m : Meanings I D S M E X T W N) (w : Asso
       no_timeout (ChannelOpen id label) _ (Ok (outputs.Event (ChannelOpen id label))) refl
       (closed_stays m p (Ok (outputs.Event (ChannelOpen id label))) q closed h).0
 
+  -- also than one that was rolled back
+  other_channel : (x : ChannelUse) → UseStands m written read p x → x.channel ≡ id → ⊥
+  other_channel x u e = by x.rolled_back refl
+    where
+      by : (b : Bool) → x.rolled_back ≡ b → ⊥
+      by true f =
+          none_over acts.streams.opens.stream x.channel q.core.channels.rows (acts.streams.gone x.channel (u.undone f).gone).1
+          (acts.streams.opens.over ∙ ap (λ (n : ℕ). Some n) (sym e))
+      by false f = let t = u.kept f in new_channel x.channel t.stream x.generation x.got t.rest t.stands e
+
   -- and the generation
-  new_generation : (c : ℕ) (of : Option ℕ) (g : ℕ) (sent got : List (Bool × List ℕ)) → UseTold m written read p c of g sent got
-      → UsedUnlessClosed m written read p → (announced_use m id q).in_band ≡ true → of ≡ stream_under id q.core.channels
+  new_generation : (of : Option ℕ) (g : ℕ) (got : List (Bool × List ℕ)) → UseOpened written read of g got → UsedUnlessClosed m written read p → (announced_use m id q).in_band ≡ true → of ≡ stream_under id q.core.channels
       → g ≡ generation_under m (stream_under id q.core.channels) q → ⊥
-  new_generation c of g sent got t (inl closed) band same own =
+  new_generation of g got t (inl closed) band same own =
       no_timeout (ChannelOpen id label) _ (Ok (outputs.Event (ChannelOpen id label))) refl
       (closed_stays m p (Ok (outputs.Event (ChannelOpen id label))) q closed h).0
-  new_generation c of g sent got t (inr uses) band same own =
+  new_generation of g got t (inr uses) band same own =
       let placed : stream_under id q.core.channels ≡ Some acts.streams.opens.stream = opening_placed m w v p q id label h acts numbers written read in
       let stream : t.stream ≡ acts.streams.opens.stream = some_is t.stream acts.streams.opens.stream (sym t.stream_is ∙ same ∙ placed) in
       let generation : g ≡ m.association.generation q.core.sctp.association acts.streams.opens.stream =
@@ -127,7 +156,7 @@ module _ {I D S M E X T W N : Type 0} (m : Meanings I D S M E X T W N) (w : Asso
 
   pub opening_other : (x : ChannelUse) → UsedUnlessClosed m written read p → InBandTold m written read p x → IsAnother x (announced_use m id q)
   opening_other x used told = λ band other.
-      let t = told band in (
-        λ same. new_channel x.channel t.stream x.generation x.got t.rest t.stands same,
-        λ same own. new_generation x.channel x.stream x.generation x.sent x.got t used other same own,
+      let u = told band in (
+        λ same. other_channel x u same,
+        λ same own. new_generation x.stream x.generation x.got (use_opened m written read p x u) used other same own,
       )

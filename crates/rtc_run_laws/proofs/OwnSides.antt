@@ -8,7 +8,7 @@ use Rattle.rtc_plain_media.specs.declared.plain_media_event.PlainMediaEvent.{Pla
 use Rattle.rtc_sctp_entries.specs.declared.stream_entry.StreamEntry.{StreamEntry}
 use Rattle.rtc_run_history.specs.declared.side.Side.{Side}
 use Rattle.rtc_run_history.specs.declared.side.Side.TheVariants.{Left, Right}
-use Rattle.rtc_run_history.specs.Native.{go_forward}
+use Rattle.rtc_run_history.specs.Native.{are_native}
 use Rattle.rtc_run_history.specs.PairState.{rtc_at}
 use Rattle.rtc_run_history.specs.Past.{Entry, steps_of}
 use Rattle.rtc_run_history.specs.Runs.{Reached}
@@ -58,7 +58,7 @@ never_both s p q own theirs sides band here there =
     sides (one_side q.core.sctp.client p.core.sctp.client (sym (theirs s band.there there) ∙ own s band.here here))
 
 module _ {N : Type 0} (draws : Draws N) (stun : List ℕ → Bool) (start : PlainPair N) (past : List (Entry PlainMediaEvent)) (pair : PlainPair N)
-    (go : go_forward (steps_of past) ≡ true) (ran : Reached (plain_over draws) stun start past pair) (new : IsNewPair draws start) where
+    (go : are_native (steps_of past) ≡ true) (ran : Reached (plain_over draws) stun start past pair) (new : IsNewPair draws start) where
   sound_start : (at : Side) → SideSound (plain_over draws) (plain_over_laws draws) (rtc_at at start)
   sound_start Left = inr (new_sound draws start.left new.left)
   sound_start Right = inr (new_sound draws start.right new.right)
@@ -92,8 +92,8 @@ module _ {N : Type 0} (draws : Draws N) (stun : List ℕ → Bool) (start : Plai
         → AreConfirmedAlone draws (λ c. WasConfirmed (plain_over draws) stun start at c past pair ran)
         (uses_of (plain_over draws) stun start at past pair ran) (rtc_at at pair)
         (uses_of (plain_over draws) stun start (other_side at) past pair ran) (rtc_at (other_side at) pair)
-    settled_alone at idle = λ c s confirmed under band channels.
-        by c s channels (settled_refused draws stun start past pair go ran h unused settled new at idle c s confirmed under band)
+    settled_alone at idle = λ c s confirmed under band channels stand.
+        by c s channels (settled_refused draws stun start past pair go ran h unused settled new at idle c s confirmed under band stand)
       where
         by : (c s : ℕ) → AreInBandChannels s (rtc_at at pair) (rtc_at (other_side at) pair)
             → IsOpenAtBoth draws c (uses_of (plain_over draws) stun start at past pair ran) (rtc_at at pair)

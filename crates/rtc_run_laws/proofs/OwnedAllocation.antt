@@ -97,7 +97,7 @@ settled_given id t (channel ∷ rest) rows k = (settled_same id t channel.id row
 
 -- ---- rows that are given streams
 
-given_has : (f : Option ℕ → Type 0) (s id t : ℕ) (rows : List Channel) → under_rows id rows ≡ None → HasOver f s rows → HasOver f s (rows_given id t rows)
+given_has : (f : Option ℕ → Bool → Type 0) (s id t : ℕ) (rows : List Channel) → under_rows id rows ≡ None → HasOver f s rows → HasOver f s (rows_given id t rows)
 given_has f s id t [] bare h = absurd h
 given_has f s id t (row ∷ rows) bare h = by (row.id == id) bare h (λ e k. given_has f s id t rows e k)
   where
@@ -109,7 +109,7 @@ given_has f s id t (row ∷ rows) bare h = by (row.id == id) bare h (λ e k. giv
     by false e (inl k) rest = inl k
     by false e (inr k) rest = inr (rest e k)
 
-allocated_from : (f : Option ℕ → Type 0) (parity least s : ℕ) (channels : List Channel) (held : Channels) → AreRising least channels
+allocated_from : (f : Option ℕ → Bool → Type 0) (parity least s : ℕ) (channels : List Channel) (held : Channels) → AreRising least channels
     → AreListed channels held.rows → HasOver f s held.rows → HasOver f s (all_allocated parity channels held).rows
 allocated_from f parity least s [] held rising listed h = h
 allocated_from f parity least s (channel ∷ rest) held rising listed h =
@@ -125,7 +125,7 @@ allocated_from f parity least s (channel ∷ rest) held rising listed h =
         (listed_given channel.id t (channel.id + 1) rest held.rows (omega arith) rising.1 listed.1)
         (given_has f s channel.id t held.rows (listed.0 ∙ bare) h)
 
-pub allocated_has : (f : Option ℕ → Type 0) (parity s : ℕ) (held : Channels) → AreRising 0 held.rows → HasOver f s held.rows
+pub allocated_has : (f : Option ℕ → Bool → Type 0) (parity s : ℕ) (held : Channels) → AreRising 0 held.rows → HasOver f s held.rows
     → HasOver f s (all_allocated parity held.rows held).rows
 allocated_has f parity s held rising h = allocated_from f parity 0 s held.rows held rising (listed_all 0 held.rows rising) h
 

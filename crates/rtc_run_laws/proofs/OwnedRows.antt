@@ -16,14 +16,21 @@ some_is a b h = cc
 no_some : (s : ℕ) → None ≡ Some s → ⊥
 no_some s h = cc
 
--- a channel has a stream, and what was settled for it by other means is so
-abbrev pub HasOver : (is_so : Option ℕ → Type 0) → (stream : ℕ) → List Channel → Type 0
+-- a channel has a stream, and what was settled for it by other means, and whether it was confirmed, is so
+abbrev pub HasOver : (is_so : Option ℕ → Bool → Type 0) → (stream : ℕ) → List Channel → Type 0
 HasOver f s [] = ⊥
-HasOver f s (row ∷ rows) = ((row.stream ≡ Some s) × f row.negotiated) ⊎ HasOver f s rows
+HasOver f s (row ∷ rows) = ((row.stream ≡ Some s) × f row.negotiated row.confirmed) ⊎ HasOver f s rows
 
--- the stream of the channel is of this side, unless it was settled by other means
+-- a channel was confirmed, and its stream is of this side, unless it was settled by other means
+abbrev pub IsOwner : (client : Bool) → (stream : ℕ) → (settled : Option ℕ) → (confirmed : Bool) → Type 0
+IsOwner c s settled confirmed = (settled ≡ None → IsOfSide c s) × (confirmed ≡ true)
+
 abbrev pub HasOwner : (client : Bool) → (stream : ℕ) → List Channel → Type 0
-HasOwner c s rows = HasOver (λ settled. settled ≡ None → IsOfSide c s) s rows
+HasOwner c s rows = HasOver (IsOwner c s) s rows
+
+-- the same is so for a channel as for another
+abbrev pub IsLike : Channel → (settled : Option ℕ) → (confirmed : Bool) → Type 0
+IsLike channel settled confirmed = (settled ≡ channel.negotiated) × (confirmed ≡ channel.confirmed)
 
 -- so it is for each row whose stream is not so otherwise
 abbrev pub AreOwnRows : (client : Bool) → (otherwise : ℕ → Type 0) → List Channel → Type 0
@@ -34,21 +41,21 @@ AreOwnRows c x (row ∷ rows) = ((s : ℕ) → row.stream ≡ Some s → row.neg
 abbrev pub AreAmongRows : List Channel → List Channel → Type 0
 AreAmongRows [] rows = Unit {0}
 AreAmongRows (channel ∷ channels) rows =
-    ((s : ℕ) → channel.stream ≡ Some s → HasOver (λ settled. settled ≡ channel.negotiated) s rows) × AreAmongRows channels rows
+    ((s : ℕ) → channel.stream ≡ Some s → HasOver (IsLike channel) s rows) × AreAmongRows channels rows
 
 -- ---- a row over a stream
 
-pub over_map : (f g : Option ℕ → Type 0) (s : ℕ) (rows : List Channel) → ((n : Option ℕ) → f n → g n) → HasOver f s rows → HasOver g s rows
+pub over_map : (f g : Option ℕ → Bool → Type 0) (s : ℕ) (rows : List Channel) → ((n : Option ℕ) (b : Bool) → f n b → g n b) → HasOver f s rows → HasOver g s rows
 over_map f g s [] k h = absurd h
-over_map f g s (row ∷ rows) k (inl h) = inl (h.0, k row.negotiated h.1)
+over_map f g s (row ∷ rows) k (inl h) = inl (h.0, k row.negotiated row.confirmed h.1)
 over_map f g s (row ∷ rows) k (inr h) = inr (over_map f g s rows k h)
 
-pub over_ahead : (f : Option ℕ → Type 0) (s : ℕ) (rows more : List Channel) → HasOver f s rows → HasOver f s (rows ++ more)
+pub over_ahead : (f : Option ℕ → Bool → Type 0) (s : ℕ) (rows more : List Channel) → HasOver f s rows → HasOver f s (rows ++ more)
 over_ahead f s [] more h = absurd h
 over_ahead f s (row ∷ rows) more (inl h) = inl h
 over_ahead f s (row ∷ rows) more (inr h) = inr (over_ahead f s rows more h)
 
-pub ensured_has : (f : Option ℕ → Type 0) (s stream : ℕ) (held : Channels) → HasOver f s held.rows → HasOver f s (channel_ensured stream held).rows
+pub ensured_has : (f : Option ℕ → Bool → Type 0) (s stream : ℕ) (held : Channels) → HasOver f s held.rows → HasOver f s (channel_ensured stream held).rows
 ensured_has f s stream held h = by (is_ensured stream held)
   where
     by : (b : Bool)
@@ -57,7 +64,7 @@ ensured_has f s stream held h = by (is_ensured stream held)
     by false = over_ahead f s held.rows (opened_by_other held.given stream ∷ []) h
 
 -- the row of a channel that has a stream goes
-pub without_has : (f : Option ℕ → Type 0) (s t id : ℕ) (rows : List Channel) → under_rows id rows ≡ Some t → HasOver f s rows
+pub without_has : (f : Option ℕ → Bool → Type 0) (s t id : ℕ) (rows : List Channel) → under_rows id rows ≡ Some t → HasOver f s rows
     → HasOver f s (channels_without id rows) ⊎ (t ≡ s)
 without_has f s t id [] under h = absurd h
 without_has f s t id (row ∷ rows) under h = by (row.id == id) under h (λ e k. without_has f s t id rows e k)
@@ -74,7 +81,7 @@ without_has f s t id (row ∷ rows) under h = by (row.id == id) under h (λ e k.
     by false e (inl k) rest = inl (inl k)
     by false e (inr k) rest = later (rest e k)
 
-pub opened_has : (f : Option ℕ → Type 0) (s id : ℕ) (rows : List Channel) → HasOver f s rows → HasOver f s (rows_opened id rows)
+pub opened_has : (f : Option ℕ → Bool → Type 0) (s id : ℕ) (rows : List Channel) → HasOver f s rows → HasOver f s (rows_opened id rows)
 opened_has f s id [] h = absurd h
 opened_has f s id (row ∷ rows) h = by (has_id id row) h (λ k. opened_has f s id rows k)
   where
@@ -85,28 +92,29 @@ opened_has f s id (row ∷ rows) h = by (has_id id row) h (λ k. opened_has f s 
     by false (inl k) rest = inl k
     by false (inr k) rest = inr (rest k)
 
-confirmed_row : (f : Option ℕ → Type 0) (s id : ℕ) (config : ChannelConfig) (rows : List Channel) → HasOver f s rows
-    → HasOver f s (rows_confirmed id config rows)
-confirmed_row f s id config [] h = absurd h
-confirmed_row f s id config (row ∷ rows) h = by (has_id id row) h (λ k. confirmed_row f s id config rows k)
+confirmed_row : (f : Option ℕ → Bool → Type 0) (s id : ℕ) (config : ChannelConfig) (rows : List Channel)
+    → ((n : Option ℕ) (b : Bool) → f n b → f n true) → HasOver f s rows → HasOver f s (rows_confirmed id config rows)
+confirmed_row f s id config [] sure h = absurd h
+confirmed_row f s id config (row ∷ rows) sure h = by (has_id id row) h (λ k. confirmed_row f s id config rows sure k)
   where
     by : (b : Bool) → HasOver f s (row ∷ rows) → (HasOver f s rows → HasOver f s (rows_confirmed id config rows))
         → HasOver f s (if b then record row { config = Some config; confirmed = true } ∷ rows else row ∷ rows_confirmed id config rows)
-    by true (inl k) rest = inl k
+    by true (inl k) rest = inl (k.0, sure row.negotiated row.confirmed k.1)
     by true (inr k) rest = inr k
     by false (inl k) rest = inl k
     by false (inr k) rest = inr (rest k)
 
-pub confirmed_has : (f : Option ℕ → Type 0) (s : ℕ) (channels : List (ℕ × ChannelConfig)) (held : Channels) → HasOver f s held.rows
-    → HasOver f s (all_confirmed channels held).rows
-confirmed_has f s [] held h = h
-confirmed_has f s (channel ∷ rest) held h =
-    confirmed_has f s rest (record held { rows = rows_confirmed channel.0 channel.1 held.rows }) (confirmed_row f s channel.0 channel.1 held.rows h)
+pub confirmed_has : (f : Option ℕ → Bool → Type 0) (s : ℕ) (channels : List (ℕ × ChannelConfig)) (held : Channels)
+    → ((n : Option ℕ) (b : Bool) → f n b → f n true) → HasOver f s held.rows → HasOver f s (all_confirmed channels held).rows
+confirmed_has f s [] held sure h = h
+confirmed_has f s (channel ∷ rest) held sure h =
+    confirmed_has f s rest (record held { rows = rows_confirmed channel.0 channel.1 held.rows }) sure
+    (confirmed_row f s channel.0 channel.1 held.rows sure h)
 
 -- where no channel over a stream was settled by other means, the stream is of this side
 pub owner_side : (c : Bool) (s : ℕ) (rows : List Channel) → IsInBandChannel s rows → HasOwner c s rows → IsOfSide c s
 owner_side c s [] band h = absurd h
-owner_side c s (row ∷ rows) band (inl h) = h.1 (band.0 h.0)
+owner_side c s (row ∷ rows) band (inl h) = h.1.0 (band.0 h.0)
 owner_side c s (row ∷ rows) band (inr h) = owner_side c s rows band.1 h
 
 -- ---- rows over streams of this side
@@ -227,9 +235,9 @@ among_more row (channel ∷ channels) rows h = ((λ s is. inr (h.0 s is)), among
 
 pub among_all : (rows : List Channel) → AreAmongRows rows rows
 among_all [] = tt
-among_all (row ∷ rows) = ((λ s is. inl (is, refl)), among_more row rows rows (among_all rows))
+among_all (row ∷ rows) = ((λ s is. inl (is, (refl, refl))), among_more row rows rows (among_all rows))
 
 pub among_opened : (id : ℕ) (channels rows : List Channel) → AreAmongRows channels rows → AreAmongRows channels (rows_opened id rows)
 among_opened id [] rows h = tt
 among_opened id (channel ∷ channels) rows h =
-    ((λ s is. opened_has (λ settled. settled ≡ channel.negotiated) s id rows (h.0 s is)), among_opened id channels rows h.1)
+    ((λ s is. opened_has (IsLike channel) s id rows (h.0 s is)), among_opened id channels rows h.1)

@@ -11,6 +11,7 @@ use Rattle.rtc_plain_media.specs.MediaContents.{MediaContents}
 use Rattle.rtc_sctp_entries.specs.declared.stream_entry.StreamEntry.{StreamEntry}
 use Rattle.rtc_sctp.specs.Streams.{SctpStreams}
 use Rattle.rtc_channels.specs.Channels.{Channels, all_confirmed, no_channels, unconfirmed, with_channel}
+use Rattle.rtc_channels.specs.Holds.{all_cancelled}
 use Rattle.rtc_peer_core.specs.declared.peer.Peer.{Peer}
 use Rattle.rtc_peer_core.specs.declared.phase.Phase.TheVariants.{Closed}
 use Rattle.rtc_peer_core.specs.Meanings.{Meanings, PartsLaws}
@@ -20,24 +21,25 @@ use Rattle.rtc_peer_laws.specs.RowsChanged.{ChangeRows, OnlyActs, RowsChange, Ro
 use Rattle.rtc_peer_laws.specs.RowsChanged.{Stayed, Polled, Timed, Progressed, ThresholdSet, StreamClosed, Confirmed, Made}
 use Rattle.rtc_run_history.specs.declared.side.Side.{Side}
 use Rattle.rtc_run_history.specs.declared.side.Side.TheVariants.{Left, Right}
-use Rattle.rtc_run_history.specs.Native.{go_forward}
+use Rattle.rtc_run_history.specs.Native.{are_native}
 use Rattle.rtc_run_history.specs.PairState.{PairState, rtc_at}
 use Rattle.rtc_run_history.specs.Past.{Entry, steps_of}
 use Rattle.rtc_run_history.specs.Runs.{Reached}
 use Rattle.rtc_run_laws.specs.NewPairs.{IsNewPair, IsNewPeer}
 use Rattle.rtc_run_laws.specs.PlainPairs.{PlainPair, PlainPolled}
-use Rattle.rtc_run_laws.specs.OwnOpenings.{IsOfSide}
 use Rattle.rtc_run_laws.proofs.BegunRows.{AreSound}
+use Rattle.rtc_run_laws.proofs.CancelledSides.{owned_cancelled}
 use Rattle.rtc_run_laws.proofs.ConfirmedRuns.{SideSound, last_rows, run_sound}
 use Rattle.rtc_run_laws.proofs.OpenedRows.{change_sound}
 use Rattle.rtc_run_laws.proofs.OwnedChanges.{IsOwned, answer_owned, moment_owned, owned_kept}
-use Rattle.rtc_run_laws.proofs.OwnedRows.{confirmed_has, confirmed_own, made_own, over_ahead}
+use Rattle.rtc_run_laws.proofs.OwnedRows.{IsOwner, confirmed_has, confirmed_own, made_own, over_ahead}
 use Rattle.rtc_run_laws.proofs.SideChanges.{change_side, changed_side, timed_side}
 use Rattle.rtc_run_laws.proofs.StandingCalls.{closes_kept, threshold_kept, timeout_kept, timeout_shut}
 use Rattle.rtc_run_laws.proofs.StandingEntries.{HasStanding, kept_is}
 use Rattle.rtc_run_laws.proofs.StreamPolls.{poll_goes}
-use Rattle.rtc_run_laws.proofs.StepRows.{StepRows}
-use Rattle.rtc_run_laws.proofs.ForwardSteps.{forward_entry}
+use Rattle.rtc_run_laws.proofs.StepRows.{StepChanges}
+use Rattle.rtc_run_laws.proofs.SureRows.{confirmed_sure, made_sure}
+use Rattle.rtc_run_laws.proofs.NativeSteps.{native_entry}
 
 module _ {S : Type 0} (m : AssociationMeaning S) (w : AssociationLaws m) (c : Bool) where
   -- an association that is started has this side
@@ -77,7 +79,8 @@ module _ {S : Type 0} (m : AssociationMeaning S) (w : AssociationLaws m) (c : Bo
       (record {
         ordered = owned.ordered;
         rows = confirmed_own c (λ s. HasStanding s a.entries) channels held owned.rows;
-        openings = λ s o. confirmed_has (λ n. n ≡ None → IsOfSide c s) s channels held (owned.openings s o);
+        openings = λ s o. confirmed_has (IsOwner c s) s channels held (λ n b k. (k.0, refl)) (owned.openings s o);
+        sure = confirmed_sure channels held owned.sure;
       }))
   change_owned held a held' b (Made config is h) sound side owned =
       subst (λ (x : Channels). IsOwned c x b.entries) (sym is)
@@ -85,7 +88,8 @@ module _ {S : Type 0} (m : AssociationMeaning S) (w : AssociationLaws m) (c : Bo
       (record {
         ordered = owned.ordered;
         rows = made_own c (λ s. HasStanding s a.entries) held config owned.rows;
-        openings = λ s o. over_ahead (λ n. n ≡ None → IsOfSide c s) s held.rows (unconfirmed held.given config ∷ []) (owned.openings s o);
+        openings = λ s o. over_ahead (IsOwner c s) s held.rows (unconfirmed held.given config ∷ []) (owned.openings s o);
+        sure = made_sure held config owned.sure;
       }))
 
   -- one after the other
@@ -120,8 +124,14 @@ module _ {I D S M E X T W N : Type 0} (m : Meanings I D S M E X T W N) (laws : P
   SideOwned p = IsOwned c p.core.channels p.core.sctp.entries
 
   -- so it was before
-  pub lived_before : (p q : PolledPeer I D S M N) → StepRows m p q → LivesOnSide q → LivesOnSide p
-  lived_before p q h after = record { lives = λ e. after.lives (h.closed e); side = λ e. by h.changed e }
+  pub lived_before : (p q : PolledPeer I D S M N) → StepChanges m p q → LivesOnSide q → LivesOnSide p
+  lived_before p q (inr h) after = record {
+    lives = λ e. after.lives (h.phase ∙ e);
+    side = λ e.
+        ap (λ (x : SctpStreams S). x.client) (sym h.sctp)
+        ∙ after.side (ap (λ (x : SctpStreams S). m.association.started x.association) h.sctp ∙ e);
+  }
+  lived_before p q (inl h) after = record { lives = λ e. after.lives (h.closed e); side = λ e. by h.changed e }
     where
       by : (q.core.phase ≡ Closed) ⊎ RowsChanged m.association p.core.channels p.core.sctp q.core.channels q.core.sctp
           → m.association.started p.core.sctp.association ≡ true → p.core.sctp.client ≡ c
@@ -134,8 +144,12 @@ module _ {I D S M E X T W N : Type 0} (m : Meanings I D S M E X T W N) (laws : P
   side_sound p lives (inl closed) = absurd (lives closed)
   side_sound p lives (inr sound) = sound
 
-  step_owned : (p q : PolledPeer I D S M N) → StepRows m p q → LivesOnSide q → AreSound p.core.channels p.core.sctp → SideOwned p → SideOwned q
-  step_owned p q h after sound owned = by h.changed
+  step_owned : (p q : PolledPeer I D S M N) → StepChanges m p q → LivesOnSide q → AreSound p.core.channels p.core.sctp → SideOwned p → SideOwned q
+  step_owned p q (inr h) after sound owned =
+      subst (λ (x : Channels). IsOwned c x q.core.sctp.entries) (sym h.cancelled)
+      (subst (λ (x : SctpStreams S). IsOwned c (all_cancelled h.channels p.core.channels) x.entries) (sym h.sctp)
+      (owned_cancelled c h.channels p.core.channels p.core.sctp.entries sound.numbers owned))
+  step_owned p q (inl h) after sound owned = by h.changed
     where
       by : (q.core.phase ≡ Closed) ⊎ RowsChanged m.association p.core.channels p.core.sctp q.core.channels q.core.sctp → SideOwned q
       by (inl closed) = absurd (after.lives closed)
@@ -143,11 +157,11 @@ module _ {I D S M E X T W N : Type 0} (m : Meanings I D S M E X T W N) (laws : P
           changed_owned m.association laws.association c p.core.channels p.core.sctp q.core.channels q.core.sctp changed after.side sound owned
 
   pub run_owned : (stun : List ℕ → Bool) (start : PairState I D S M N) (past : List (Entry E)) (pair : PairState I D S M N)
-      → go_forward (steps_of past) ≡ true → Reached m stun start past pair → ((at : Side) → SideSound m laws (rtc_at at start)) → ((at : Side) → SideOwned (rtc_at at start))
+      → are_native (steps_of past) ≡ true → Reached m stun start past pair → ((at : Side) → SideSound m laws (rtc_at at start)) → ((at : Side) → SideOwned (rtc_at at start))
       → (at : Side) → LivesOnSide (rtc_at at pair) → SideOwned (rtc_at at pair)
   run_owned stun start [] pair go ran sound owned at lives = subst (λ (x : PairState I D S M N). SideOwned (rtc_at at x)) (sym ran) (owned at)
   run_owned stun start (entry ∷ past) pair go ran sound owned at lives =
-      let earlier = (forward_entry entry past go).0 in
+      let earlier = (native_entry entry past go).0 in
       let rows = last_rows m laws stun start entry past pair go ran at in
       let before = lived_before (rtc_at at ran.0) (rtc_at at pair) rows lives in
       step_owned (rtc_at at ran.0) (rtc_at at pair) rows lives
@@ -160,7 +174,7 @@ module _ {N : Type 0} (draws : Draws N) (c : Bool) where
   new_owned : (p : PlainPolled N) → IsNewPeer draws p.core → IsOwned c p.core.channels p.core.sctp.entries
   new_owned p h =
       subst (λ (x : Channels). IsOwned c x p.core.sctp.entries) (sym (channels ∙ none))
-      (subst (λ (l : List StreamEntry). IsOwned c no_channels l) (sym entries) (record { ordered = tt; rows = tt; openings = λ s o. absurd o }))
+      (subst (λ (l : List StreamEntry). IsOwned c no_channels l) (sym entries) (record { ordered = tt; rows = tt; openings = λ s o. absurd o; sure = tt }))
     where
       sctp : p.core.sctp ≡ h.built.sctp
       sctp = ap (λ (x : Peer IceContents DtlsContents Contents MediaContents N). x.sctp) h.rest

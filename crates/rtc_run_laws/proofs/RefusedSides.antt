@@ -27,7 +27,7 @@ use Rattle.rtc_run_laws.proofs.HeardOpenings.{EntryAmong, entry_among, no_messag
 use Rattle.rtc_run_laws.proofs.OpenSides.{not_closed}
 use Rattle.rtc_run_laws.proofs.StandingSides.{SideStood}
 use Rattle.rtc_run_laws.proofs.UseLists.{all_member, none_numbered}
-use Rattle.rtc_run_laws.proofs.UsesTold.{InBandTold, UsedUnlessClosed}
+use Rattle.rtc_run_laws.proofs.UsesTold.{use_opened, InBandTold, UsedUnlessClosed}
 
 some_is : (a b : ℕ) → Some a ≡ Some b → a ≡ b
 some_is a b h = cc
@@ -89,7 +89,9 @@ module _ {N : Type 0} (draws : Draws N) where
     read_some own fits (inr full) none = let left = there.numbers in absurd (omega (arith, left, full))
     read_some own fits (inl over) none =
         let it = found s own vs over in
-        let t = all_member (InBandTold (plain_over draws) y.written y.read q) vs it.use_over y.told.each it.member it.is_over.0 in
+        let t =
+        use_opened (plain_over draws) y.written y.read q it.use_over
+        (all_member (InBandTold (plain_over draws) y.written y.read q) vs it.use_over y.told.each it.member it.is_over.0) in
         let same : it.use_over.generation ≡ generation_of q.core.sctp.association s =
         eqb-true it.use_over.generation (generation_of q.core.sctp.association s)
         (ap (λ (o : Option ℕ). fits_generation o (generation_of q.core.sctp.association s)) (sym it.is_over.2) ∙ fits) in

@@ -10,6 +10,7 @@ use Rattle.rtc_plain_dtls.specs.PlainMeaning.{plain_dtls}
 use Rattle.rtc_assoc_state.specs.PlainMeaning.{plain_meaning}
 use Rattle.rtc_part_values.specs.Draws.{Draws}
 use Rattle.rtc_plain_media.specs.declared.plain_media_event.PlainMediaEvent.{PlainMediaEvent}
+use Rattle.rtc_sctp.specs.Streams.{SctpStreams}
 use Rattle.rtc_peer_core.specs.declared.phase.Phase.TheVariants.{Closed}
 use Rattle.rtc_peer_core.specs.Meanings.{Meanings, PartsLaws}
 use Rattle.rtc_peer_transport.specs.declared.polled_peer.PolledPeer.{PolledPeer}
@@ -17,7 +18,7 @@ use Rattle.rtc_peer_laws.specs.PeerActs.{PeerActs, dtls_roles, roles_after}
 use Rattle.rtc_peer_laws.specs.RowsChanged.{RowsChanged}
 use Rattle.rtc_run_history.specs.declared.side.Side.{Side}
 use Rattle.rtc_run_history.specs.declared.side.Side.TheVariants.{Left, Right}
-use Rattle.rtc_run_history.specs.Native.{go_forward}
+use Rattle.rtc_run_history.specs.Native.{are_native}
 use Rattle.rtc_run_history.specs.PairState.{PairState, rtc_at}
 use Rattle.rtc_run_history.specs.Past.{Entry, steps_of}
 use Rattle.rtc_run_history.specs.Performs.{Enters}
@@ -40,31 +41,35 @@ use Rattle.rtc_run_laws.proofs.DrainedRuns.{new_unstarted, new_unused}
 use Rattle.rtc_run_laws.proofs.KnownRuns.{SideKnown, new_pair_known, run_known}
 use Rattle.rtc_run_laws.proofs.OpenSides.{not_closed}
 use Rattle.rtc_run_laws.proofs.SideChanges.{changed_side}
-use Rattle.rtc_run_laws.proofs.StepRows.{StepRows}
-use Rattle.rtc_run_laws.proofs.ForwardSteps.{forward_are_native, forward_entry}
+use Rattle.rtc_run_laws.proofs.StepRows.{StepChanges, changes_closed}
+use Rattle.rtc_run_laws.proofs.NativeSteps.{native_entry}
 
 module _ {I D S M E X T W N : Type 0} (m : Meanings I D S M E X T W N) (laws : PartsLaws m) where
   -- an association that is started has the side of the DTLS role
   abbrev pub HasRole : PolledPeer I D S M N → Type 0
   HasRole p = m.association.started p.core.sctp.association ≡ true → p.core.dtls.active ≡ Some p.core.sctp.client
 
-  step_role : (p q : PolledPeer I D S M N) → KeepsRole m laws p.core q.core → StepRows m p q → (q.core.phase ≡ Closed → ⊥)
+  step_role : (p q : PolledPeer I D S M N) → KeepsRole m laws p.core q.core → StepChanges m p q → (q.core.phase ≡ Closed → ⊥)
       → (m.association.started p.core.sctp.association ≡ true → is_some p.core.dtls.active ≡ true) → HasRole p → HasRole q
   step_role p q keeps rows lives some has after = by (m.association.started p.core.sctp.association) refl
     where
-      stays : m.association.started p.core.sctp.association ≡ true
+      changed : m.association.started p.core.sctp.association ≡ true
           → (q.core.phase ≡ Closed) ⊎ RowsChanged m.association p.core.channels p.core.sctp q.core.channels q.core.sctp
           → q.core.sctp.client ≡ p.core.sctp.client
-      stays is (inl closed) = absurd (lives closed)
-      stays is (inr changed) =
-          (changed_side m.association laws.association p.core.channels p.core.sctp q.core.channels q.core.sctp changed).side is
+      changed is (inl closed) = absurd (lives closed)
+      changed is (inr change) =
+          (changed_side m.association laws.association p.core.channels p.core.sctp q.core.channels q.core.sctp change).side is
+
+      stays : m.association.started p.core.sctp.association ≡ true → StepChanges m p q → q.core.sctp.client ≡ p.core.sctp.client
+      stays is (inl rows) = changed is rows.changed
+      stays is (inr rows) = ap (λ (x : SctpStreams S). x.client) rows.sctp
 
       by : (started : Bool) → m.association.started p.core.sctp.association ≡ started → q.core.dtls.active ≡ Some q.core.sctp.client
-      by true is = keeps.stays (some is) ∙ has is ∙ ap (λ (b : Bool). Some b) (sym (stays is rows.changed))
+      by true is = keeps.stays (some is) ∙ has is ∙ ap (λ (b : Bool). Some b) (sym (stays is rows))
       by false is = keeps.starts is after
 
   pub run_role : (stun : List ℕ → Bool) (start : PairState I D S M N) (past : List (Entry E)) (pair : PairState I D S M N)
-      → go_forward (steps_of past) ≡ true → Reached m stun start past pair → AreUnused m laws start → ((at : Side) → HasRole (rtc_at at start))
+      → are_native (steps_of past) ≡ true → Reached m stun start past pair → AreUnused m laws start → ((at : Side) → HasRole (rtc_at at start))
       → (at : Side) → ((rtc_at at pair).core.phase ≡ Closed → ⊥) → HasRole (rtc_at at pair)
   run_role stun start [] pair go ran unused has at lives = subst (λ (x : PairState I D S M N). HasRole (rtc_at at x)) (sym ran) (has at)
   run_role stun start (entry ∷ past) pair go ran unused has at lives =
@@ -72,7 +77,7 @@ module _ {I D S M E X T W N : Type 0} (m : Meanings I D S M E X T W N) (laws : P
       step_role (rtc_at at ran.0) (rtc_at at pair) (enters_role m laws stun ran.0 entry pair ran.2 at) rows lives
       (went_unused m laws (λ earlier between one after. Enters m stun between one after) (λ earlier between one after enters. (stun, enters)) start past
       ran.0 unused ran.1 at).role
-      (run_role stun start past ran.0 (forward_entry entry past go).0 ran.1 unused has at (λ closed. lives (rows.closed closed)))
+      (run_role stun start past ran.0 (native_entry entry past go).0 ran.1 unused has at (λ closed. lives (changes_closed m (rtc_at at ran.0) (rtc_at at pair) rows closed)))
 
 -- ---- the exchange of a pair
 
@@ -94,7 +99,7 @@ sides_part a b p q here there hands role sends own other same =
     ∙ sym (moved_role (dtls_given a.dtls) a.dtls fresh_dtls p.core.dtls.instance here (λ x m. m)))
 
 module _ {N : Type 0} (draws : Draws N) (stun : List ℕ → Bool) (start : PlainPair N) (past : List (Entry PlainMediaEvent)) (pair : PlainPair N)
-    (go : go_forward (steps_of past) ≡ true) (ran : Reached (plain_over draws) stun start past pair) (new : IsNewPair draws start) where
+    (go : are_native (steps_of past) ≡ true) (ran : Reached (plain_over draws) stun start past pair) (new : IsNewPair draws start) where
   new_role : (at : Side) → HasRole (plain_over draws) (plain_over_laws draws) (rtc_at at start)
   new_role Left = λ started. absurd (true≢false (sym started ∙ new_unstarted draws start.left new.left))
   new_role Right = λ started. absurd (true≢false (sym started ∙ new_unstarted draws start.right new.right))
@@ -120,7 +125,7 @@ module _ {N : Type 0} (draws : Draws N) (stun : List ℕ → Bool) (start : Plai
   settled_sides settled = by
     where
       exchanged : HasExchanged pair
-      exchanged = reached_exchanged draws stun start past pair (forward_are_native (steps_of past) go) ran (new_exchanged draws start new)
+      exchanged = reached_exchanged draws stun start past pair go ran (new_exchanged draws start new)
 
       by : (at : Side) → AreOnSides (rtc_at at pair) (rtc_at (other_side at) pair)
       by Left = λ same.

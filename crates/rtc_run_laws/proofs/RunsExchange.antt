@@ -19,7 +19,7 @@ use Rattle.rtc_run_history.specs.Runs.{EntersSoundly, Reached, Went}
 use Rattle.rtc_run_history.specs.Sides.{other_side}
 use Rattle.rtc_run_laws.specs.PlainPairs.{HasExchanged, PairActs, PairExchanges, PlainPair, acts_at, plain_over}
 use Rattle.rtc_run_laws.specs.SentContents.{contents_sent}
-use Rattle.rtc_run_laws.proofs.ForwardSteps.{native_entry}
+use Rattle.rtc_run_laws.proofs.NativeSteps.{native_entry}
 use Rattle.rtc_run_laws.proofs.StepsExchange.{step_exchanges}
 
 module _ {N : Type 0} (draws : Draws N) (stun : List ℕ → Bool) (start : PlainPair N) where

@@ -24,7 +24,7 @@ use Rattle.rtc_peer_laws.specs.JoinedPeers.{packet_parts}
 use Rattle.rtc_peer_laws.proofs.JoinedLemmas.{unused_joined}
 use Rattle.rtc_run_history.specs.declared.side.Side.{Side}
 use Rattle.rtc_run_history.specs.declared.side.Side.TheVariants.{Left, Right}
-use Rattle.rtc_run_history.specs.Native.{go_forward}
+use Rattle.rtc_run_history.specs.Native.{are_native}
 use Rattle.rtc_run_history.specs.PairState.{addr_at, rtc_at}
 use Rattle.rtc_run_history.specs.Past.{Entry, steps_of}
 use Rattle.rtc_run_history.specs.Runs.{Reached}
@@ -36,20 +36,20 @@ use Rattle.rtc_run_laws.proofs.NewPeers.{new_built, nothing_sent}
 use Rattle.rtc_run_laws.proofs.RunsExchange.{side_all, side_reads}
 use Rattle.rtc_run_laws.specs.AnnouncedOnce.{AreAnnouncedOnce}
 use Rattle.rtc_run_laws.specs.ChannelUses.{ChannelUse}
-use Rattle.rtc_run_laws.specs.HandedOut.{AreHandedOut, AreSentWhole, AreToldWhole, AreWhollyHandedOut}
+use Rattle.rtc_run_laws.specs.HandedOut.{AreHandedOut, AreHandedOver, AreSentWhole, AreToldWhole, AreWhollyHandedOut}
 use Rattle.rtc_run_laws.specs.PollsOfRuns.{by_step}
 use Rattle.rtc_run_laws.specs.SentMessages.{sent_acted, sent_over}
 use Rattle.rtc_run_laws.specs.ToldMessages.{MessagesTold, told_over, told_shown}
 use Rattle.rtc_run_laws.specs.UsesOfRuns.{uses_acted, uses_of}
 use Rattle.rtc_run_laws.proofs.AllHanded.{all_handed}
-use Rattle.rtc_run_laws.proofs.GotAndSent.{handed, told_whole}
+use Rattle.rtc_run_laws.proofs.GotAndSent.{handed, handed_over, told_whole}
 use Rattle.rtc_run_laws.proofs.SidesTold.{SideTold}
 use Rattle.rtc_run_laws.proofs.UseLists.{all_member}
 use Rattle.rtc_run_laws.proofs.UsesTold.{InBandTold}
 use Rattle.rtc_run_laws.proofs.WholeUses.{none_whole}
 use Rattle.rtc_run_laws.proofs.StandingSides.{Sent, SideSent, Stood}
 use Rattle.rtc_run_laws.proofs.StepsTold.{acts_stood}
-use Rattle.rtc_run_laws.proofs.ForwardSteps.{forward_entry}
+use Rattle.rtc_run_laws.proofs.NativeSteps.{native_entry}
 
 module _ {N : Type 0} (draws : Draws N) where
   -- what holds of both sides of a pair
@@ -152,13 +152,13 @@ module _ {N : Type 0} (draws : Draws N) where
 
   -- steps
   module _ (stun : List ℕ → Bool) (start : PlainPair N) where
-    pub reached_told : (past : List (Entry PlainMediaEvent)) (pair : PlainPair N) → go_forward (steps_of past) ≡ true
+    pub reached_told : (past : List (Entry PlainMediaEvent)) (pair : PlainPair N) → are_native (steps_of past) ≡ true
         → (ran : Reached (plain_over draws) stun start past pair)
         → PairTold start (λ at. []) (λ at s g. []) (λ at c s g. [])
         → PairTold pair (λ at. uses_of (plain_over draws) stun start at past pair ran) (λ at. sent_over (plain_over draws) stun start at past pair ran)
         (λ at. told_over (plain_over draws) stun start at past pair ran)
     reached_told [] pair go ran h = subst (λ (x : PlainPair N). PairTold x (λ at. []) (λ at s g. []) (λ at c s g. [])) (sym ran) h
-    reached_told (entry ∷ past) pair go ran h = by (reached_told past ran.0 (forward_entry entry past go).0 ran.1 h)
+    reached_told (entry ∷ past) pair go ran h = by (reached_told past ran.0 (native_entry entry past go).0 ran.1 h)
       where
         at : Side
         at = side_of entry.step
@@ -194,7 +194,7 @@ module _ {N : Type 0} (draws : Draws N) where
             told_after (side_of entry.step) pair before.other (rtc_at (other_side (side_of entry.step)) ran.0) ran.2.performs.other uses acted sent sends told tells
             (acts_stood draws before.other (rtc_at (other_side (side_of entry.step)) ran.0) stun (addr_at (other_side (side_of entry.step)) ran.0) (addr_at (side_of entry.step) ran.0) entry.step (rtc_at (side_of entry.step) ran.0) ran.0.sdps
             ran.0.packets entry.outcome entry.table (rtc_at (side_of entry.step) pair) pair.sdps pair.packets (uses (side_of entry.step))
-            (sent (side_of entry.step)) (told (side_of entry.step)) (forward_entry entry past go).1 ran.2.performs.acts before.stood)
+            (sent (side_of entry.step)) (told (side_of entry.step)) (native_entry entry past go).1 ran.2.performs.acts before.stood)
             before.rest
 
 module _ {N : Type 0} (draws : Draws N) where
@@ -204,6 +204,15 @@ module _ {N : Type 0} (draws : Draws N) where
       (λ s g. side_reads h.acts pair Right s g h.exchange)
   pair_handed pair uses sent told Right h =
       handed draws h.acts.right h.acts.left (uses Right) (uses Left) pair.right pair.left h.right.side h.left.side
+      (λ s g. side_reads h.acts pair Left s g h.exchange)
+
+  pub pair_handed_over : (pair : PlainPair N) (uses : Side → List ChannelUse) (sent : Side → Sent) (told : Side → MessagesTold) (at : Side)
+      → PairTold draws pair uses sent told → AreHandedOver (uses at) (uses (other_side at)) (sent (other_side at))
+  pair_handed_over pair uses sent told Left h =
+      handed_over draws h.acts.left h.acts.right (uses Left) (uses Right) pair.left pair.right (sent Right) (told Right) h.left.side h.right
+      (λ s g. side_reads h.acts pair Right s g h.exchange)
+  pair_handed_over pair uses sent told Right h =
+      handed_over draws h.acts.right h.acts.left (uses Right) (uses Left) pair.right pair.left (sent Left) (told Left) h.right.side h.left
       (λ s g. side_reads h.acts pair Left s g h.exchange)
 
   pub pair_once : (pair : PlainPair N) (uses : Side → List ChannelUse) (sent : Side → Sent) (told : Side → MessagesTold) (at : Side) → PairTold draws pair uses sent told → AreAnnouncedOnce (uses at)
@@ -222,8 +231,8 @@ module _ {N : Type 0} (draws : Draws N) where
   -- what was sent over a channel is all that the side ever sent to the generation
   side_whole : (acts : PeerActs) (uses : List ChannelUse) (sent : Sent) (told : MessagesTold) (p : PlainPolled N) → SideSent draws acts uses sent told p
       → AreSentWhole uses sent
-  side_whole acts uses sent told p h = λ x mine band s of.
-      let t = all_member (InBandTold (plain_over draws) h.side.written h.side.read p) uses x h.side.told.each mine band in
+  side_whole acts uses sent told p h = λ x mine band left s of.
+      let t = (all_member (InBandTold (plain_over draws) h.side.written h.side.read p) uses x h.side.told.each mine band).kept left in
       sym (h.sent_is s x.generation)
       ∙ ap (λ (n : ℕ). contents_of (messages_of n x.generation h.side.written)) (some_is s t.stream (sym of ∙ t.stream_is))
       ∙ t.sent_is

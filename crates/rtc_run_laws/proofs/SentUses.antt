@@ -30,14 +30,14 @@ use Rattle.rtc_run_history.specs.declared.shown.Shown.{Shown}
 use Rattle.rtc_run_history.specs.declared.shown.Shown.TheVariants as shows
 use Rattle.rtc_run_history.specs.declared.side.Side.{Side}
 use Rattle.rtc_run_history.specs.declared.step.Step.{Step}
-use Rattle.rtc_run_history.specs.declared.step.Step.TheVariants.{Poll, Drain, Write}
+use Rattle.rtc_run_history.specs.declared.step.Step.TheVariants.{Poll, Drain, Write, Rollback}
 use Rattle.rtc_run_history.specs.declared.table.Table.{Table}
-use Rattle.rtc_run_laws.specs.ChannelUses.{ChannelUse, announced_use, uses_shown, uses_told}
+use Rattle.rtc_run_laws.specs.ChannelUses.{ChannelUse, announced_use, uses_shown, uses_told, with_rolled_back}
 use Rattle.rtc_run_laws.specs.PlainPairs.{PlainPolled, plain_over}
 use Rattle.rtc_run_laws.specs.PollsOfRuns.{by_drain_step, by_poll_step, by_polls}
 use Rattle.rtc_run_laws.specs.SentMessages.{sent_acted, sent_by_write}
 use Rattle.rtc_run_laws.specs.UsesOfRuns.{uses_acted, uses_written}
-use Rattle.rtc_run_laws.proofs.AnnouncedStreams.{AnnouncedUnlessClosed, HasUseOver, found, open_one, over_got, over_sent}
+use Rattle.rtc_run_laws.proofs.AnnouncedStreams.{AnnouncedUnlessClosed, HasUseOver, found, open_one, over_got, over_rolled, over_sent}
 use Rattle.rtc_run_laws.proofs.OpenStreams.{open_free, open_open}
 use Rattle.rtc_run_laws.proofs.SidesTold.{SideTold}
 use Rattle.rtc_run_laws.proofs.StandingEntries.{AreBanded}
@@ -225,4 +225,7 @@ module _ {N : Type 0} (draws : Draws N) where
         over_next s g sent uses _ (over_drain draws s (Some g) at old packets outcome table new packets' acts.0 uses) h
     after_step stun other own (Write at channel binary bytes) sdps packets outcome table new sdps' packets' acts =
         after_write channel (open_stream_under channel old) binary bytes outcome table new refl acts.0
+    after_step stun other own (Rollback at token) sdps packets outcome table new sdps' packets' acts =
+        over_next s g sent uses (with_rolled_back old.core.channels.rows new.core.channels.rows uses)
+        (λ k. over_rolled s (Some g) old.core.channels.rows new.core.channels.rows uses k) h
     after_step stun other own step sdps packets outcome table new sdps' packets' acts = h

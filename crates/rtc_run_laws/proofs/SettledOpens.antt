@@ -12,7 +12,7 @@ use Rattle.rtc_run_laws.specs.PlainPairs.{PlainPolled, plain_over}
 use Rattle.rtc_run_laws.specs.ChannelUses.{ChannelUse}
 use Rattle.rtc_run_laws.specs.HandedOut.{AreAllHandedOut}
 use Rattle.rtc_run_laws.specs.OpenUses.{AreJoinedUses}
-use Rattle.rtc_run_laws.specs.SettledPairs.{AreOpenAtBoth, IsInBandStream}
+use Rattle.rtc_run_laws.specs.SettledPairs.{AreOpenAtBoth, IsInBandStream, NoneRolledBack}
 use Rattle.rtc_run_laws.specs.SettledPairs.{IsSettledPeer}
 use Rattle.rtc_run_laws.proofs.HeardOpenings.{none_has}
 use Rattle.rtc_run_laws.proofs.OpenSides.{own_use}
@@ -42,15 +42,16 @@ module _ {N : Type 0} (draws : Draws N) where
       → read s g b.association ++ unread s g q.core.sctp.association.inbox.unread ≡ written s g a.association)
       → AreLevelStreams p q
       → AreOpenAtBoth draws us p vs q
-  side_open a b us vs p q x y here there heard others_heard got sent reads all level = λ c s shown band.
+  side_open a b us vs p q x y here there heard others_heard got sent reads all level = λ c s shown band stand.
       let kept : AreKeptStreams s p q = kept_by s p q level band in
-      let mine = own_use draws a us p x here heard c s kept.in_band_here shown kept.unclosed_here in
+      let mine = own_use draws a us p x here heard c s kept.in_band_here shown kept.unclosed_here stand.here in
       let same : s ≡ mine.stays.stream = some_is s mine.stays.stream (sym mine.stream_is ∙ mine.stays.of) in
       let it =
       other_use draws a b us vs p q x y here there others_heard reads all mine.use_of mine.member mine.in_band mine.stays
       (subst (λ (n : ℕ). IsInBandStream n q.core.sctp.entries) same kept.in_band_there)
       (ap (λ (n : ℕ). generation_of q.core.sctp.association n) (sym same) ∙ kept.generation_is ∙ sym mine.generation_is)
-      (ap (λ (n : ℕ). closed_here q.core.sctp.association n) (sym same) ∙ kept.unclosed_there) in
+      (ap (λ (n : ℕ). closed_here q.core.sctp.association n) (sym same) ∙ kept.unclosed_there)
+      (subst (λ (n : ℕ). NoneRolledBack n vs q) same stand.there) in
       record {
         own = mine.use_of;
         member = mine.member;

@@ -13,7 +13,7 @@ use Rattle.rtc_plain_media.specs.declared.plain_media_event.PlainMediaEvent.{Pla
 use Rattle.rtc_part_values.specs.Draws.{Draws}
 use Rattle.rtc_run_history.specs.declared.side.Side.{Side}
 use Rattle.rtc_run_history.specs.declared.side.Side.TheVariants.{Left, Right}
-use Rattle.rtc_run_history.specs.Native.{go_forward}
+use Rattle.rtc_run_history.specs.Native.{are_native}
 use Rattle.rtc_run_history.specs.PairState.{rtc_at}
 use Rattle.rtc_run_history.specs.Past.{Entry, steps_of}
 use Rattle.rtc_run_history.specs.Performs.{Enters}
@@ -31,7 +31,7 @@ use Rattle.rtc_run_laws.specs.SentMessages.{sent_over}
 use Rattle.rtc_run_laws.specs.ToldMessages.{told_over}
 use Rattle.rtc_run_laws.specs.ConfirmedChannels.{WasConfirmed}
 use Rattle.rtc_run_laws.specs.OwnOpenings.{HasEntryOf}
-use Rattle.rtc_run_laws.specs.SettledPairs.{AreBothOpening, IsRefusedAlone, AreAnswered, AreConfirmedOpen, AreConfirmedSettled, AreInBandStreams, AreOpenAtBoth, HasNothingDue, HasNothingSoon, IsLevelStream, IsOpenAtBoth, IsOpeningRefused, IsSettledPair}
+use Rattle.rtc_run_laws.specs.SettledPairs.{AreBothOpening, IsRefusedAlone, AreAnswered, AreConfirmedOpen, AreConfirmedSettled, AreInBandStreams, AreKeptUses, AreOpenAtBoth, HasNothingDue, HasNothingSoon, IsLevelStream, IsOpenAtBoth, IsOpeningRefused, IsSettledPair}
 use Rattle.rtc_run_laws.specs.SettledPairs.{IsTakenUp, WaitsForAnswer}
 use Rattle.rtc_run_laws.specs.StillPairs.{IsStillPair}
 use Rattle.rtc_run_laws.specs.UsesOfRuns.{uses_of}
@@ -55,7 +55,7 @@ use Rattle.rtc_run_laws.proofs.SettledOpens.{side_open}
 
 module _ {N : Type 0} (draws : Draws N) where
   module _ (stun : List ℕ → Bool) (start : PlainPair N) (past : List (Entry PlainMediaEvent)) (pair : PlainPair N)
-      (go : go_forward (steps_of past) ≡ true) (ran : Reached (plain_over draws) stun start past pair) (h : PairTold draws start (λ x. []) (λ x s g. []) (λ x c s g. []))
+      (go : are_native (steps_of past) ≡ true) (ran : Reached (plain_over draws) stun start past pair) (h : PairTold draws start (λ x. []) (λ x s g. []) (λ x c s g. []))
       (unused : AreUnused (plain_over draws) (plain_over_laws draws) start) (settled : IsSettledPair past pair) where
     abbrev pub uses : Side → List ChannelUse
     uses at = uses_of (plain_over draws) stun start at past pair ran
@@ -197,23 +197,26 @@ module _ {N : Type 0} (draws : Draws N) where
           (settled.peers Left) (heard Left) (λ t g. side_reads told.acts pair Right t g told.exchange) s (kept_streams Right s band) h
 
       by_entry : (at : Side) (c s : ℕ) → stream_under c (rtc_at at pair).core.channels ≡ Some s
-          → AreInBandStreams s (rtc_at at pair) (rtc_at (other_side at) pair) → StandsAs s (rtc_at at pair).core.sctp.entries → EndsAt at c s
-      by_entry at c s under band (Opening h) =
+          → AreInBandStreams s (rtc_at at pair) (rtc_at (other_side at) pair)
+          → AreKeptUses s (uses at) (rtc_at at pair) (uses (other_side at)) (rtc_at (other_side at) pair)
+          → StandsAs s (rtc_at at pair).core.sctp.entries → EndsAt at c s
+      by_entry at c s under band stand (Opening h) =
           inr (inl (refused_of draws (rtc_at at pair) s (heard at) (tried at) (level at s).here h, other_shut at s band h))
-      by_entry at c s under band (Unanswered h) = inr (inr (h, (settled_answered at s band h).0))
-      by_entry at c s under band (IsOpen h) =
+      by_entry at c s under band stand (Unanswered h) = inr (inr (h, (settled_answered at s band h).0))
+      by_entry at c s under band stand (IsOpen h) =
           inl
           (settled_open at c s
           (stays_under draws c s (rtc_at at pair) (settled.peers at).alive under
           (both_true (is_established (rtc_at at pair).core.sctp.state) (has_open s (rtc_at at pair).core.sctp.entries) (settled.peers at).established h))
-          band)
+          band stand)
 
       by_side : (at : Side) (c s : ℕ) → channels_wake plain_meaning (rtc_at at pair).core.channels (rtc_at at pair).core.sctp ≡ None
           → stream_under c (rtc_at at pair).core.channels ≡ Some s → AreInBandStreams s (rtc_at at pair) (rtc_at (other_side at) pair)
+          → AreKeptUses s (uses at) (rtc_at at pair) (uses (other_side at)) (rtc_at (other_side at) pair)
           → SideBegun (plain_over draws) (plain_over_laws draws) c (rtc_at at pair) → EndsAt at c s
-      by_side at c s idle under band (inl closed) = absurd (not_closed draws (rtc_at at pair) (settled.peers at).alive closed)
-      by_side at c s idle under band (inr begun) =
-          by_entry at c s under band
+      by_side at c s idle under band stand (inl closed) = absurd (not_closed draws (rtc_at at pair) (settled.peers at).alive closed)
+      by_side at c s idle under band stand (inr begun) =
+          by_entry at c s under band stand
           (stands_as (rtc_at at pair).core.sctp.association s (rtc_at at pair).core.sctp.entries (heard at)
           (confirmed_stands c s (rtc_at at pair).core.channels (rtc_at at pair).core.sctp (numbers at)
           ((known at).begun (settled.peers at).established) idle begun.1 under))
@@ -221,8 +224,8 @@ module _ {N : Type 0} (draws : Draws N) where
       pub settled_refused : (at : Side) → channels_wake plain_meaning (rtc_at at pair).core.channels (rtc_at at pair).core.sctp ≡ None
           → AreConfirmedSettled draws (λ c. WasConfirmed (plain_over draws) stun start at c past pair ran) (uses at) (rtc_at at pair)
           (uses (other_side at)) (rtc_at (other_side at) pair)
-      settled_refused at idle = λ c s confirmed under band.
-          by_side at c s idle under band (run_begun (plain_over draws) (plain_over_laws draws) stun start past pair go ran sound_start at c confirmed)
+      settled_refused at idle = λ c s confirmed under band stand.
+          by_side at c s idle under band stand (run_begun (plain_over draws) (plain_over_laws draws) stun start past pair go ran sound_start at c confirmed)
 
       -- so it is open at both, where none is tried again
       open_unless : ((at : Side) (s : ℕ) → IsOpeningRefused s (rtc_at at pair) → ⊥) → (at : Side) (c s : ℕ) → EndsAt at c s
@@ -239,8 +242,8 @@ module _ {N : Type 0} (draws : Draws N) where
         pub settled_confirmed : (at : Side)
             → AreConfirmedOpen draws (λ c. WasConfirmed (plain_over draws) stun start at c past pair ran) (uses at) (rtc_at at pair)
             (uses (other_side at)) (rtc_at (other_side at) pair)
-        settled_confirmed at = λ c s confirmed under band.
-            open_unless none_refused at c s (settled_refused at (still at).idle c s confirmed under band)
+        settled_confirmed at = λ c s confirmed under band stand.
+            open_unless none_refused at c s (settled_refused at (still at).idle c s confirmed under band stand)
 
       -- that is told by timeouts that are late enough
       module _ (soon : (at : Side) → HasNothingSoon at past pair) where
@@ -259,7 +262,7 @@ module _ {N : Type 0} (draws : Draws N) where
         pub settled_later : (at : Side)
             → AreConfirmedOpen draws (λ c. WasConfirmed (plain_over draws) stun start at c past pair ran) (uses at) (rtc_at at pair)
             (uses (other_side at)) (rtc_at (other_side at) pair)
-        settled_later at = λ c s confirmed under band.
+        settled_later at = λ c s confirmed under band stand.
             open_unless none_again at c s
             (settled_refused at (none_due draws (IsLate at) (rtc_at at pair) (late at) (settled.peers at).alive (late at).moment_is.0) c s confirmed
-            under band)
+            under band stand)

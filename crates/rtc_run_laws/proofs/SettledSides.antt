@@ -21,12 +21,12 @@ use Rattle.rtc_peer_laws.specs.PeerActs.{PeerActs}
 use Rattle.rtc_run_laws.specs.PlainPairs.{PlainPolled, plain_over}
 use Rattle.rtc_run_laws.specs.ChannelUses.{ChannelUse}
 use Rattle.rtc_run_laws.specs.OpenUses.{AreJoinedUses, StaysOpen}
-use Rattle.rtc_run_laws.specs.SettledPairs.{IsInBandStream, IsSettledPeer}
+use Rattle.rtc_run_laws.specs.SettledPairs.{IsInBandStream, IsSettledPeer, NoneRolledBack}
 use Rattle.rtc_run_laws.proofs.AllHanded.{none_unread, not_ended, side_unended}
 use Rattle.rtc_run_laws.proofs.AnnouncedStreams.{AnnouncedUnlessClosed, HasUseOver, found}
 use Rattle.rtc_run_laws.proofs.StandingSides.{SideStood}
 use Rattle.rtc_run_laws.proofs.UseLists.{all_member, named_kept, none_numbered}
-use Rattle.rtc_run_laws.proofs.UsesTold.{InBandTold, StandsSo, UseTold, UsedUnlessClosed}
+use Rattle.rtc_run_laws.proofs.UsesTold.{InBandTold, StandsSo, UseOpened, UsedUnlessClosed, use_opened}
 use Rattle.rtc_run_laws.proofs.HeardOpenings.{entry_among, no_messages, none_has, not_idle, nothing_first, open_heard, reads_dcep}
 use Rattle.rtc_run_laws.proofs.OpenSides.{not_closed, use_stays}
 
@@ -49,9 +49,12 @@ module _ {N : Type 0} (draws : Draws N) where
       → read s g b.association ++ unread s g q.core.sctp.association.inbox.unread ≡ written s g a.association) where
     module _ (k : ChannelUse) (mine : Member k us) (in_band : k.in_band ≡ true) (h : StaysOpen (plain_over draws) k p)
         (band : IsInBandStream h.stream q.core.sctp.entries)
-        (generation_is : generation_of q.core.sctp.association h.stream ≡ k.generation) (unclosed : closed_here q.core.sctp.association h.stream ≡ false) where
-      told : UseTold (plain_over draws) x.written x.read p k.channel k.stream k.generation k.sent k.got
-      told = all_member (InBandTold (plain_over draws) x.written x.read p) us k x.told.each mine in_band
+        (generation_is : generation_of q.core.sctp.association h.stream ≡ k.generation) (unclosed : closed_here q.core.sctp.association h.stream ≡ false)
+        (stand : NoneRolledBack h.stream vs q) where
+      told : UseOpened x.written x.read k.stream k.generation k.got
+      told =
+          use_opened (plain_over draws) x.written x.read p k
+          (all_member (InBandTold (plain_over draws) x.written x.read p) us k x.told.each mine in_band)
 
       same : told.stream ≡ h.stream
       same = some_is told.stream h.stream (sym told.stream_is ∙ h.of)
@@ -94,7 +97,9 @@ module _ {N : Type 0} (draws : Draws N) where
       -- by the one entry of the stream
       by_use : (l : ChannelUse) → Member l vs → l.in_band ≡ true → l.stream ≡ Some h.stream → l.generation ≡ k.generation → OtherUse k p vs q
       by_use l theirs banded of g =
-          let t = all_member (InBandTold (plain_over draws) y.written y.read q) vs l y.told.each theirs banded in
+          let t =
+          (all_member (InBandTold (plain_over draws) y.written y.read q) vs l y.told.each theirs banded).kept
+          (stand l theirs of (g ∙ sym generation_is)) in
           record {
             other = l;
             member = theirs;

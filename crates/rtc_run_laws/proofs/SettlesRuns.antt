@@ -4,7 +4,7 @@ use Rattle.rtc_plain_media.specs.declared.plain_media_event.PlainMediaEvent.{Pla
 use Rattle.rtc_part_values.specs.Draws.{Draws}
 use Rattle.rtc_run_history.specs.declared.reply.Reply.{Reply}
 use Rattle.rtc_run_history.specs.declared.step.Step.{Step}
-use Rattle.rtc_run_history.specs.Native.{go_forward}
+use Rattle.rtc_run_history.specs.Native.{are_native}
 use Rattle.rtc_run_history.specs.Past.{steps_of}
 use Rattle.rtc_run_history.specs.Runs.{Reached, Runs}
 use Rattle.rtc_run_laws.specs.NewPairs.{IsNewPair}
@@ -22,10 +22,10 @@ use Rattle.rtc_run_laws.proofs.BandedRuns.{settled_first, settled_in_band}
 
 module _ {N : Type 0} (draws : Draws N) where
   pub run_settles_open : (stun : List ℕ → Bool) (start pair : PlainPair N) (steps : List Step) (replies : List (Reply PlainMediaEvent))
-      → IsNewPair draws start → go_forward steps ≡ true → (run : Runs (plain_over draws) stun start steps replies pair)
+      → IsNewPair draws start → are_native steps ≡ true → (run : Runs (plain_over draws) stun start steps replies pair)
       → SettlesOpen draws stun start steps replies pair run
-  run_settles_open stun start pair steps replies new forward run =
-      let go : go_forward (steps_of run.past) ≡ true = ap go_forward run.steps_are ∙ forward in
+  run_settles_open stun start pair steps replies new native run =
+      let go : are_native (steps_of run.past) ≡ true = ap are_native run.steps_are ∙ native in
       let ran : Reached (plain_over draws) stun start run.past pair = reached_by (plain_over draws) stun start run.past pair run.went in
       record {
         level = λ settled at s. settled_level draws stun start run.past pair go ran (new_pair_told draws start new) (new_unused draws start new) settled at s;

@@ -19,13 +19,14 @@ use Rattle.rtc_peer_polling.proofs.Lacking.{poll_lacks}
 use Rattle.rtc_peer_laws.specs.Acts.{PeerDid, PollActs}
 use Rattle.rtc_peer_laws.specs.ChannelStreams.{AreNumberedChannels, IsUsedStream, UnlessLacking}
 use Rattle.rtc_peer_laws.specs.PeerActs.{Came}
-use Rattle.rtc_peer_laws.specs.KeptChannels.{CallKeepsStreams}
+use Rattle.rtc_peer_laws.specs.KeptChannels.{CallKeepsStreams, CallLeavesStreams}
 use Rattle.rtc_run_laws.specs.AnnouncedOnce.{AreAnnouncedOnce, IsAnother}
-use Rattle.rtc_run_laws.specs.ChannelUses.{ChannelUse, announced_use, with_sent_message}
-use Rattle.rtc_run_laws.proofs.AnnouncedStreams.{AnnouncedUnlessClosed, announced_called, announced_polled, over_sent, uses_answered}
-use Rattle.rtc_run_laws.proofs.OpenedAnew.{once_got, once_more, once_sent, opening_other}
+use Rattle.rtc_run_laws.specs.ChannelUses.{ChannelUse, announced_use, with_rolled_back, with_sent_message}
+use Rattle.rtc_run_laws.proofs.AnnouncedStreams.{AnnouncedUnlessClosed, announced_called, announced_left, announced_polled, over_rolled, over_sent, uses_answered}
+use Rattle.rtc_run_laws.proofs.OpenedAnew.{once_got, once_more, once_rolled, once_sent, opening_other}
+use Rattle.rtc_run_laws.proofs.RolledUses.{left_told, removed_told}
 use Rattle.rtc_run_laws.proofs.RowLemmas.{closed_stays}
-use Rattle.rtc_run_laws.proofs.UseLists.{AllUses, all_got, all_kept, all_more, all_sent, named_join}
+use Rattle.rtc_run_laws.proofs.UseLists.{AllUses, all_got, all_kept, all_more, all_rolled, all_sent, named_join}
 use Rattle.rtc_run_laws.proofs.UsesOpened.{opening_told}
 use Rattle.rtc_run_laws.proofs.UsesPolled.{other_got, own_got, silent_polled}
 use Rattle.rtc_run_laws.proofs.UsesTold.{InBandTold, UsedUnlessClosed, other_told, own_told, silent_told}
@@ -61,6 +62,31 @@ module _ {I D S M E X T W N : Type 0} (m : Meanings I D S M E X T W N) where
           (λ x told. silent_told m w v p q [] came moments shown did keeps h.numbers written read x refl told) h.each;
       once = h.once;
       announced = announced_called m p q [] uses uses keeps (λ s own k. k) h.announced;
+    }
+
+    -- an offer is rolled back
+    used_left : (p q : PolledPeer I D S M N) (written read : List StreamMessage) → CallLeavesStreams m p [] q → UsedUnlessClosed m written read p
+        → UsedUnlessClosed m (written ++ []) (read ++ []) q
+    used_left p q written read leaves (inl closed) = inl (leaves.closed closed)
+    used_left p q written read leaves (inr uses) =
+        inr (λ s. subst (λ (l : List StreamMessage). IsUsedStream m s (written ++ []) l q) (sym (append-nil read)) (leaves.uses v s written read (uses s)))
+
+    pub side_rolled : (came : Came) (moments : List ℕ) (shown : List (List ℕ)) (p q : PolledPeer I D S M N) (uses : List ChannelUse)
+        (written read : List StreamMessage) → PeerDid m came moments shown [] [] p q → CallLeavesStreams m p [] q → SideTold uses written read p
+        → SideTold (with_rolled_back p.core.channels.rows q.core.channels.rows uses) (written ++ []) (read ++ []) q
+    side_rolled came moments shown p q uses written read did leaves h = record {
+      used = used_left p q written read leaves h.used;
+      numbers = leaves.numbers h.numbers;
+      named_written = named_join written [] h.named_written tt;
+      named_read = named_join read [] h.named_read tt;
+      each =
+          all_rolled (InBandTold m written read p) (InBandTold m (written ++ []) (read ++ []) q) p.core.channels.rows q.core.channels.rows uses
+          (λ x lost told. removed_told m w v p q came moments shown did leaves h.numbers written read x told lost)
+          (λ x left told. left_told m w v p q came moments shown did leaves h.numbers written read x told left) h.each;
+      once = once_rolled p.core.channels.rows q.core.channels.rows uses h.once;
+      announced =
+          announced_left m p q [] uses (with_rolled_back p.core.channels.rows q.core.channels.rows uses) leaves
+          (λ s own k. over_rolled s own p.core.channels.rows q.core.channels.rows uses k) h.announced;
     }
 
     -- a message is written

@@ -17,7 +17,7 @@ use Rattle.rtc_run_laws.proofs.RunsExchange.{side_reads}
 use Rattle.rtc_run_laws.proofs.RunsTold.{PairTold}
 use Rattle.rtc_run_laws.proofs.StandingSides.{Sent, SideSent}
 use Rattle.rtc_run_laws.proofs.UseLists.{all_member, named_kept, prefix_contents}
-use Rattle.rtc_run_laws.proofs.UsesTold.{InBandTold, prefix_of}
+use Rattle.rtc_run_laws.proofs.UsesTold.{InBandTold, use_opened}
 use Rattle.rtc_run_laws.proofs.WholeUses.{none_last}
 use Rattle.rtc_run_laws.specs.Unannounced.{AreGotOfSent, AreToldOfSent}
 
@@ -55,15 +55,16 @@ module _ {N : Type 0} (draws : Draws N) where
 
     side_got : AreGotOfSent sent' us
     side_got = λ k mine band s of none.
-        let t = all_member (InBandTold (plain_over draws) x.side.written x.side.read p) us k x.side.told.each mine band in
+        let t =
+        use_opened (plain_over draws) x.side.written x.side.read p k
+        (all_member (InBandTold (plain_over draws) x.side.written x.side.read p) us k x.side.told.each mine band) in
         let unsent : sent' t.stream k.generation ≡ [] =
         ap (λ (n : ℕ). sent' n k.generation) (some_is t.stream s (sym t.stream_is ∙ of)) ∙ none in
         let silent : contents_of t.rest ≡ [] =
         none_last (contents_of (t.before ++ t.last ∷ [])) (contents_of t.rest)
         (sym (contents-append (t.before ++ t.last ∷ []) t.rest) ∙ ap contents_of (sym t.read_is) ∙ nothing_read t.stream k.generation unsent) in
         prefix_none k.got
-        (subst (λ (l : List (Bool × List ℕ)). IsPrefix k.got l) silent
-        (prefix_of (plain_over draws) k.channel t.stream k.generation k.got t.rest p t.stands))
+        (subst (λ (l : List (Bool × List ℕ)). IsPrefix k.got l) silent t.prefix)
 
   module _ (pair : PlainPair N) (uses : Side → List ChannelUse) (sent : Side → Sent) (told : Side → MessagesTold) (h : PairTold draws pair uses sent told) where
     pub pair_told_sent : (at : Side) → AreToldOfSent (sent (other_side at)) (told at)

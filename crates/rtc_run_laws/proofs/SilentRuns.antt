@@ -12,7 +12,7 @@ use Rattle.rtc_sctp_entries.specs.declared.stream_entry.StreamEntry.{StreamEntry
 use Rattle.rtc_peer_core.specs.declared.peer.Peer.{Peer}
 use Rattle.rtc_peer_core.specs.declared.phase.Phase.TheVariants.{Closed}
 use Rattle.rtc_peer_laws.specs.PeerActs.{PeerActs}
-use Rattle.rtc_run_history.specs.Native.{go_forward, goes_forward}
+use Rattle.rtc_run_history.specs.Native.{are_native, is_native}
 use Rattle.rtc_run_history.specs.PairState.{addr_at, rtc_at}
 use Rattle.rtc_run_history.specs.Past.{Entry, steps_of}
 use Rattle.rtc_run_history.specs.Runs.{Reached}
@@ -34,10 +34,11 @@ use Rattle.rtc_run_laws.proofs.BandedInputs.{SideBanded}
 use Rattle.rtc_run_laws.proofs.BandedMoments.{IsBanded}
 use Rattle.rtc_run_laws.proofs.BandedRuns.{PairBanded, run_banded}
 use Rattle.rtc_run_laws.proofs.ConfirmedRuns.{last_rows}
-use Rattle.rtc_run_laws.proofs.ForwardSteps.{forward_entry}
+use Rattle.rtc_run_laws.proofs.NativeSteps.{native_entry}
 use Rattle.rtc_run_laws.proofs.RunsTold.{PairTold, new_pair_told, reached_told}
 use Rattle.rtc_run_laws.proofs.StandingEntries.{AreBanded}
 use Rattle.rtc_run_laws.proofs.StandingSides.{Sent, SideSent}
+use Rattle.rtc_run_laws.proofs.StepRows.{changes_given}
 use Rattle.rtc_run_laws.proofs.StepsExchange.{plain_over_laws}
 use Rattle.rtc_run_laws.specs.Unannounced.{AreGotOfAnnounced, AreGotOfSent, AreSentOfAnnounced, AreToldOfAnnounced, AreToldOfSent, HaveNumbersLeft, IsAnnouncedOver}
 use Rattle.rtc_run_laws.proofs.Silence.{pair_got_sent, pair_told_sent}
@@ -115,21 +116,24 @@ module _ {N : Type 0} (draws : Draws N) where
   module _ (stun : List ℕ → Bool) (start : PlainPair N) (new : IsNewPair draws start) (none : start.sdps ≡ []) where
     -- a number was left before the last step, if one is behind it
     numbers_before : (entry : Entry PlainMediaEvent) (past : List (Entry PlainMediaEvent)) (pair : PlainPair N)
-        → go_forward (steps_of (entry ∷ past)) ≡ true → (ran : Reached (plain_over draws) stun start (entry ∷ past) pair) → HaveNumbersLeft pair
+        → are_native (steps_of (entry ∷ past)) ≡ true → (ran : Reached (plain_over draws) stun start (entry ∷ past) pair) → HaveNumbersLeft pair
         → HaveNumbersLeft ran.0
     numbers_before entry past pair go ran numbers = λ at.
-        let up = (last_rows (plain_over draws) (plain_over_laws draws) stun start entry past pair go ran at).given in
+        let up =
+        changes_given (plain_over draws) (rtc_at at ran.0) (rtc_at at pair)
+        (last_rows (plain_over draws) (plain_over_laws draws) stun start entry past pair go ran at)
+        in
         less_before (rtc_at at ran.0).core.channels.given (rtc_at at pair).core.channels.given up (numbers at)
 
-    sent_uses : (past : List (Entry PlainMediaEvent)) (pair : PlainPair N) → go_forward (steps_of past) ≡ true → AreInBandSteps (steps_of past)
+    sent_uses : (past : List (Entry PlainMediaEvent)) (pair : PlainPair N) → are_native (steps_of past) ≡ true → AreInBandSteps (steps_of past)
         → (ran : Reached (plain_over draws) stun start past pair) → HaveNumbersLeft pair → (at : Side) (s g : ℕ)
         → IsSentOver draws s g (sent_over (plain_over draws) stun start at past pair ran s g) (uses_of (plain_over draws) stun start at past pair ran)
     sent_uses [] pair go steps ran numbers at s g = inl refl
     sent_uses (entry ∷ past) pair go steps ran numbers at s g =
-        by (same_side (side_of entry.step) at) refl (sent_uses past ran.0 forward.0 both.0 ran.1 (numbers_before entry past pair go ran numbers) at s g)
+        by (same_side (side_of entry.step) at) refl (sent_uses past ran.0 native.0 both.0 ran.1 (numbers_before entry past pair go ran numbers) at s g)
       where
-        forward : (go_forward (steps_of past) ≡ true) × (goes_forward entry.step ≡ true)
-        forward = forward_entry entry past go
+        native : (are_native (steps_of past) ≡ true) × (is_native entry.step ≡ true)
+        native = native_entry entry past go
 
         both : AreInBandSteps (steps_of past) × IsInBandStep entry.step
         both = first_steps (steps_of past) entry.step steps
@@ -141,10 +145,10 @@ module _ {N : Type 0} (draws : Draws N) where
         sent x = sent_over (plain_over draws) stun start x past ran.0 ran.1
 
         told : PairTold draws ran.0 uses sent (λ x. told_over (plain_over draws) stun start x past ran.0 ran.1)
-        told = reached_told draws stun start past ran.0 forward.0 ran.1 (new_pair_told draws start new)
+        told = reached_told draws stun start past ran.0 native.0 ran.1 (new_pair_told draws start new)
 
         band : PairBanded (plain_over draws) (plain_over_laws draws) ran.0
-        band = run_banded (plain_over draws) (plain_over_laws draws) stun start past ran.0 forward.0 ran.1 both.0 (new_pair_banded start new none)
+        band = run_banded (plain_over draws) (plain_over_laws draws) stun start past ran.0 native.0 ran.1 both.0 (new_pair_banded start new none)
 
         side : (x : Side) → (acts : PeerActs)
             × SideSent draws acts (uses x) (sent x) (told_over (plain_over draws) stun start x past ran.0 ran.1) (rtc_at x ran.0)
@@ -177,7 +181,7 @@ module _ {N : Type 0} (draws : Draws N) where
             (acted (subst (λ (x : Side). IsSentOver draws s g (sent x s g) (uses x)) (sym is) h))
         by false e h = h
 
-    pub run_sent : (past : List (Entry PlainMediaEvent)) (pair : PlainPair N) → go_forward (steps_of past) ≡ true → AreInBandSteps (steps_of past)
+    pub run_sent : (past : List (Entry PlainMediaEvent)) (pair : PlainPair N) → are_native (steps_of past) ≡ true → AreInBandSteps (steps_of past)
         → (ran : Reached (plain_over draws) stun start past pair) → HaveNumbersLeft pair → (at : Side)
         → AreSentOfAnnounced (uses_of (plain_over draws) stun start at past pair ran) (sent_over (plain_over draws) stun start at past pair ran)
     run_sent past pair go steps ran numbers at = λ s g.
@@ -185,7 +189,7 @@ module _ {N : Type 0} (draws : Draws N) where
         (sent_uses past pair go steps ran numbers at s g)
 
   module _ (stun : List ℕ → Bool) (start : PlainPair N) (new : IsNewPair draws start) (past : List (Entry PlainMediaEvent)) (pair : PlainPair N)
-      (go : go_forward (steps_of past) ≡ true) (ran : Reached (plain_over draws) stun start past pair) where
+      (go : are_native (steps_of past) ≡ true) (ran : Reached (plain_over draws) stun start past pair) where
     pub run_told_sent : (at : Side)
         → AreToldOfSent (sent_over (plain_over draws) stun start (other_side at) past pair ran) (told_over (plain_over draws) stun start at past pair ran)
     run_told_sent at =

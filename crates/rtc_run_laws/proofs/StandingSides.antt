@@ -24,7 +24,7 @@ use Rattle.rtc_sctp_laws.proofs.PlainGenerations.{plain_generations}
 use Rattle.rtc_peer_laws.specs.Acts.{PeerDid}
 use Rattle.rtc_peer_laws.specs.PeerActs.{Came, PeerActs, acts_with}
 use Rattle.rtc_peer_laws.proofs.ActWords.{among_pair, reads_of-append, writes_of-append}
-use Rattle.rtc_peer_laws.specs.KeptChannels.{CallKeepsStreams}
+use Rattle.rtc_peer_laws.specs.KeptChannels.{CallKeepsStreams, CallLeavesStreams}
 use Rattle.rtc_peer_laws.specs.JoinedPeers.{CarriesData}
 use Rattle.rtc_peer_laws.proofs.ExchangeLemmas.{left_exchanges, right_exchanges}
 use Rattle.rtc_run_history.specs.declared.sent_packet.SentPacket.{SentPacket}
@@ -35,11 +35,11 @@ use Rattle.rtc_run_laws.specs.PlainPairs.{PlainPolled, plain_over}
 use Rattle.rtc_run_laws.specs.SentContents.{contents_sent}
 use Rattle.rtc_run_laws.proofs.ContentsLemmas.{Shows}
 use Rattle.rtc_run_laws.proofs.StandingExchange.{ExchangeBy}
-use Rattle.rtc_run_laws.specs.ChannelUses.{ChannelUse}
+use Rattle.rtc_run_laws.specs.ChannelUses.{ChannelUse, with_rolled_back}
 use Rattle.rtc_run_laws.specs.ToldMessages.{MessagesTold}
-use Rattle.rtc_run_laws.proofs.SidesTold.{SideTold, side_called}
-use Rattle.rtc_run_laws.proofs.UseLists.{AllUses, all_kept}
-use Rattle.rtc_run_laws.proofs.WholeUses.{SideWhole, whole_still}
+use Rattle.rtc_run_laws.proofs.SidesTold.{SideTold, side_called, side_rolled}
+use Rattle.rtc_run_laws.proofs.UseLists.{AllUses, all_kept, all_rolled}
+use Rattle.rtc_run_laws.proofs.WholeUses.{SideWhole, whole_rolled, whole_still}
 
 acts_join : (act : StreamMessage → AssociationAct) (all first more : List AssociationAct) (xs ys : List StreamMessage) → all ≡ first ++ more
     → first ≡ map act xs → more ≡ map act ys → all ≡ map act (xs ++ ys)
@@ -153,6 +153,19 @@ module _ {N : Type 0} (draws : Draws N) where
       call_stood at packets packets' b q p next came moments [] [] [] uses uses sent sent told told carried shows did (λ s g. append-nil (sent s g)) h
       (side_called (plain_over draws) plain_laws plain_generations came moments [] p next uses h.side.written h.side.read did keeps h.side.told)
       (whole_still told h.side.read [] uses h.whole) (still_running uses p next keeps.running h.running)
+
+  -- an offer is rolled back
+  pub rolled_stood : (at : Side) (packets packets' : List SentPacket) (b : PeerActs) (q p next : PlainPolled N) (came : Came) (moments : List ℕ)
+      (uses : List ChannelUse) (sent : Sent) (told : MessagesTold) → CarriesData came.dtls (contents_sent (other_side at) packets) → Shows at packets packets' []
+      → PeerDid (plain_over draws) came moments [] [] [] p next → CallLeavesStreams (plain_over draws) p [] next → Stood at packets b q uses sent told p
+      → Stood at packets' b q (with_rolled_back p.core.channels.rows next.core.channels.rows uses) sent told next
+  rolled_stood at packets packets' b q p next came moments uses sent told carried shows did leaves h =
+      call_stood at packets packets' b q p next came moments [] [] [] uses (with_rolled_back p.core.channels.rows next.core.channels.rows uses) sent sent told
+      told carried shows did (λ s g. append-nil (sent s g)) h
+      (side_rolled (plain_over draws) plain_laws plain_generations came moments [] p next uses h.side.written h.side.read did leaves h.side.told)
+      (whole_rolled told h.side.read [] p.core.channels.rows next.core.channels.rows uses h.whole)
+      (all_rolled (λ x. AreRunning plain_meaning p.core.sctp) (λ x. AreRunning plain_meaning next.core.sctp) p.core.channels.rows next.core.channels.rows uses
+      (λ x e k. leaves.running k) (λ x e k. leaves.running k) h.running)
 
   -- the same peer, and the same datagrams
   pub same_stood : (at : Side) (packets packets' : List SentPacket) (b : PeerActs) (q : PlainPolled N) (sent : Sent) (told : MessagesTold) (p next : PlainPolled N)

@@ -43,26 +43,26 @@ use Rattle.rtc_run_history.specs.declared.step.Step.TheVariants.{Negotiate, Acce
 use Rattle.rtc_run_history.specs.declared.step.Step.TheVariants.{Write, CloseChannel, Close, Rollback, ForeignOffer, ForeignAnswer, Raw}
 use Rattle.rtc_run_history.specs.declared.table.Table.{Table}
 use Rattle.rtc_run_history.specs.CallReplies.{ClosesOpenChannel, FindsNone, StepCalls, StepClosesChannel, StepWrites, StepWritesOpen}
-use Rattle.rtc_run_history.specs.Native.{goes_forward}
+use Rattle.rtc_run_history.specs.Native.{is_native}
 use Rattle.rtc_run_history.specs.PairState.{held_token, kept_remote_sdp, remote_packet}
 use Rattle.rtc_run_history.specs.Performs.{Acts, HandlesRead, StepTakesDatagram}
 use Rattle.rtc_run_history.specs.Sides.{other_side, side_of}
 use Rattle.rtc_run_laws.specs.PlainPairs.{PlainPolled, plain_over}
 use Rattle.rtc_run_laws.specs.SentContents.{contents_sent}
 use Rattle.rtc_run_laws.proofs.ContentsLemmas.{datagram_carries, sent_among, shows_none}
-use Rattle.rtc_run_laws.proofs.NegotiationActed.{answer_acts, negotiates_did, offer_acts}
+use Rattle.rtc_run_laws.proofs.NegotiationActed.{answer_acts, negotiates_did, offer_acts, rollback_acts}
 use Rattle.rtc_run_laws.specs.ChannelUses.{ChannelUse}
 use Rattle.rtc_run_laws.specs.PollsOfRuns.{by_step}
 use Rattle.rtc_run_laws.specs.SentMessages.{sent_acted, sent_by_write}
 use Rattle.rtc_run_laws.specs.ToldMessages.{MessagesTold, told_shown}
 use Rattle.rtc_run_laws.specs.UsesOfRuns.{uses_acted, uses_written}
-use Rattle.rtc_run_laws.proofs.KeptNegotiation.{answer_step_keeps, negotiates_keep, offer_step_keeps}
+use Rattle.rtc_run_laws.proofs.KeptNegotiation.{answer_step_keeps, negotiates_keep, offer_step_keeps, rollback_leaves}
 use Rattle.rtc_run_laws.proofs.OpenStreams.{open_free, open_placed}
 use Rattle.rtc_run_laws.proofs.PolledSteps.{drain_step_stood, poll_step_stood}
 use Rattle.rtc_run_laws.proofs.SidesTold.{side_wrote}
 use Rattle.rtc_run_laws.proofs.UseLists.{all_sent, written_carries}
 use Rattle.rtc_run_laws.proofs.WholeUses.{whole_sent}
-use Rattle.rtc_run_laws.proofs.StandingSides.{Sent, Stood, call_stood, quiet_stood, same_stood}
+use Rattle.rtc_run_laws.proofs.StandingSides.{Sent, Stood, call_stood, quiet_stood, rolled_stood, same_stood}
 
 -- a message that is written to a generation of a stream goes to no other
 sent_more : (t h s g : ℕ) (binary : Bool) (bytes : List ℕ) (sent : List (Bool × List ℕ))
@@ -227,7 +227,7 @@ module _ {N : Type 0} (draws : Draws N) (b : PeerActs) (q : PlainPolled N) where
   -- each step, an arm each
   pub acts_stood : (stun : List ℕ → Bool) (other own : Addr) (step : Step) (old : PlainPolled N) (sdps : List Kept) (packets : List SentPacket)
       (outcome : Outcome PlainMediaEvent) (table : Option Table) (new : PlainPolled N) (sdps' : List Kept) (packets' : List SentPacket)
-      (uses : List ChannelUse) (sent : Sent) (told : MessagesTold) → goes_forward step ≡ true
+      (uses : List ChannelUse) (sent : Sent) (told : MessagesTold) → is_native step ≡ true
       → (h : Acts (plain_over draws) stun other own step old sdps packets outcome table new sdps' packets')
       → Stood draws (side_of step) packets b q uses sent told old
       → Stood draws (side_of step) packets' b q (uses_acted (plain_over draws) stun other own step old sdps packets outcome table new sdps' packets' h uses) (λ s g. sent_acted (plain_over draws) step outcome old s g (sent s g))
@@ -267,7 +267,11 @@ module _ {N : Type 0} (draws : Draws N) (b : PeerActs) (q : PlainPolled N) where
   acts_stood stun other own (Close at) old sdps packets outcome table new sdps' packets' uses sent told go h stood =
       calls_stood draws at b q sent told (ClosesPeer (plain_over draws)) packets packets' uses
       (λ p r next closes s. closed_stood draws at b q sent told packets packets' uses p r next h.2 closes s) old outcome table new h.2 h.0 stood
-  acts_stood stun other own (Rollback at token) old sdps packets outcome table new sdps' packets' uses sent told go h stood = absurd (true≢false (sym go))
+  acts_stood stun other own (Rollback at token) old sdps packets outcome table new sdps' packets' uses sent told go h stood =
+      rolled_stood draws at packets packets' b q old new _ _ uses sent told (begun_carries (contents_sent (other_side at) packets))
+      (shows_none at packets packets' h.1.packets_kept)
+      (rollback_acts (plain_over draws) token (held_token sdps at token) old sdps outcome table new sdps' h.0)
+      (rollback_leaves (plain_over draws) token (held_token sdps at token) old sdps outcome table new sdps' h.0) stood
   acts_stood stun other own (ForeignOffer at text) old sdps packets outcome table new sdps' packets' uses sent told go h stood = absurd (true≢false (sym go))
   acts_stood stun other own (ForeignAnswer at token text) old sdps packets outcome table new sdps' packets' uses sent told go h stood = absurd (true≢false (sym go))
   acts_stood stun other own (Raw at bytes now) old sdps packets outcome table new sdps' packets' uses sent told go h stood = absurd (true≢false (sym go))

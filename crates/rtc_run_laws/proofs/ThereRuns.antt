@@ -22,7 +22,7 @@ use Rattle.rtc_sctp.specs.Streams.{SctpStreams}
 use Rattle.rtc_sctp_laws.specs.GenerationLaws.{GenerationLaws}
 use Rattle.rtc_run_history.specs.declared.side.Side.{Side}
 use Rattle.rtc_run_history.specs.declared.side.Side.TheVariants.{Left, Right}
-use Rattle.rtc_run_history.specs.Native.{go_forward}
+use Rattle.rtc_run_history.specs.Native.{are_native}
 use Rattle.rtc_run_history.specs.PairState.{PairState, rtc_at}
 use Rattle.rtc_run_history.specs.Past.{Entry, steps_of}
 use Rattle.rtc_run_history.specs.Runs.{Reached}
@@ -31,8 +31,8 @@ use Rattle.rtc_run_laws.specs.PlainPairs.{PlainPair, PlainPolled, plain_over}
 use Rattle.rtc_run_laws.proofs.StepsExchange.{plain_over_laws}
 use Rattle.rtc_run_laws.proofs.ConfirmedRuns.{last_rows}
 use Rattle.rtc_run_laws.proofs.ThereRows.{rows_there}
-use Rattle.rtc_run_laws.proofs.StepRows.{StepRows}
-use Rattle.rtc_run_laws.proofs.ForwardSteps.{forward_entry}
+use Rattle.rtc_run_laws.proofs.StepRows.{StepChanges, changes_closed}
+use Rattle.rtc_run_laws.proofs.NativeSteps.{native_entry}
 
 module _ {I D S M E X T W N : Type 0} (m : Meanings I D S M E X T W N) (laws : PartsLaws m) (v : GenerationLaws m.association)
     (keeps : S → ℕ → Type 0) (u : KeepingLaws m.association keeps) where
@@ -40,19 +40,20 @@ module _ {I D S M E X T W N : Type 0} (m : Meanings I D S M E X T W N) (laws : P
   abbrev pub SideThere : PolledPeer I D S M N → Type 0
   SideThere p = (p.core.phase ≡ Closed) ⊎ AreBegunStreams m.association keeps p.core.sctp
 
-  there_on : (p q : PolledPeer I D S M N) → StepRows m p q → SideThere p → SideThere q
-  there_on p q h (inl closed) = inl (h.closed closed)
-  there_on p q h (inr begun) = by h.changed
+  there_on : (p q : PolledPeer I D S M N) → StepChanges m p q → SideThere p → SideThere q
+  there_on p q h (inl closed) = inl (changes_closed m p q h closed)
+  there_on p q (inr h) (inr begun) = inr (subst (λ (x : SctpStreams S). AreBegunStreams m.association keeps x) (sym h.sctp) begun)
+  there_on p q (inl h) (inr begun) = by h.changed
     where
       by : (q.core.phase ≡ Closed) ⊎ RowsChanged m.association p.core.channels p.core.sctp q.core.channels q.core.sctp → SideThere q
       by (inl closed) = inl closed
       by (inr changed) = inr (rows_there m.association laws.association v keeps u p.core.channels p.core.sctp q.core.channels q.core.sctp changed begun)
 
   pub run_there : (stun : List ℕ → Bool) (start : PairState I D S M N) (past : List (Entry E)) (pair : PairState I D S M N)
-      → go_forward (steps_of past) ≡ true → Reached m stun start past pair → ((at : Side) → SideThere (rtc_at at start)) → (at : Side) → SideThere (rtc_at at pair)
+      → are_native (steps_of past) ≡ true → Reached m stun start past pair → ((at : Side) → SideThere (rtc_at at start)) → (at : Side) → SideThere (rtc_at at pair)
   run_there stun start [] pair go ran h at = subst (λ (x : PairState I D S M N). SideThere (rtc_at at x)) (sym ran) (h at)
   run_there stun start (entry ∷ past) pair go ran h at =
-      there_on (rtc_at at ran.0) (rtc_at at pair) (last_rows m laws stun start entry past pair go ran at) (run_there stun start past ran.0 (forward_entry entry past go).0 ran.1 h at)
+      there_on (rtc_at at ran.0) (rtc_at at pair) (last_rows m laws stun start entry past pair go ran at) (run_there stun start past ran.0 (native_entry entry past go).0 ran.1 h at)
 
 -- ---- new peers
 

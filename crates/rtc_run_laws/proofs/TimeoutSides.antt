@@ -38,7 +38,7 @@ use Rattle.rtc_run_laws.proofs.QuietActs.{HoldsNoOutput}
 use Rattle.rtc_run_laws.proofs.SidesTold.{SideTold}
 use Rattle.rtc_run_laws.proofs.StandingSides.{SideStood}
 use Rattle.rtc_run_laws.proofs.UseLists.{AllUses, all_kept}
-use Rattle.rtc_run_laws.proofs.UsesTold.{HasGone, InBandTold, IsOver, Lives, StandsSo}
+use Rattle.rtc_run_laws.proofs.UsesTold.{HasGone, InBandTold, IsOver, Lives, StandsSo, UseStands}
 use Rattle.rtc_run_laws.proofs.HeardSides.{GoneUse, HeardSide, HeardUse, HeardUses, some_is}
 
 -- ---- entries
@@ -117,6 +117,18 @@ module _ {N : Type 0} (draws : Draws N) where
   stands_heard q c s t g got rest same are live (HasGone gone past k) = inl gone
   stands_heard q c s t g got rest same are live (IsOver closed k) = absurd (live closed)
 
+  use_heard : (written read : List StreamMessage) (q : PlainPolled N) (x : ChannelUse) (s : ℕ) → x.stream ≡ Some s
+      → AreHeard plain_meaning q.core.sctp.association q.core.sctp.entries → (q.core.phase ≡ Closed → ⊥) → UseStands (plain_over draws) written read q x
+      → IsGone x.channel q.core.channels ⊎ (has_unread q.core.sctp.association s (generation_of q.core.sctp.association s) ≡ false)
+  use_heard written read q x s of are live u = by x.rolled_back refl
+    where
+      by : (b : Bool) → x.rolled_back ≡ b
+          → IsGone x.channel q.core.channels ⊎ (has_unread q.core.sctp.association s (generation_of q.core.sctp.association s) ≡ false)
+      by true e = inl (u.undone e).gone
+      by false e =
+          let k = u.kept e in
+          stands_heard q x.channel k.stream s x.generation x.got k.rest (some_is k.stream s (sym k.stream_is ∙ of)) are live k.stands
+
   -- over a connection by which application data can go
   waited_heard : (own : ℕ) (p q : PlainPolled N) (moment : ℕ) (uses : List ChannelUse) (written read : List StreamMessage)
       → PollsPeer (plain_over draws) p (Ok (Timeout moment)) q → can_send plain_dtls q.core.dtls ≡ true → is_established q.core.sctp.state ≡ true
@@ -151,9 +163,7 @@ module _ {N : Type 0} (draws : Draws N) where
       are = all.streams (both_are (is_established q.core.sctp.state) (is_started q.core.sctp.association) established started)
 
       by : (x : ChannelUse) → InBandTold (plain_over draws) written read q x → HeardUse own q x
-      by x t = λ band is s of.
-          let k = t band in
-          stands_heard q x.channel k.stream s x.generation x.got k.rest (some_is k.stream s (sym k.stream_is ∙ of)) are live k.stands
+      by x t = λ band is s of. use_heard written read q x s of are live (t band)
 
   -- a channel that was opened in-band is live, and something was read of it
   record IsReadLive (read : List StreamMessage) (q : PlainPolled N) : Type 0 where
@@ -179,6 +189,17 @@ module _ {N : Type 0} (draws : Draws N) where
   stands_live c s g got rest read q live some running (HasGone gone past k) = inr gone
   stands_live c s g got rest read q live some running (IsOver closed k) = absurd (live closed)
 
+  use_live : (x : ChannelUse) (written read : List StreamMessage) (q : PlainPolled N) → (q.core.phase ≡ Closed → ⊥)
+      → AreRunning plain_meaning q.core.sctp → UseStands (plain_over draws) written read q x → IsReadLive read q ⊎ IsGone x.channel q.core.channels
+  use_live x written read q live running u = by x.rolled_back refl
+    where
+      by : (b : Bool) → x.rolled_back ≡ b → IsReadLive read q ⊎ IsGone x.channel q.core.channels
+      by true e = inr (u.undone e).gone
+      by false e =
+          let t = u.kept e in
+          stands_live x.channel t.stream x.generation x.got t.rest read q live
+          (some_read t.stream x.generation read t.before t.last t.rest t.read_is) running t.stands
+
   some_live : (own : ℕ) (uses : List ChannelUse) (written read : List StreamMessage) (q : PlainPolled N) → (q.core.phase ≡ Closed → ⊥)
       → AllUses (InBandTold (plain_over draws) written read q) uses → AllUses (λ x. AreRunning plain_meaning q.core.sctp) uses
       → IsReadLive read q ⊎ AllUses (GoneUse own q) uses
@@ -196,11 +217,7 @@ module _ {N : Type 0} (draws : Draws N) where
       skipped out (inr others) = inr (λ band is. absurd (out band), others)
 
       first : (b : Bool) → x.in_band ≡ b → IsReadLive read q ⊎ AllUses (GoneUse own q) uses → IsReadLive read q ⊎ (GoneUse own q x × AllUses (GoneUse own q) uses)
-      first true e rest =
-          let t = told.0 e in
-          joined
-          (stands_live x.channel t.stream x.generation x.got t.rest read q live
-          (some_read t.stream x.generation read t.before t.last t.rest t.read_is) running.0 t.stands) rest
+      first true e rest = joined (use_live x written read q live running.0 (told.0 e)) rest
       first false e rest = skipped (λ band. true≢false (sym band ∙ e)) rest
 
   pub timeout_side : (own : ℕ) (p q : PlainPolled N) (moment : ℕ) (acts : PeerActs) (uses : List ChannelUse) → PollsPeer (plain_over draws) p (Ok (Timeout moment)) q

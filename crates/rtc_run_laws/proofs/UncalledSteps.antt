@@ -30,6 +30,7 @@ use Rattle.rtc_run_history.specs.Performs.{Acts, DrainsPeer, HandlesRead, Negoti
 use Rattle.rtc_run_history.specs.Signalled.{Signalled, NotMade, Unreadable, Readable, foreign}
 use Rattle.rtc_run_laws.specs.CalledSteps.{calls_peer}
 use Rattle.rtc_run_laws.specs.ChannelUses.{ChannelUse}
+use Rattle.rtc_run_laws.proofs.RolledUses.{none_rolled}
 use Rattle.rtc_run_laws.specs.UsesOfRuns.{uses_acted}
 
 module _ {I D S M E X T W N : Type 0} (m : Meanings I D S M E X T W N) where
@@ -172,7 +173,9 @@ module _ {I D S M E X T W N : Type 0} (m : Meanings I D S M E X T W N) where
   uncalled_uses stun other own (Datagram at packet now) old sdps packets outcome table new sdps' packets' h uses none = refl
   uncalled_uses stun other own (CloseChannel at channel) old sdps packets outcome table new sdps' packets' h uses none = refl
   uncalled_uses stun other own (Close at) old sdps packets outcome table new sdps' packets' h uses none = refl
-  uncalled_uses stun other own (Rollback at t) old sdps packets outcome table new sdps' packets' h uses none = refl
+  uncalled_uses stun other own (Rollback at t) old sdps packets outcome table new sdps' packets' h uses none =
+      none_rolled old.core.channels.rows new.core.channels.rows uses
+      (ap (λ (x : PolledPeer I D S M N). x.core.channels.rows) (uncalled_same stun other own (Rollback at t) old sdps packets outcome table new sdps' packets' h none))
   uncalled_uses stun other own (ForeignOffer at text) old sdps packets outcome table new sdps' packets' h uses none = refl
   uncalled_uses stun other own (ForeignAnswer at t text) old sdps packets outcome table new sdps' packets' h uses none = refl
   uncalled_uses stun other own (Raw at bytes now) old sdps packets outcome table new sdps' packets' h uses none = refl

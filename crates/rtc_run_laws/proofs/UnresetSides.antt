@@ -11,7 +11,7 @@ use Rattle.rtc_sctp_laws.proofs.PlainGenerations.{plain_generations}
 use Rattle.rtc_sctp_laws.proofs.ThereStreams.{AreBegunStreams}
 use Rattle.rtc_run_history.specs.declared.side.Side.{Side}
 use Rattle.rtc_run_history.specs.declared.side.Side.TheVariants.{Left, Right}
-use Rattle.rtc_run_history.specs.Native.{go_forward}
+use Rattle.rtc_run_history.specs.Native.{are_native}
 use Rattle.rtc_run_history.specs.PairState.{rtc_at}
 use Rattle.rtc_run_history.specs.Past.{Entry, steps_of}
 use Rattle.rtc_run_history.specs.Runs.{Reached}
@@ -46,7 +46,7 @@ side_parts acts pair x Right s g h none =
     x.joined.run s g h none
 
 module _ {N : Type 0} (draws : Draws N) (stun : List ℕ → Bool) (start : PlainPair N) (past : List (Entry PlainMediaEvent)) (pair : PlainPair N)
-    (go : go_forward (steps_of past) ≡ true) (ran : Reached (plain_over draws) stun start past pair) (new : IsNewPair draws start)
+    (go : are_native (steps_of past) ≡ true) (ran : Reached (plain_over draws) stun start past pair) (new : IsNewPair draws start)
     (h : PairTold draws start (λ x. []) (λ x s g. []) (λ x c s g. [])) (unused : AreUnused (plain_over draws) (plain_over_laws draws) start)
     (settled : IsSettledPair past pair) where
   there_by : (at : Side) → SideThere (plain_over draws) (plain_over_laws draws) plain_generations IsKeptIf plain_keeping (rtc_at at pair)
@@ -83,10 +83,10 @@ module _ {N : Type 0} (draws : Draws N) (stun : List ℕ → Bool) (start : Plai
       → AreConfirmedUnreset draws (λ c. WasConfirmed (plain_over draws) stun start at c past pair ran)
       (uses_of (plain_over draws) stun start at past pair ran) (rtc_at at pair)
       (uses_of (plain_over draws) stun start (other_side at) past pair ran) (rtc_at (other_side at) pair)
-  settled_unreset at later = λ c s confirmed under band channels first.
+  settled_unreset at later = λ c s confirmed under band channels stand first.
       by c s band channels first
       (settled_alone draws stun start past pair go ran new h unused settled at
-      (settled_idle draws stun start past pair go ran h unused settled at later) c s confirmed under band channels)
+      (settled_idle draws stun start past pair go ran h unused settled at later) c s confirmed under band channels stand)
     where
       by : (c s : ℕ) → AreInBandStreams s (rtc_at at pair) (rtc_at (other_side at) pair)
           → AreInBandChannels s (rtc_at at pair) (rtc_at (other_side at) pair) → generation_of (rtc_at at pair).core.sctp.association s ≡ 0

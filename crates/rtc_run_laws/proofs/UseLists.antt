@@ -1,6 +1,7 @@
 -- Lists of uses of channels, prefixes, and what is written of a message of a user.
 use Rattle.std.proofs.Common.{◌≡◌, ◌∙◌, ◌++◌, ◌∷◌, ◌==◌, if◌then◌else◌, ℕ, Bool, true, false, List, [], map, append-nil, append_assoc, inl, inr, refl, sym, ap, subst}
 use Rattle.rtc_part_values.specs.Among.{Member}
+use Rattle.rtc_channels.specs.Channels.{Channel}
 use Rattle.rtc_assoc.specs.Unread.{IsPrefix}
 use Rattle.rtc_part_association.specs.AssociationWords.{AssociationMessage}
 use Rattle.rtc_sctp.specs.Calls.{is_nil, written_ppi}
@@ -8,7 +9,7 @@ use Rattle.rtc_sctp_laws.specs.StreamMessages.{StreamMessage, HaveNamedPpis, str
 use Rattle.rtc_sctp_laws.specs.StreamUses.{is_of_generation, messages_of}
 use Rattle.rtc_sctp_laws.specs.Contents.{contents_by, contents_of, numbered_message}
 use Rattle.rtc_sctp_laws.proofs.ContentLemmas.{contents_by-append}
-use Rattle.rtc_run_laws.specs.ChannelUses.{ChannelUse, with_got_message, with_sent_message}
+use Rattle.rtc_run_laws.specs.ChannelUses.{ChannelUse, loses_channel, with_got_message, with_rolled_back, with_sent_message}
 
 -- ---- prefixes
 
@@ -94,3 +95,15 @@ all_got P Q c message (x ∷ uses) own other h = (by (x.channel == c) refl, all_
     by : (b : Bool) → (x.channel == c) ≡ b → Q (if b then record x { got = x.got ++ message ∷ [] } else x)
     by true e = own x e h.0
     by false e = other x e h.0
+
+pub all_rolled : (P Q : ChannelUse → Type 0) (before after : List Channel) (uses : List ChannelUse)
+    → ((x : ChannelUse) → loses_channel x.channel before after ≡ true → P x → Q (record x { rolled_back = true }))
+    → ((x : ChannelUse) → loses_channel x.channel before after ≡ false → P x → Q x) → AllUses P uses
+    → AllUses Q (with_rolled_back before after uses)
+all_rolled P Q before after [] lost left h = tt
+all_rolled P Q before after (x ∷ uses) lost left h =
+    (by (loses_channel x.channel before after) refl, all_rolled P Q before after uses lost left h.1)
+  where
+    by : (b : Bool) → loses_channel x.channel before after ≡ b → Q (if b then record x { rolled_back = true } else x)
+    by true e = lost x e h.0
+    by false e = left x e h.0

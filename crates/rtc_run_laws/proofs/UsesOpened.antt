@@ -104,5 +104,7 @@ module _ {I D S M E X T W N : Type 0} (m : Meanings I D S M E X T W N) (w : Asso
             subst (λ (n : Option ℕ). T n (generation_under m n q)) (sym opening_placed) (made o live)
 
     pub opening_told : UsedUnlessClosed m written read p → InBandTold m (written ++ acts.wrote) (read ++ acts.heard) q (announced_use m id q)
-    opening_told used = λ band.
-        opening_as (λ of g. UseTold m (written ++ acts.wrote) (read ++ acts.heard) q id of g [] []) opening_is used band
+    opening_told used = λ band. record {
+      kept = λ e. opening_as (λ of g. UseTold m (written ++ acts.wrote) (read ++ acts.heard) q id of g [] []) opening_is used band;
+      undone = λ e. absurd (true≢false (sym e));
+    }

@@ -35,7 +35,7 @@ use Rattle.rtc_peer_laws.specs.ChannelStreams.{UnlessLacking}
 use Rattle.rtc_peer_laws.proofs.ChannelsOver.{none_over, same_stream}
 use Rattle.rtc_run_laws.specs.ChannelUses.{ChannelUse}
 use Rattle.rtc_run_laws.proofs.RowLemmas.{closed_stays, over_below}
-use Rattle.rtc_run_laws.proofs.UsesTold.{HasGone, InBandTold, IsOver, Lives, StandsSo, UseTold, UsedUnlessClosed, more_read, prefix_of, told_on}
+use Rattle.rtc_run_laws.proofs.UsesTold.{HasGone, InBandTold, IsOver, Lives, StandsSo, UseTold, UsedUnlessClosed, more_read, prefix_of, told_on, undone_on}
 
 some_same : (a b : ℕ) → Some a ≡ Some b → a ≡ b
 some_same a b h = cc
@@ -183,11 +183,16 @@ module _ {I D S M E X T W N : Type 0} (m : Meanings I D S M E X T W N) (w : Asso
 
     pub still_told : (x : ChannelUse) → ((s g : ℕ) → IsLiveChannel x.channel s g p → data_of s acts.told ≡ []) → InBandTold m written read p x
         → InBandTold m (written ++ acts.wrote) (read ++ acts.heard) q x
-    still_told x none told = λ band.
-        let t = told band in
-        told_on m written acts.wrote read acts.heard p q x.channel x.stream x.generation x.sent x.sent x.got x.got t (unsent t.stream x.generation x.sent)
-        (still_stands x.channel t.stream x.generation x.got t.rest (begun_on x.channel x.stream x.generation x.sent x.got t)
-        (λ live. none t.stream x.generation live) t.stands)
+    still_told x none told = λ band. record {
+      kept = λ e.
+          let t = (told band).kept e in
+          told_on m written acts.wrote read acts.heard p q x.channel x.stream x.generation x.sent x.sent x.got x.got t (unsent t.stream x.generation x.sent)
+          (still_stands x.channel t.stream x.generation x.got t.rest (begun_on x.channel x.stream x.generation x.sent x.got t)
+          (λ live. none t.stream x.generation live) t.stands);
+      undone = λ e.
+          undone_on m written acts.wrote read acts.heard p q x.channel x.stream x.generation x.got (acts.streams.gone x.channel)
+          ((told band).undone e);
+    }
 
     -- nothing is told at all
     pub silent_polled : (x : ChannelUse) → acts.told ≡ [] → InBandTold m written read p x → InBandTold m (written ++ acts.wrote) (read ++ acts.heard) q x
@@ -218,11 +223,17 @@ module _ {I D S M E X T W N : Type 0} (m : Meanings I D S M E X T W N) (w : Asso
 
     pub own_got : (x : ChannelUse) → (x.channel == message.id) ≡ true → InBandTold m written read p x
         → InBandTold m (written ++ acts.wrote) (read ++ acts.heard) q (record x { got = x.got ++ (message.binary, message.bytes) ∷ [] })
-    own_got x e told = λ band.
-        let t = told band in
-        told_on m written acts.wrote read acts.heard p q x.channel x.stream x.generation x.sent x.sent x.got (x.got ++ (message.binary, message.bytes) ∷ []) t
-        (unsent p (Ok (outputs.Event (ChannelData message))) q h acts numbers written read used t.stream x.generation x.sent)
-        (own_stands x.channel t.stream x.generation x.got t.rest (eqb-true x.channel message.id e) t.stands)
+    own_got x e told = λ band. record {
+      kept = λ f.
+          let t = (told band).kept f in
+          told_on m written acts.wrote read acts.heard p q x.channel x.stream x.generation x.sent x.sent x.got (x.got ++ (message.binary, message.bytes) ∷ []) t
+          (unsent p (Ok (outputs.Event (ChannelData message))) q h acts numbers written read used t.stream x.generation x.sent)
+          (own_stands x.channel t.stream x.generation x.got t.rest (eqb-true x.channel message.id e) t.stands);
+      undone = λ f.
+          absurd
+          (none_over acts.shows.0 x.channel q.core.channels.rows (acts.streams.gone x.channel ((told band).undone f).gone).1
+          (acts.shows.1.1 ∙ ap (λ (n : ℕ). Some n) (sym (eqb-true x.channel message.id e))));
+    }
 
     other_data : (c s g : ℕ) → (c ≡ message.id → ⊥) → IsLiveChannel c s g p → data_of s acts.told ≡ []
     other_data c s g ne live =

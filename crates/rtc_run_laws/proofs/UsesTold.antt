@@ -1,6 +1,6 @@
 -- What holds of a channel that was announced in-band, by all that was written and read of its stream: what was sent over it is what was
 -- written of its generation, and what was got is a prefix of what was read of this behind the message that opened it.
-use Rattle.std.proofs.Common.{◌≡◌, ◌∙◌, ◌⊎◌, ◌++◌, ◌∷◌, ◌==◌, ℕ, Bool, true, false, List, [], append-nil, append_assoc, Option, Some, None, Ok, sym, ap, subst}
+use Rattle.std.proofs.Common.{◌≡◌, ◌∙◌, ◌⊎◌, ◌++◌, ◌∷◌, ◌==◌, ℕ, Bool, true, false, List, [], append-nil, append_assoc, Option, Some, None, Ok, refl, sym, ap, subst}
 use Rattle.std.proofs.lemmas.Bool.{eqb-true, eqb-false}
 use Rattle.rtc_part_association.specs.AssociationLaws.{AssociationLaws}
 use Rattle.rtc_assoc.specs.Unread.{IsPrefix}
@@ -27,6 +27,19 @@ use Rattle.rtc_run_laws.specs.ChannelUses.{ChannelUse}
 use Rattle.rtc_run_laws.proofs.RowLemmas.{one_over}
 use Rattle.rtc_run_laws.proofs.UseLists.{none_numbered, prefix_more, prefix_same, written_carries}
 
+-- The message that opened a channel, behind what opens none; what the channel got is a prefix of what was read behind it.
+pub record UseOpened (written read : List StreamMessage) (of : Option ℕ) (g : ℕ) (got : List (Bool × List ℕ)) : Type 0 where
+  pub stream : ℕ
+  pub stream_is : of ≡ Some stream
+  pub begins : begins_with_dcep (messages_of stream g written) ≡ true
+  pub before : List StreamMessage
+  pub last : StreamMessage
+  pub rest : List StreamMessage
+  pub read_is : messages_of stream g read ≡ (before ++ last ∷ []) ++ rest
+  pub last_dcep : is_dcep_message last ≡ true
+  pub none_before : any_dcep before ≡ false
+  pub prefix : IsPrefix got (contents_of rest)
+
 module _ {I D S M E X T W N : Type 0} (m : Meanings I D S M E X T W N) where
   -- A channel stands so: it is live, and all that it was told is all that was read; or it has gone, and its stream is past the generation;
   -- or the peer is closed.
@@ -51,13 +64,24 @@ module _ {I D S M E X T W N : Type 0} (m : Meanings I D S M E X T W N) where
     pub none_before : any_dcep before ≡ false
     pub stands : StandsSo c stream g got rest p
 
+  -- a rollback removed the channel
+  pub record UndoneTold (written read : List StreamMessage) (p : PolledPeer I D S M N) (c : ℕ) (of : Option ℕ) (g : ℕ) (got : List (Bool × List ℕ))
+      : Type 0 where
+    pub opened : UseOpened written read of g got
+    pub gone : IsGone c p.core.channels
+
+  -- of a channel that was rolled back, and of one that was not
+  pub record UseStands (written read : List StreamMessage) (p : PolledPeer I D S M N) (x : ChannelUse) : Type 0 where
+    pub kept : x.rolled_back ≡ false → UseTold written read p x.channel x.stream x.generation x.sent x.got
+    pub undone : x.rolled_back ≡ true → UndoneTold written read p x.channel x.stream x.generation x.got
+
   -- the use of each stream, unless the peer is closed
   abbrev pub UsedUnlessClosed : (written read : List StreamMessage) → PolledPeer I D S M N → Type 0
   UsedUnlessClosed written read p = (p.core.phase ≡ Closed) ⊎ ((s : ℕ) → IsUsedStream m s written read p)
 
   -- of a channel that was opened in-band
   abbrev pub InBandTold : (written read : List StreamMessage) → PolledPeer I D S M N → ChannelUse → Type 0
-  InBandTold written read p x = x.in_band ≡ true → UseTold written read p x.channel x.stream x.generation x.sent x.got
+  InBandTold written read p x = x.in_band ≡ true → UseStands written read p x
 
   pub prefix_of : (c s g : ℕ) (got : List (Bool × List ℕ)) (rest : List StreamMessage) (p : PolledPeer I D S M N) → StandsSo c s g got rest p
       → IsPrefix got (contents_of rest)
@@ -69,7 +93,57 @@ module _ {I D S M E X T W N : Type 0} (m : Meanings I D S M E X T W N) where
   more_read got rest more h =
       subst (λ (l : List (Bool × List ℕ)). IsPrefix got l) (sym (contents-append rest more)) (prefix_more got (contents_of rest) (contents_of more) h)
 
+  abbrev pub opened_of : (written read : List StreamMessage) (p : PolledPeer I D S M N) (c : ℕ) (of : Option ℕ) (g : ℕ) (sent got : List (Bool × List ℕ))
+      → UseTold written read p c of g sent got → UseOpened written read of g got
+  opened_of written read p c of g sent got t = record {
+    stream = t.stream;
+    stream_is = t.stream_is;
+    begins = t.begins;
+    before = t.before;
+    last = t.last;
+    rest = t.rest;
+    read_is = t.read_is;
+    last_dcep = t.last_dcep;
+    none_before = t.none_before;
+    prefix = prefix_of c t.stream g got t.rest p t.stands;
+  }
+
+  -- whether it was rolled back or not
+  pub use_opened : (written read : List StreamMessage) (p : PolledPeer I D S M N) (x : ChannelUse) → UseStands written read p x
+      → UseOpened written read x.stream x.generation x.got
+  use_opened written read p x h = by x.rolled_back refl
+    where
+      by : (b : Bool) → x.rolled_back ≡ b → UseOpened written read x.stream x.generation x.got
+      by true e = (h.undone e).opened
+      by false e = opened_of written read p x.channel x.stream x.generation x.sent x.got (h.kept e)
+
   -- more was written, and read
+  pub opened_on : (written wrote read heard : List StreamMessage) (of : Option ℕ) (g : ℕ) (got : List (Bool × List ℕ))
+      → UseOpened written read of g got → UseOpened (written ++ wrote) (read ++ heard) of g got
+  opened_on written wrote read heard of g got t = record {
+    stream = t.stream;
+    stream_is = t.stream_is;
+    begins =
+        ap begins_with_dcep (messages-append t.stream g written wrote)
+        ∙ begins_more (messages_of t.stream g written) (messages_of t.stream g wrote) t.begins;
+    before = t.before;
+    last = t.last;
+    rest = t.rest ++ messages_of t.stream g heard;
+    read_is =
+        messages-append t.stream g read heard
+        ∙ ap (λ (l : List StreamMessage). l ++ messages_of t.stream g heard) t.read_is
+        ∙ append_assoc (t.before ++ t.last ∷ []) t.rest (messages_of t.stream g heard);
+    last_dcep = t.last_dcep;
+    none_before = t.none_before;
+    prefix = more_read got t.rest (messages_of t.stream g heard) t.prefix;
+  }
+
+  pub undone_on : (written wrote read heard : List StreamMessage) (p q : PolledPeer I D S M N) (c : ℕ) (of : Option ℕ) (g : ℕ) (got : List (Bool × List ℕ))
+      → (IsGone c p.core.channels → IsGone c q.core.channels) → UndoneTold written read p c of g got
+      → UndoneTold (written ++ wrote) (read ++ heard) q c of g got
+  undone_on written wrote read heard p q c of g got goes t =
+      record { opened = opened_on written wrote read heard of g got t.opened; gone = goes t.gone }
+
   pub told_on : (written wrote read heard : List StreamMessage) (p q : PolledPeer I D S M N) (c : ℕ) (of : Option ℕ) (g : ℕ)
       (sent sent' got got' : List (Bool × List ℕ)) (t : UseTold written read p c of g sent got)
       → sent ++ contents_of (messages_of t.stream g wrote) ≡ sent'
@@ -98,7 +172,7 @@ module _ {I D S M E X T W N : Type 0} (m : Meanings I D S M E X T W N) where
     stands = stands;
   }
 
-  nothing_more : (sent : List (Bool × List ℕ)) (l : List StreamMessage) → l ≡ [] → sent ++ contents_of l ≡ sent
+  pub nothing_more : (sent : List (Bool × List ℕ)) (l : List StreamMessage) → l ≡ [] → sent ++ contents_of l ≡ sent
   nothing_more sent l none = ap (λ (k : List StreamMessage). sent ++ contents_of k) none ∙ append-nil sent
 
   module _ (w : AssociationLaws m.association) (v : GenerationLaws m.association) (p q : PolledPeer I D S M N) (wrote : List StreamMessage)
@@ -122,10 +196,14 @@ module _ {I D S M E X T W N : Type 0} (m : Meanings I D S M E X T W N) where
     -- one that writes nothing
     pub silent_told : (written read : List StreamMessage) (x : ChannelUse) → wrote ≡ [] → InBandTold written read p x
         → InBandTold (written ++ wrote) (read ++ []) q x
-    silent_told written read x none h = λ band.
-        let t = h band in
-        call_told written read x.channel x.stream x.generation x.sent x.sent x.got t
-        (nothing_more x.sent (messages_of t.stream x.generation wrote) (ap (messages_of t.stream x.generation) none))
+    silent_told written read x none h = λ band. record {
+      kept = λ e.
+          let t = (h band).kept e in
+          call_told written read x.channel x.stream x.generation x.sent x.sent x.got t
+          (nothing_more x.sent (messages_of t.stream x.generation wrote) (ap (messages_of t.stream x.generation) none));
+      undone = λ e.
+          undone_on written wrote read [] p q x.channel x.stream x.generation x.got (keeps.gone x.channel) ((h band).undone e);
+    }
 
     -- nothing is written to a generation that is past
     past_none : (s g : ℕ) → IsPast m.association s g p.core.sctp.association → messages_of s g wrote ≡ []
@@ -180,14 +258,22 @@ module _ {I D S M E X T W N : Type 0} (m : Meanings I D S M E X T W N) where
 
         pub own_told : (written read : List StreamMessage) (x : ChannelUse) → (x.channel == id) ≡ true → InBandTold written read p x
             → InBandTold (written ++ wrote) (read ++ []) q (record x { sent = x.sent ++ (binary, bytes) ∷ [] })
-        own_told written read x e h = λ band.
-            let t = h band in
-            call_told written read x.channel x.stream x.generation x.sent (x.sent ++ (binary, bytes) ∷ []) x.got t
-            (ap (λ (l : List (Bool × List ℕ)). x.sent ++ l) (own_written x.channel t.stream x.generation x.got t.rest t.stands e))
+        own_told written read x e h = λ band. record {
+          kept = λ f.
+              let t = (h band).kept f in
+              call_told written read x.channel x.stream x.generation x.sent (x.sent ++ (binary, bytes) ∷ []) x.got t
+              (ap (λ (l : List (Bool × List ℕ)). x.sent ++ l) (own_written x.channel t.stream x.generation x.got t.rest t.stands e));
+          undone = λ f.
+              undone_on written wrote read [] p q x.channel x.stream x.generation x.got (keeps.gone x.channel) ((h band).undone f);
+        }
 
         pub other_told : (written read : List StreamMessage) (x : ChannelUse) → (x.channel == id) ≡ false → InBandTold written read p x
             → InBandTold (written ++ wrote) (read ++ []) q x
-        other_told written read x e h = λ band.
-            let t = h band in
-            call_told written read x.channel x.stream x.generation x.sent x.sent x.got t
-            (nothing_more x.sent (messages_of t.stream x.generation wrote) (other_written x.channel t.stream x.generation x.got t.rest t.stands e))
+        other_told written read x e h = λ band. record {
+          kept = λ f.
+              let t = (h band).kept f in
+              call_told written read x.channel x.stream x.generation x.sent x.sent x.got t
+              (nothing_more x.sent (messages_of t.stream x.generation wrote) (other_written x.channel t.stream x.generation x.got t.rest t.stands e));
+          undone = λ f.
+              undone_on written wrote read [] p q x.channel x.stream x.generation x.got (keeps.gone x.channel) ((h band).undone f);
+        }

@@ -29,7 +29,7 @@ use Rattle.rtc_run_laws.proofs.SidesTold.{SideTold}
 use Rattle.rtc_run_laws.proofs.UseLists.{all_got, all_more}
 use Rattle.rtc_run_laws.proofs.UsesOpened.{opening_as}
 use Rattle.rtc_run_laws.proofs.UsesPolled.{all_dcep_none, no_timeout}
-use Rattle.rtc_run_laws.proofs.UsesTold.{HasGone, InBandTold, IsOver, Lives, StandsSo}
+use Rattle.rtc_run_laws.proofs.UsesTold.{HasGone, InBandTold, IsOver, Lives, StandsSo, UseStands}
 use Rattle.rtc_run_laws.proofs.WholeUses.{WholeTold, InBandWhole, AreSilent, SideWhole, none_last, ends_none, contents_join, of_other, both_true, all_both, some_is, whole_on, unmoved, silent_on, whole_still}
 
 module _ {I D S M E X T W N : Type 0} (m : Meanings I D S M E X T W N) where
@@ -171,18 +171,30 @@ module _ {I D S M E X T W N : Type 0} (m : Meanings I D S M E X T W N) where
           (no_timeout (ChannelData message) _ (Ok (outputs.Event (ChannelData message))) refl
           (closed_stays m p (Ok (outputs.Event (ChannelData message))) q closed h).0)
 
+      -- also of one that may have been rolled back: then it has no row, and nothing is told of it
+      use_told : (written read : List StreamMessage) (x : ChannelUse) → (x.channel == message.id) ≡ true → UseStands m written read p x → (s : ℕ)
+          → x.stream ≡ Some s → is_told_of m message q x.channel s x.generation ≡ true
+      use_told written read x e u s of = by x.rolled_back refl
+        where
+          by : (b : Bool) → x.rolled_back ≡ b → is_told_of m message q x.channel s x.generation ≡ true
+          by true f =
+              absurd
+              (none_over (acts.streams.tells v).stream x.channel q.core.channels.rows (acts.streams.gone x.channel (u.undone f).gone).1
+              ((acts.streams.tells v).over ∙ ap (λ (n : ℕ). Some n) (sym (eqb-true x.channel message.id e))))
+          by false f =
+              let t = u.kept f in
+              subst (λ (n : ℕ). is_told_of m message q x.channel n x.generation ≡ true) (some_is t.stream s (sym t.stream_is ∙ of))
+              (stands_told x.channel t.stream x.generation x.got t.rest e t.stands)
+
       own_whole : (written read : List StreamMessage) (x : ChannelUse) → (x.channel == message.id) ≡ true
           → InBandTold m written read p x × InBandWhole told read x
           → InBandWhole told_on (read ++ acts.heard) (record x { got = x.got ++ (message.binary, message.bytes) ∷ [] })
       own_whole written read x e k = λ band.
-          let t = k.0 band in
           let whole = k.1 band in
           whole_on told told_on read acts.heard x.channel x.stream x.generation x.got (x.got ++ (message.binary, message.bytes) ∷ [])
           ((message.binary, message.bytes) ∷ []) whole refl
           (taken (is_told_of m message q x.channel whole.stream x.generation) (told x.channel whole.stream x.generation)
-          (subst (λ (n : ℕ). is_told_of m message q x.channel n x.generation ≡ true)
-          (some_is t.stream whole.stream (sym t.stream_is ∙ whole.stream_is))
-          (stands_told x.channel t.stream x.generation x.got t.rest e t.stands)))
+          (use_told written read x e (k.0 band) whole.stream whole.stream_is))
         where
           taken : (b : Bool) (l : List (Bool × List ℕ)) → b ≡ true
               → (if b then l ++ (message.binary, message.bytes) ∷ [] else l) ≡ l ++ (message.binary, message.bytes) ∷ []

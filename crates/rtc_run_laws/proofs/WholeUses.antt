@@ -7,9 +7,10 @@ use Rattle.rtc_sctp_laws.specs.StreamUses.{any_dcep, are_of_generation, messages
 use Rattle.rtc_sctp_laws.proofs.GenerationMessages.{messages-append}
 use Rattle.rtc_sctp_laws.specs.Contents.{contents_of}
 use Rattle.rtc_sctp_laws.proofs.ContentLemmas.{contents-append}
-use Rattle.rtc_run_laws.specs.ChannelUses.{ChannelUse, with_sent_message}
+use Rattle.rtc_channels.specs.Channels.{Channel}
+use Rattle.rtc_run_laws.specs.ChannelUses.{ChannelUse, with_rolled_back, with_sent_message}
 use Rattle.rtc_run_laws.specs.ToldMessages.{MessagesTold}
-use Rattle.rtc_run_laws.proofs.UseLists.{AllUses, all_kept, all_sent}
+use Rattle.rtc_run_laws.proofs.UseLists.{AllUses, all_kept, all_rolled, all_sent}
 
 -- of the channel, the message that opened it with what was read before and behind, and what was told before it was announced: nothing,
 -- where nothing was read before
@@ -133,6 +134,16 @@ whole_sent told read heard c message uses h = record {
   silent = silent_on told read heard h.silent;
   each =
       all_sent (InBandWhole told read) (InBandWhole told (read ++ heard)) c message uses
+      (λ x e k. unmoved told told read heard x (λ s g. refl) k) (λ x e k. unmoved told told read heard x (λ s g. refl) k) h.each;
+}
+
+-- an offer is rolled back
+pub whole_rolled : (told : MessagesTold) (read heard : List StreamMessage) (before after : List Channel) (uses : List ChannelUse)
+    → SideWhole told read uses → SideWhole told (read ++ heard) (with_rolled_back before after uses)
+whole_rolled told read heard before after uses h = record {
+  silent = silent_on told read heard h.silent;
+  each =
+      all_rolled (InBandWhole told read) (InBandWhole told (read ++ heard)) before after uses
       (λ x e k. unmoved told told read heard x (λ s g. refl) k) (λ x e k. unmoved told told read heard x (λ s g. refl) k) h.each;
 }
 

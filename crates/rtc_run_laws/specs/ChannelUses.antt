@@ -1,5 +1,6 @@
 -- The channels that polls announced, and what was sent and got over each.
-use Rattle.std.specs.Prelude.{ℕ, ◌==◌, ◌++◌, if◌then◌else◌, not, Bool, List, [], ◌∷◌, Option, Some, None, is_some}
+use Rattle.std.specs.Prelude.{ℕ, ◌==◌, ◌++◌, ◌&&◌, if◌then◌else◌, not, Bool, true, false, List, [], ◌∷◌, Option, Some, None, is_some}
+use Rattle.rtc_channels.specs.Channels.{Channel, has_channel}
 use Rattle.rtc_sctp_entries.specs.Entries.{config_or_fresh}
 use Rattle.rtc_peer_transport.specs.ChannelCalls.{config_under, stream_under}
 use Rattle.rtc_peer_transport.specs.declared.event.Event.{Event}
@@ -11,7 +12,7 @@ use Rattle.rtc_run_history.specs.declared.shown.Shown.TheVariants as shows
 
 -- A channel that a poll announced: the stream of its row at the peer as that poll left it, the generation of the stream, and whether it
 -- was opened in-band (RFC 8832, section 6). With it go the messages that were sent over the channel since, and those that were got, each
--- with whether it is binary.
+-- with whether it is binary; and whether a rollback removed the channel since.
 pub record ChannelUse : Type 0 where
   pub channel : ℕ
   pub stream : Option ℕ
@@ -19,6 +20,17 @@ pub record ChannelUse : Type 0 where
   pub in_band : Bool
   pub sent : List (Bool × List ℕ)
   pub got : List (Bool × List ℕ)
+  pub rolled_back : Bool
+
+-- whether a channel is among the rows before a step, and not among those behind it
+abbrev pub loses_channel : (channel : ℕ) → (before after : List Channel) → Bool
+loses_channel channel before after = has_channel channel before && not (has_channel channel after)
+
+-- a rollback left these rows of those before
+abbrev pub with_rolled_back : (before after : List Channel) → List ChannelUse → List ChannelUse
+with_rolled_back before after [] = []
+with_rolled_back before after (x ∷ uses) =
+    (if loses_channel x.channel before after then record x { rolled_back = true } else x) ∷ with_rolled_back before after uses
 
 -- one message more was sent over a channel
 abbrev pub with_sent_message : (channel : ℕ) → Bool × List ℕ → List ChannelUse → List ChannelUse
@@ -47,6 +59,7 @@ module _ {I D S M E X T W N : Type 0} (m : Meanings I D S M E X T W N) where
     in_band = not (is_some (config_or_fresh (config_under (stream_under channel p.core.channels) p.core.sctp)).negotiated);
     sent = [];
     got = [];
+    rolled_back = false;
   }
 
   -- the uses after an event that a poll reported, which left the peer so

@@ -15,13 +15,14 @@ pub record KeepsStream {N : Type 0} (x : ChannelUse) (p : PlainPolled N) : Type 
   pub unclosed : closed_here p.core.sctp.association stream ≡ false
 
 -- One side announced a channel, and the other one did, in-band over one generation of one stream, which both sides have still and neither
--- closed. The channel of the reader is open.
+-- closed. The channel of the reader is open, and that of the writer was not rolled back.
 pub record AreDelivering {N : Type 0} (x : ChannelUse) (p : PlainPolled N) (y : ChannelUse) (q : PlainPolled N) : Type 0 where
   pub reader_in_band : x.in_band ≡ true
   pub writer_in_band : y.in_band ≡ true
   pub reader : KeepsStream x p
   pub there : open_stream_under x.channel p ≡ Some reader.stream
   pub writer : KeepsStream y q
+  pub writer_kept : y.rolled_back ≡ false
   pub stream_is : x.stream ≡ y.stream
   pub generation_is : x.generation ≡ y.generation
 

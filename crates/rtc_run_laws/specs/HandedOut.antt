@@ -24,20 +24,41 @@ use Rattle.rtc_run_laws.specs.ToldMessages.{MessagesTold, told_over}
 use Rattle.rtc_run_laws.specs.Unannounced.{AreGotOfAnnounced, AreToldOfAnnounced, AreToldOfSent, HaveNumbersLeft}
 use Rattle.rtc_run_laws.specs.UsesOfRuns.{reached_by, uses_in_run}
 
--- If two channels were opened in-band over one generation of one stream, what one got is a prefix of what was sent over the other.
+-- If two channels were opened in-band over one generation of one stream, what one got is a prefix of what was sent over the other, unless
+-- that was rolled back.
 abbrev pub IsHandedOut : (reader writer : ChannelUse) → Type 0
 IsHandedOut x y =
-    x.in_band ≡ true → y.in_band ≡ true → x.stream ≡ y.stream → x.generation ≡ y.generation → IsPrefix x.got y.sent
+    x.in_band ≡ true → y.in_band ≡ true → y.rolled_back ≡ false → x.stream ≡ y.stream → x.generation ≡ y.generation → IsPrefix x.got y.sent
 
 -- So it is for each channel that one side announced and each that the other one did.
 abbrev pub AreHandedOut : (readers writers : List ChannelUse) → Type 0
 AreHandedOut readers writers = (x y : ChannelUse) → Member x readers → Member y writers → IsHandedOut x y
 
+-- Whether or not a channel was rolled back: what the one got is a prefix of all that the side of the other ever sent to the generation.
+abbrev pub AreHandedOver : (readers writers : List ChannelUse) → (sent : ℕ → ℕ → List (Bool × List ℕ)) → Type 0
+AreHandedOver readers writers sent =
+    (x y : ChannelUse)
+    → Member x readers
+    → Member y writers
+    → x.in_band ≡ true
+    → y.in_band ≡ true
+    → (s : ℕ)
+    → x.stream ≡ Some s
+    → y.stream ≡ Some s
+    → x.generation ≡ y.generation
+    → IsPrefix x.got (sent s x.generation)
+
 -- What was sent over a channel that was opened in-band, since it was announced, is all that its side ever sent to that generation of its
--- stream: nothing was before.
+-- stream, unless the channel was rolled back: nothing was before.
 abbrev pub AreSentWhole : List ChannelUse → (sent : ℕ → ℕ → List (Bool × List ℕ)) → Type 0
 AreSentWhole uses sent =
-    (x : ChannelUse) → Member x uses → x.in_band ≡ true → (s : ℕ) → x.stream ≡ Some s → sent s x.generation ≡ x.sent
+    (x : ChannelUse)
+    → Member x uses
+    → x.in_band ≡ true
+    → x.rolled_back ≡ false
+    → (s : ℕ)
+    → x.stream ≡ Some s
+    → sent s x.generation ≡ x.sent
 
 -- If two channels were opened in-band over one generation of one stream, what the one got since it was announced is all that was ever
 -- reported to its side of it while it had that stream in that generation: nothing was before.
@@ -97,6 +118,11 @@ pub record HandsOut {N : Type 0} (draws : Draws N) (stun : List ℕ → Bool) (s
   pub handed : (at : Side)
       → AreHandedOut (uses_in_run (plain_over draws) stun start steps replies pair run at)
       (uses_in_run (plain_over draws) stun start steps replies pair run (other_side at))
+  pub over : (at : Side)
+      → AreHandedOver (uses_in_run (plain_over draws) stun start steps replies pair run at)
+      (uses_in_run (plain_over draws) stun start steps replies pair run (other_side at))
+      (sent_over (plain_over draws) stun start (other_side at) run.past pair
+      (reached_by (plain_over draws) stun start run.past pair run.went))
   pub all : (at : Side)
       → AreWhollyHandedOut draws (uses_in_run (plain_over draws) stun start steps replies pair run at) (rtc_at at pair)
       (uses_in_run (plain_over draws) stun start steps replies pair run (other_side at)) (rtc_at (other_side at) pair)

@@ -67,6 +67,21 @@ pub record AreInBandStreams {N : Type 0} (stream : ℕ) (p q : PlainPolled N) : 
   pub here : IsInBandStream stream p.core.sctp.entries
   pub there : IsInBandStream stream q.core.sctp.entries
 
+-- no channel that was announced over a stream, in the generation that the stream has, was rolled back
+abbrev pub NoneRolledBack : {N : Type 0} → (stream : ℕ) → List ChannelUse → PlainPolled N → Type 0
+NoneRolledBack stream uses p =
+    (x : ChannelUse)
+    → Member x uses
+    → x.stream ≡ Some stream
+    → x.generation ≡ generation_of p.core.sctp.association stream
+    → x.rolled_back ≡ false
+
+-- none was at either side
+pub record AreKeptUses {N : Type 0} (stream : ℕ) (uses : List ChannelUse) (p : PlainPolled N) (others : List ChannelUse) (q : PlainPolled N)
+    : Type 0 where
+  pub here : NoneRolledBack stream uses p
+  pub there : NoneRolledBack stream others q
+
 -- both associations have a stream in one generation, and neither end closed it
 pub record IsLevelStream {N : Type 0} (stream : ℕ) (p q : PlainPolled N) : Type 0 where
   pub generation_is : generation_of q.core.sctp.association stream ≡ generation_of p.core.sctp.association stream
@@ -86,13 +101,15 @@ pub record IsOpenAtBoth {N : Type 0} (draws : Draws N) (channel : ℕ) (uses : L
   pub got : own.got ≡ other.sent
   pub sent : other.got ≡ own.sent
 
--- So it is for each channel that is open at the one side, over a stream that neither side settled by other means than messages.
+-- So it is for each channel that is open at the one side, over a stream that neither side settled by other means than messages, and over
+-- which neither rolled a channel back.
 abbrev pub AreOpenAtBoth : {N : Type 0} → Draws N → (uses : List ChannelUse) → PlainPolled N → (others : List ChannelUse) → PlainPolled N
     → Type 0
 AreOpenAtBoth draws uses p others q =
     (channel stream : ℕ)
     → open_stream_under channel p ≡ Some stream
     → AreInBandStreams stream p q
+    → AreKeptUses stream uses p others q
     → IsOpenAtBoth draws channel uses p others q
 
 -- the open message for a stream waits for its acknowledgement
@@ -126,6 +143,7 @@ AreConfirmedOpen draws confirmed uses p others q =
     → confirmed channel
     → stream_under channel p.core.channels ≡ Some stream
     → AreInBandStreams stream p q
+    → AreKeptUses stream uses p others q
     → IsOpenAtBoth draws channel uses p others q
 
 -- the opening of a stream from here is refused for now, and the stream is not open at the other side either
@@ -145,6 +163,7 @@ AreConfirmedSettled draws confirmed uses p others q =
     → confirmed channel
     → stream_under channel p.core.channels ≡ Some stream
     → AreInBandStreams stream p q
+    → AreKeptUses stream uses p others q
     → IsOpenAtBoth draws channel uses p others q ⊎ (IsRefusedAlone stream p q ⊎ AreBothOpening stream p q)
 
 -- the stream of no channel of either side was settled by other means than messages
@@ -192,6 +211,7 @@ AreConfirmedAlone draws confirmed uses p others q =
     → stream_under channel p.core.channels ≡ Some stream
     → AreInBandStreams stream p q
     → AreInBandChannels stream p q
+    → AreKeptUses stream uses p others q
     → IsOpenAtBoth draws channel uses p others q ⊎ IsRefusedAlone stream p q
 
 -- Each channel of one side that was confirmed is open at both, if neither side negotiated its stream out-of-band, and the stream is in its
@@ -204,6 +224,7 @@ AreConfirmedUnreset draws confirmed uses p others q =
     → stream_under channel p.core.channels ≡ Some stream
     → AreInBandStreams stream p q
     → AreInBandChannels stream p q
+    → AreKeptUses stream uses p others q
     → generation_of p.core.sctp.association stream ≡ 0
     → IsOpenAtBoth draws channel uses p others q
 
@@ -214,6 +235,7 @@ AreConfirmedFirst draws confirmed uses p others q =
     (channel stream : ℕ)
     → confirmed channel
     → stream_under channel p.core.channels ≡ Some stream
+    → AreKeptUses stream uses p others q
     → generation_of p.core.sctp.association stream ≡ 0
     → IsOpenAtBoth draws channel uses p others q
 

@@ -10,14 +10,14 @@ use Rattle.rtc_run_history.specs.declared.sent_packet.SentPacket.{SentPacket}
 use Rattle.rtc_run_history.specs.declared.reply.Reply.{Reply}
 use Rattle.rtc_run_history.specs.declared.side.Side.{Side}
 use Rattle.rtc_run_history.specs.declared.step.Step.{Step}
-use Rattle.rtc_run_history.specs.declared.step.Step.TheVariants.{Write}
+use Rattle.rtc_run_history.specs.declared.step.Step.TheVariants.{Write, Rollback}
 use Rattle.rtc_run_history.specs.declared.table.Table.{Table}
 use Rattle.rtc_run_history.specs.PairState.{PairState, addr_at, rtc_at}
 use Rattle.rtc_run_history.specs.Past.{Entry}
 use Rattle.rtc_run_history.specs.Performs.{Acts}
 use Rattle.rtc_run_history.specs.Runs.{EntersSoundly, Reached, Runs, Went}
 use Rattle.rtc_run_history.specs.Sides.{same_side, side_of, other_side}
-use Rattle.rtc_run_laws.specs.ChannelUses.{ChannelUse, uses_shown, with_sent_message}
+use Rattle.rtc_run_laws.specs.ChannelUses.{ChannelUse, uses_shown, with_rolled_back, with_sent_message}
 use Rattle.rtc_run_laws.specs.PollsOfRuns.{by_step}
 
 -- after a step that writes to a channel: its message was sent if it was taken
@@ -26,13 +26,15 @@ uses_written channel binary bytes (Wrote true) uses = with_sent_message channel 
 uses_written channel binary bytes outcome uses = uses
 
 module _ {I D S M E X T W N : Type 0} (m : Meanings I D S M E X T W N) where
-  -- behind a step of the side: what was announced, sent and got
+  -- behind a step of the side: what was announced, sent and got, and what was rolled back
   abbrev pub uses_acted : (stun : List ℕ → Bool) (other own : Addr) (step : Step) (old : PolledPeer I D S M N) (sdps : List Kept)
       (packets : List SentPacket) (outcome : Outcome E) (table : Option Table) (new : PolledPeer I D S M N) (sdps' : List Kept)
       (packets' : List SentPacket)
       → Acts m stun other own step old sdps packets outcome table new sdps' packets' → List ChannelUse → List ChannelUse
   uses_acted stun other own (Write at channel binary bytes) old sdps packets outcome table new sdps' packets' h uses =
       uses_written channel binary bytes outcome uses
+  uses_acted stun other own (Rollback at token) old sdps packets outcome table new sdps' packets' h uses =
+      with_rolled_back old.core.channels.rows new.core.channels.rows uses
   uses_acted stun other own step old sdps packets outcome table new sdps' packets' h uses =
       by_step m (uses_shown m) stun other own step old sdps packets outcome table new sdps' packets' h uses
 

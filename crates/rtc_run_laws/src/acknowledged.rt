@@ -6,7 +6,7 @@ ghost use Rattle.rtc_run_history.specs.declared.side.Side.{Side};
 ghost use Rattle.rtc_run_history.specs.declared.step.Step.{Step};
 ghost use Rattle.rtc_run_history.specs.PairState.{rtc_at};
 ghost use Rattle.rtc_run_history.specs.Past.{Entry, steps_of};
-ghost use Rattle.rtc_run_history.specs.Native.{go_forward};
+ghost use Rattle.rtc_run_history.specs.Native.{are_native};
 ghost use Rattle.rtc_run_history.specs.Runs.{Reached, Runs};
 ghost use Rattle.rtc_run_laws.specs.AcknowledgedData.{Acknowledges, AreAcknowledged};
 ghost use Rattle.rtc_run_laws.specs.NewPairs.{IsNewPair};
@@ -20,13 +20,13 @@ use rtc_part_values::Ids;
 /// that was sent to it not be empty. If the channel's buffered amount is 0, nothing that was sent over it is
 /// unacknowledged. An empty message counts 0.
 ///
-/// No step brings in a text or bytes of anybody, and none rolls an offer back.
+/// No step brings in a text or bytes of anybody.
 pub fn sent_messages_are_acknowledged<N: Ids>()
     ensures reached { (stun : List ℕ → Bool) (start pair : PlainPair N) (past : List (Entry PlainMediaEvent)) → IsNewPair N.ids start
-        → go_forward (steps_of past) ≡ true → (ran : Reached (plain_over N.ids) stun start past pair) → (at : Side)
+        → are_native (steps_of past) ≡ true → (ran : Reached (plain_over N.ids) stun start past pair) → (at : Side)
         → AreAcknowledged N.ids (uses_of (plain_over N.ids) stun start at past pair ran)
         (sent_over (plain_over N.ids) stun start at past pair ran) (rtc_at at pair) }
     ensures ran { (stun : List ℕ → Bool) (start pair : PlainPair N) (steps : List Step) (replies : List (Reply PlainMediaEvent))
-        → IsNewPair N.ids start → go_forward steps ≡ true → (run : Runs (plain_over N.ids) stun start steps replies pair)
+        → IsNewPair N.ids start → are_native steps ≡ true → (run : Runs (plain_over N.ids) stun start steps replies pair)
         → Acknowledges N.ids stun start steps replies pair run }
 {}

@@ -6,7 +6,7 @@ ghost use Rattle.rtc_run_history.specs.declared.side.Side.{Side};
 ghost use Rattle.rtc_run_history.specs.declared.step.Step.{Step};
 ghost use Rattle.rtc_run_history.specs.PairState.{rtc_at};
 ghost use Rattle.rtc_run_history.specs.Past.{Entry, steps_of};
-ghost use Rattle.rtc_run_history.specs.Native.{go_forward};
+ghost use Rattle.rtc_run_history.specs.Native.{are_native};
 ghost use Rattle.rtc_run_history.specs.Runs.{Reached, Runs};
 ghost use Rattle.rtc_run_history.specs.Sides.{other_side};
 ghost use Rattle.rtc_run_laws.specs.NewPairs.{IsNewPair};
@@ -14,7 +14,7 @@ ghost use Rattle.rtc_run_laws.specs.PlainPairs.{PlainPair, plain_over};
 ghost use Rattle.rtc_run_laws.specs.AnnouncedOnce.{AreAnnouncedOnce};
 ghost use Rattle.rtc_run_laws.specs.Delivered.{AreAllDelivered};
 ghost use Rattle.rtc_run_laws.specs.DrainedSides.{IsDrained};
-ghost use Rattle.rtc_run_laws.specs.HandedOut.{AreAllHandedOut, AreHandedOut, AreSentWhole, AreToldWhole};
+ghost use Rattle.rtc_run_laws.specs.HandedOut.{AreAllHandedOut, AreHandedOut, AreHandedOver, AreSentWhole, AreToldWhole};
 ghost use Rattle.rtc_run_laws.specs.HandedOut.{AreWhollyHandedOut, HandsOut};
 ghost use Rattle.rtc_run_laws.specs.SentMessages.{sent_over};
 ghost use Rattle.rtc_run_laws.specs.ToldMessages.{told_over};
@@ -24,44 +24,54 @@ use rtc_part_values::Ids;
 
 /// Whatever datagrams a run of two peers loses, repeats or reorders, of channels that were opened in-band:
 ///
-/// - Each side announces each once, and at most one over each generation of a stream. It sent nothing to that generation before.
+/// - Each side announces each once, and at most one over each generation of a stream. If no rollback removed it, it sent nothing to that
+///   generation before.
 /// - If both sides announced one over the same generation of the same stream, what one received over its own is all that was reported to
-///   it of that generation, and a prefix of what the other sent over its own.
+///   it of that generation, and a prefix of all that the other sent to that generation, by whatever channel. If no rollback removed that
+///   of the other, it is a prefix of what the other sent over its own.
 /// - It is all of that if neither side closed the generation, the writer has no unacknowledged item of the stream, and the channel of the
 ///   reader is open and was drained: a poll returned a timeout after the last input, and after the channel was announced.
 /// - So it is if both channels stay open, all is acknowledged, and the reader has no whole message of the generation unread.
 ///
-/// No step brings in a text or bytes of anybody, and none rolls an offer back.
+/// A rollback removes the channels of its offer, also one whose stream was negotiated out-of-band and which the other side opened in-band
+/// meanwhile. Its stream stays open, and may be given to another channel.
+///
+/// No step brings in a text or bytes of anybody.
 pub fn channels_hand_out_prefixes<N: Ids>()
     ensures reached { (stun : List ℕ → Bool) (start pair : PlainPair N) (past : List (Entry PlainMediaEvent)) → IsNewPair N.ids start
-        → go_forward (steps_of past) ≡ true → (ran : Reached (plain_over N.ids) stun start past pair) → (at : Side)
+        → are_native (steps_of past) ≡ true → (ran : Reached (plain_over N.ids) stun start past pair) → (at : Side)
         → AreHandedOut (uses_of (plain_over N.ids) stun start at past pair ran)
         (uses_of (plain_over N.ids) stun start (other_side at) past pair ran) }
+    ensures over { (stun : List ℕ → Bool) (start pair : PlainPair N) (past : List (Entry PlainMediaEvent)) → IsNewPair N.ids start
+        → are_native (steps_of past) ≡ true → (ran : Reached (plain_over N.ids) stun start past pair) → (at : Side)
+        → AreHandedOver (uses_of (plain_over N.ids) stun start at past pair ran)
+        (uses_of (plain_over N.ids) stun start (other_side at) past pair ran)
+        (sent_over (plain_over N.ids) stun start (other_side at) past pair ran) }
     ensures once { (stun : List ℕ → Bool) (start pair : PlainPair N) (past : List (Entry PlainMediaEvent)) → IsNewPair N.ids start
-        → go_forward (steps_of past) ≡ true → (ran : Reached (plain_over N.ids) stun start past pair) → (at : Side)
+        → are_native (steps_of past) ≡ true → (ran : Reached (plain_over N.ids) stun start past pair) → (at : Side)
         → AreAnnouncedOnce (uses_of (plain_over N.ids) stun start at past pair ran) }
     ensures whole { (stun : List ℕ → Bool) (start pair : PlainPair N) (past : List (Entry PlainMediaEvent)) → IsNewPair N.ids start
-        → go_forward (steps_of past) ≡ true → (ran : Reached (plain_over N.ids) stun start past pair) → (at : Side)
+        → are_native (steps_of past) ≡ true → (ran : Reached (plain_over N.ids) stun start past pair) → (at : Side)
         → AreSentWhole (uses_of (plain_over N.ids) stun start at past pair ran)
         (sent_over (plain_over N.ids) stun start at past pair ran) }
     ensures told { (stun : List ℕ → Bool) (start pair : PlainPair N) (past : List (Entry PlainMediaEvent)) → IsNewPair N.ids start
-        → go_forward (steps_of past) ≡ true → (ran : Reached (plain_over N.ids) stun start past pair) → (at : Side)
+        → are_native (steps_of past) ≡ true → (ran : Reached (plain_over N.ids) stun start past pair) → (at : Side)
         → AreToldWhole (uses_of (plain_over N.ids) stun start at past pair ran)
         (uses_of (plain_over N.ids) stun start (other_side at) past pair ran)
         (told_over (plain_over N.ids) stun start at past pair ran) }
     ensures all { (stun : List ℕ → Bool) (start pair : PlainPair N) (past : List (Entry PlainMediaEvent)) → IsNewPair N.ids start
-        → go_forward (steps_of past) ≡ true → (ran : Reached (plain_over N.ids) stun start past pair) → (at : Side)
+        → are_native (steps_of past) ≡ true → (ran : Reached (plain_over N.ids) stun start past pair) → (at : Side)
         → AreWhollyHandedOut N.ids (uses_of (plain_over N.ids) stun start at past pair ran) (rtc_at at pair)
         (uses_of (plain_over N.ids) stun start (other_side at) past pair ran) (rtc_at (other_side at) pair) }
     ensures drained { (stun : List ℕ → Bool) (start pair : PlainPair N) (past : List (Entry PlainMediaEvent)) → IsNewPair N.ids start
-        → go_forward (steps_of past) ≡ true → (ran : Reached (plain_over N.ids) stun start past pair) → (at : Side)
+        → are_native (steps_of past) ≡ true → (ran : Reached (plain_over N.ids) stun start past pair) → (at : Side)
         → AreAllHandedOut N.ids (λ channel. IsDrained at channel past) (uses_of (plain_over N.ids) stun start at past pair ran) (rtc_at at pair)
         (uses_of (plain_over N.ids) stun start (other_side at) past pair ran) (rtc_at (other_side at) pair) }
     ensures delivered { (stun : List ℕ → Bool) (start pair : PlainPair N) (past : List (Entry PlainMediaEvent)) → IsNewPair N.ids start
-        → go_forward (steps_of past) ≡ true → (ran : Reached (plain_over N.ids) stun start past pair) → (at : Side)
+        → are_native (steps_of past) ≡ true → (ran : Reached (plain_over N.ids) stun start past pair) → (at : Side)
         → AreAllDelivered (λ channel. IsDrained at channel past) (uses_of (plain_over N.ids) stun start at past pair ran) (rtc_at at pair)
         (uses_of (plain_over N.ids) stun start (other_side at) past pair ran) (rtc_at (other_side at) pair) }
     ensures ran { (stun : List ℕ → Bool) (start pair : PlainPair N) (steps : List Step) (replies : List (Reply PlainMediaEvent))
-        → IsNewPair N.ids start → go_forward steps ≡ true → (run : Runs (plain_over N.ids) stun start steps replies pair)
+        → IsNewPair N.ids start → are_native steps ≡ true → (run : Runs (plain_over N.ids) stun start steps replies pair)
         → HandsOut N.ids stun start steps replies pair run }
 {}

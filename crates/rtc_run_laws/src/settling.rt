@@ -8,7 +8,7 @@ ghost use Rattle.rtc_run_history.specs.declared.side.Side.{Side};
 ghost use Rattle.rtc_run_history.specs.declared.step.Step.{Step};
 ghost use Rattle.rtc_run_history.specs.PairState.{rtc_at};
 ghost use Rattle.rtc_run_history.specs.Past.{Entry, steps_of};
-ghost use Rattle.rtc_run_history.specs.Native.{go_forward};
+ghost use Rattle.rtc_run_history.specs.Native.{are_native};
 ghost use Rattle.rtc_run_history.specs.Runs.{Reached, Runs};
 ghost use Rattle.rtc_run_history.specs.Sides.{other_side};
 ghost use Rattle.rtc_run_laws.specs.NewPairs.{IsNewPair};
@@ -55,82 +55,83 @@ use rtc_part_values::Ids;
 /// stream was negotiated so. Each channel that was confirmed, and whose stream was never reset, is then open at both
 /// sides, if the last timeout of its side is later than each moment that its peer took.
 ///
-/// No step brings in a text or bytes of anybody, and none rolls an offer back.
+/// Of open and of confirmed channels this says nothing if a side rolled back a channel that it had announced over the
+/// stream, in the generation that the stream has. No step brings in a text or bytes of anybody.
 pub fn settled_pairs_have_open_channels<N: Ids>()
     ensures level { (stun : List ℕ → Bool) (start pair : PlainPair N) (past : List (Entry PlainMediaEvent)) → IsNewPair N.ids start
-        → go_forward (steps_of past) ≡ true
+        → are_native (steps_of past) ≡ true
         → Reached (plain_over N.ids) stun start past pair → IsSettledPair past pair → (at : Side) (stream : ℕ)
         → IsLevelStream stream (rtc_at at pair) (rtc_at (other_side at) pair) }
     ensures reached { (stun : List ℕ → Bool) (start pair : PlainPair N) (past : List (Entry PlainMediaEvent)) → IsNewPair N.ids start
-        → go_forward (steps_of past) ≡ true
+        → are_native (steps_of past) ≡ true
         → (ran : Reached (plain_over N.ids) stun start past pair) → IsSettledPair past pair → (at : Side)
         → AreOpenAtBoth N.ids (uses_of (plain_over N.ids) stun start at past pair ran) (rtc_at at pair)
         (uses_of (plain_over N.ids) stun start (other_side at) past pair ran) (rtc_at (other_side at) pair) }
     ensures answered { (stun : List ℕ → Bool) (start pair : PlainPair N) (past : List (Entry PlainMediaEvent)) → IsNewPair N.ids start
-        → go_forward (steps_of past) ≡ true → Reached (plain_over N.ids) stun start past pair → IsSettledPair past pair → (at : Side)
+        → are_native (steps_of past) ≡ true → Reached (plain_over N.ids) stun start past pair → IsSettledPair past pair → (at : Side)
         → AreAnswered (rtc_at at pair) (rtc_at (other_side at) pair) }
     ensures idle { (stun : List ℕ → Bool) (start pair : PlainPair N) (past : List (Entry PlainMediaEvent)) → IsNewPair N.ids start
-        → go_forward (steps_of past) ≡ true
+        → are_native (steps_of past) ≡ true
         → Reached (plain_over N.ids) stun start past pair → IsSettledPair past pair → (at : Side) → HasNothingDue at past pair
         → channels_wake plain_meaning (rtc_at at pair).core.channels (rtc_at at pair).core.sctp ≡ None }
     ensures refused { (stun : List ℕ → Bool) (start pair : PlainPair N) (past : List (Entry PlainMediaEvent)) → IsNewPair N.ids start
-        → go_forward (steps_of past) ≡ true
+        → are_native (steps_of past) ≡ true
         → (ran : Reached (plain_over N.ids) stun start past pair) → IsSettledPair past pair → (at : Side)
         → channels_wake plain_meaning (rtc_at at pair).core.channels (rtc_at at pair).core.sctp ≡ None
         → AreConfirmedSettled N.ids (λ channel. WasConfirmed (plain_over N.ids) stun start at channel past pair ran)
         (uses_of (plain_over N.ids) stun start at past pair ran) (rtc_at at pair)
         (uses_of (plain_over N.ids) stun start (other_side at) past pair ran) (rtc_at (other_side at) pair) }
     ensures confirmed { (stun : List ℕ → Bool) (start pair : PlainPair N) (past : List (Entry PlainMediaEvent)) → IsNewPair N.ids start
-        → go_forward (steps_of past) ≡ true
+        → are_native (steps_of past) ≡ true
         → (ran : Reached (plain_over N.ids) stun start past pair) → IsSettledPair past pair → IsStillPair pair → (at : Side)
         → AreConfirmedOpen N.ids (λ channel. WasConfirmed (plain_over N.ids) stun start at channel past pair ran)
         (uses_of (plain_over N.ids) stun start at past pair ran) (rtc_at at pair)
         (uses_of (plain_over N.ids) stun start (other_side at) past pair ran) (rtc_at (other_side at) pair) }
     ensures later { (stun : List ℕ → Bool) (start pair : PlainPair N) (past : List (Entry PlainMediaEvent)) → IsNewPair N.ids start
-        → go_forward (steps_of past) ≡ true → (ran : Reached (plain_over N.ids) stun start past pair) → IsSettledPair past pair
+        → are_native (steps_of past) ≡ true → (ran : Reached (plain_over N.ids) stun start past pair) → IsSettledPair past pair
         → ((at : Side) → HasNothingSoon at past pair) → (at : Side)
         → AreConfirmedOpen N.ids (λ channel. WasConfirmed (plain_over N.ids) stun start at channel past pair ran)
         (uses_of (plain_over N.ids) stun start at past pair ran) (rtc_at at pair)
         (uses_of (plain_over N.ids) stun start (other_side at) past pair ran) (rtc_at (other_side at) pair) }
     ensures own { (stun : List ℕ → Bool) (start pair : PlainPair N) (past : List (Entry PlainMediaEvent)) → IsNewPair N.ids start
-        → go_forward (steps_of past) ≡ true
+        → are_native (steps_of past) ≡ true
         → Reached (plain_over N.ids) stun start past pair → IsSettledPair past pair → (at : Side) → AreOwnOpenings (rtc_at at pair) }
     ensures sides { (stun : List ℕ → Bool) (start pair : PlainPair N) (past : List (Entry PlainMediaEvent)) → IsNewPair N.ids start
-        → go_forward (steps_of past) ≡ true → Reached (plain_over N.ids) stun start past pair → IsSettledPair past pair → (at : Side)
+        → are_native (steps_of past) ≡ true → Reached (plain_over N.ids) stun start past pair → IsSettledPair past pair → (at : Side)
         → AreOnSides (rtc_at at pair) (rtc_at (other_side at) pair) }
     ensures parted { (stun : List ℕ → Bool) (start pair : PlainPair N) (past : List (Entry PlainMediaEvent)) → IsNewPair N.ids start
-        → go_forward (steps_of past) ≡ true → Reached (plain_over N.ids) stun start past pair → IsSettledPair past pair → (at : Side)
+        → are_native (steps_of past) ≡ true → Reached (plain_over N.ids) stun start past pair → IsSettledPair past pair → (at : Side)
         → OpenNoneBoth (rtc_at at pair) (rtc_at (other_side at) pair) }
     ensures waits_none { (stun : List ℕ → Bool) (start pair : PlainPair N) (past : List (Entry PlainMediaEvent)) → IsNewPair N.ids start
-        → go_forward (steps_of past) ≡ true → Reached (plain_over N.ids) stun start past pair → IsSettledPair past pair → (at : Side)
+        → are_native (steps_of past) ≡ true → Reached (plain_over N.ids) stun start past pair → IsSettledPair past pair → (at : Side)
         → WaitsNone (rtc_at at pair) (rtc_at (other_side at) pair) }
     ensures alone { (stun : List ℕ → Bool) (start pair : PlainPair N) (past : List (Entry PlainMediaEvent)) → IsNewPair N.ids start
-        → go_forward (steps_of past) ≡ true
+        → are_native (steps_of past) ≡ true
         → (ran : Reached (plain_over N.ids) stun start past pair) → IsSettledPair past pair → (at : Side)
         → channels_wake plain_meaning (rtc_at at pair).core.channels (rtc_at at pair).core.sctp ≡ None
         → AreConfirmedAlone N.ids (λ channel. WasConfirmed (plain_over N.ids) stun start at channel past pair ran)
         (uses_of (plain_over N.ids) stun start at past pair ran) (rtc_at at pair)
         (uses_of (plain_over N.ids) stun start (other_side at) past pair ran) (rtc_at (other_side at) pair) }
     ensures unreset { (stun : List ℕ → Bool) (start pair : PlainPair N) (past : List (Entry PlainMediaEvent)) → IsNewPair N.ids start
-        → go_forward (steps_of past) ≡ true
+        → are_native (steps_of past) ≡ true
         → (ran : Reached (plain_over N.ids) stun start past pair) → IsSettledPair past pair → (at : Side) → HasNothingDue at past pair
         → AreConfirmedUnreset N.ids (λ channel. WasConfirmed (plain_over N.ids) stun start at channel past pair ran)
         (uses_of (plain_over N.ids) stun start at past pair ran) (rtc_at at pair)
         (uses_of (plain_over N.ids) stun start (other_side at) past pair ran) (rtc_at (other_side at) pair) }
     ensures in_band { (stun : List ℕ → Bool) (start pair : PlainPair N) (past : List (Entry PlainMediaEvent)) → IsNewPair N.ids start
-        → go_forward (steps_of past) ≡ true
+        → are_native (steps_of past) ≡ true
         → start.sdps ≡ [] → Reached (plain_over N.ids) stun start past pair → AreInBandSteps (steps_of past) → IsSettledPair past pair
         → (at : Side) (stream : ℕ)
         → AreInBandStreams stream (rtc_at at pair) (rtc_at (other_side at) pair)
         × AreInBandChannels stream (rtc_at at pair) (rtc_at (other_side at) pair) }
     ensures all_in_band { (stun : List ℕ → Bool) (start pair : PlainPair N) (past : List (Entry PlainMediaEvent)) → IsNewPair N.ids start
-        → go_forward (steps_of past) ≡ true
+        → are_native (steps_of past) ≡ true
         → start.sdps ≡ [] → (ran : Reached (plain_over N.ids) stun start past pair) → AreInBandSteps (steps_of past)
         → IsSettledPair past pair → (at : Side) → HasNothingDue at past pair
         → AreConfirmedFirst N.ids (λ channel. WasConfirmed (plain_over N.ids) stun start at channel past pair ran)
         (uses_of (plain_over N.ids) stun start at past pair ran) (rtc_at at pair)
         (uses_of (plain_over N.ids) stun start (other_side at) past pair ran) (rtc_at (other_side at) pair) }
     ensures ran { (stun : List ℕ → Bool) (start pair : PlainPair N) (steps : List Step) (replies : List (Reply PlainMediaEvent))
-        → IsNewPair N.ids start → go_forward steps ≡ true → (run : Runs (plain_over N.ids) stun start steps replies pair)
+        → IsNewPair N.ids start → are_native steps ≡ true → (run : Runs (plain_over N.ids) stun start steps replies pair)
         → SettlesOpen N.ids stun start steps replies pair run }
 {}

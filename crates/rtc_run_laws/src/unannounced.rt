@@ -2,7 +2,7 @@
 ghost use Rattle.std.specs.Prelude.{ℕ, ◌≡◌, Bool, true, List, []};
 ghost use Rattle.rtc_plain_media.specs.declared.plain_media_event.PlainMediaEvent.{PlainMediaEvent};
 ghost use Rattle.rtc_run_history.specs.declared.side.Side.{Side};
-ghost use Rattle.rtc_run_history.specs.Native.{go_forward};
+ghost use Rattle.rtc_run_history.specs.Native.{are_native};
 ghost use Rattle.rtc_run_history.specs.Past.{Entry, steps_of};
 ghost use Rattle.rtc_run_history.specs.Runs.{Reached};
 ghost use Rattle.rtc_run_history.specs.Sides.{other_side};
@@ -25,28 +25,28 @@ use rtc_part_values::Ids;
 /// a generation of a stream only once it announced a channel over it. So nothing is reported of a generation over which
 /// the other side announced none, and nothing was received.
 ///
-/// No step brings in a text or bytes of anybody, and none rolls an offer back.
+/// No step brings in a text or bytes of anybody.
 pub fn unannounced_channels_are_silent<N: Ids>()
     ensures unsent { (stun : List ℕ → Bool) (start pair : PlainPair N) (past : List (Entry PlainMediaEvent)) → IsNewPair N.ids start
-        → go_forward (steps_of past) ≡ true → (ran : Reached (plain_over N.ids) stun start past pair) → (at : Side)
+        → are_native (steps_of past) ≡ true → (ran : Reached (plain_over N.ids) stun start past pair) → (at : Side)
         → AreToldOfSent (sent_over (plain_over N.ids) stun start (other_side at) past pair ran)
         (told_over (plain_over N.ids) stun start at past pair ran) }
     ensures got_unsent { (stun : List ℕ → Bool) (start pair : PlainPair N) (past : List (Entry PlainMediaEvent)) → IsNewPair N.ids start
-        → go_forward (steps_of past) ≡ true → (ran : Reached (plain_over N.ids) stun start past pair) → (at : Side)
+        → are_native (steps_of past) ≡ true → (ran : Reached (plain_over N.ids) stun start past pair) → (at : Side)
         → AreGotOfSent (sent_over (plain_over N.ids) stun start (other_side at) past pair ran)
         (uses_of (plain_over N.ids) stun start at past pair ran) }
     ensures sent { (stun : List ℕ → Bool) (start pair : PlainPair N) (past : List (Entry PlainMediaEvent)) → IsNewPair N.ids start
-        → start.sdps ≡ [] → go_forward (steps_of past) ≡ true → AreInBandSteps (steps_of past)
+        → start.sdps ≡ [] → are_native (steps_of past) ≡ true → AreInBandSteps (steps_of past)
         → (ran : Reached (plain_over N.ids) stun start past pair) → HaveNumbersLeft pair → (at : Side)
         → AreSentOfAnnounced (uses_of (plain_over N.ids) stun start at past pair ran)
         (sent_over (plain_over N.ids) stun start at past pair ran) }
     ensures told { (stun : List ℕ → Bool) (start pair : PlainPair N) (past : List (Entry PlainMediaEvent)) → IsNewPair N.ids start
-        → start.sdps ≡ [] → go_forward (steps_of past) ≡ true → AreInBandSteps (steps_of past)
+        → start.sdps ≡ [] → are_native (steps_of past) ≡ true → AreInBandSteps (steps_of past)
         → (ran : Reached (plain_over N.ids) stun start past pair) → HaveNumbersLeft pair → (at : Side)
         → AreToldOfAnnounced (uses_of (plain_over N.ids) stun start (other_side at) past pair ran)
         (told_over (plain_over N.ids) stun start at past pair ran) }
     ensures got { (stun : List ℕ → Bool) (start pair : PlainPair N) (past : List (Entry PlainMediaEvent)) → IsNewPair N.ids start
-        → start.sdps ≡ [] → go_forward (steps_of past) ≡ true → AreInBandSteps (steps_of past)
+        → start.sdps ≡ [] → are_native (steps_of past) ≡ true → AreInBandSteps (steps_of past)
         → (ran : Reached (plain_over N.ids) stun start past pair) → HaveNumbersLeft pair → (at : Side)
         → AreGotOfAnnounced (uses_of (plain_over N.ids) stun start (other_side at) past pair ran)
         (uses_of (plain_over N.ids) stun start at past pair ran) }

@@ -5,12 +5,19 @@ use Rattle.rtc_run_laws.specs.UsesOfRuns.{uses_of}
 use Rattle.rtc_run_laws.proofs.Delivered.{run_delivered}
 use Rattle.rtc_run_laws.proofs.DrainedRuns.{new_unused, pair_drained}
 use Rattle.rtc_run_laws.proofs.HandsRuns.{run_hands_out}
-use Rattle.rtc_run_laws.proofs.RunsTold.{new_pair_told, pair_handed, pair_once, pair_told_whole, pair_whole, pair_wholly, reached_told}
+use Rattle.rtc_run_laws.proofs.RunsTold.{new_pair_told, pair_handed, pair_handed_over, pair_once, pair_told_whole, pair_whole, pair_wholly, reached_told}
 use Rattle.rtc_run_laws.proofs.handing.channels_hand_out_prefixes.Goals as goal
 
 pub returns-clause-reached : goal.returns-clause-reached
 returns-clause-reached g c = λ stun start pair past new go ran at.
     pair_handed g.N.Ids.ids pair (λ x. uses_of (plain_over g.N.Ids.ids) stun start x past pair ran)
+    (λ x. sent_over (plain_over g.N.Ids.ids) stun start x past pair ran)
+    (λ x. told_over (plain_over g.N.Ids.ids) stun start x past pair ran) at
+    (reached_told g.N.Ids.ids stun start past pair go ran (new_pair_told g.N.Ids.ids start new))
+
+pub returns-clause-over : goal.returns-clause-over
+returns-clause-over g c = λ stun start pair past new go ran at.
+    pair_handed_over g.N.Ids.ids pair (λ x. uses_of (plain_over g.N.Ids.ids) stun start x past pair ran)
     (λ x. sent_over (plain_over g.N.Ids.ids) stun start x past pair ran)
     (λ x. told_over (plain_over g.N.Ids.ids) stun start x past pair ran) at
     (reached_told g.N.Ids.ids stun start past pair go ran (new_pair_told g.N.Ids.ids start new))
