@@ -1,7 +1,7 @@
 -- Behind runs, a buffered amount of 0 says that nothing that a side sent over a channel is unacknowledged, if its last message is not empty.
 use Rattle.std.proofs.Common.{◌≡◌, ◌∙◌, ℕ, cond, Bool, true, List, sym, ap}
 use Rattle.rtc_part_association.specs.AssociationWords.{written}
-use Rattle.rtc_assoc_state.specs.Contents.{buffered_of, fresh_contents, generation_of}
+use Rattle.rtc_assoc_state.specs.Contents.{buffered_of, fresh_contents}
 use Rattle.rtc_assoc_state.specs.PlainMeaning.{plain_meaning}
 use Rattle.rtc_part_values.specs.Draws.{Draws}
 use Rattle.rtc_plain_media.specs.declared.plain_media_event.PlainMediaEvent.{PlainMediaEvent}

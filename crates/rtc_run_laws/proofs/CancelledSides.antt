@@ -11,7 +11,6 @@ use Rattle.rtc_peer_laws.specs.ChannelStreams.{AreNumberedChannels, HasNoRow, Is
 use Rattle.rtc_peer_laws.proofs.CancelledChannels.{cancelled_gone, cancelled_numbers, cancelled_over}
 use Rattle.rtc_peer_laws.proofs.ChannelsOver.{none_left}
 use Rattle.rtc_run_laws.specs.ConfirmedChannels.{HasConfig}
-use Rattle.rtc_run_laws.specs.OwnOpenings.{HasOpening}
 use Rattle.rtc_run_laws.proofs.BegunRows.{AreSound, Awaits, HasGone, IsBegun, Stands}
 use Rattle.rtc_run_laws.proofs.ConfigRows.{config_without}
 use Rattle.rtc_run_laws.proofs.OwnedChanges.{IsOwned}

@@ -1,24 +1,15 @@
 -- What each call of an end does to the closes that it sent and took.
-use Rattle.std.proofs.Common.{◌≡◌, ◌∙◌, ◌⊎◌, inl, inr, ◌+◌, ◌<◌, ◌≤◌, ◌-◌, ℕ, true, false, true≢false, List, [], ◌∷◌, ◌++◌, length, append-nil, Option, Some, refl, sym, subst, arith}
-use Rattle.rtc_part_association.specs.Ppi.{ppi_number}
-use Rattle.rtc_part_association.specs.AssociationActs.{AssociationAct, Started, Opened, Wrote, Ended, Given, Taken, Read, Told as ToldEvent, Stirred, Starts, ByConnect, ByAccept, BySnap, Stirs, LimitsSet, ConnectRefused, AcceptRefused, SnapRefused, OpenRefused, WriteRefused, ReadRefused, EndRefused, ThresholdSet, ReliabilitySet, Acted}
-use Rattle.rtc_part_values.specs.Why.{Timed, Shut as ShutDown, Other}
+use Rattle.std.proofs.Common.{◌≡◌, ◌∙◌, ◌⊎◌, inl, inr, ◌<◌, ◌≤◌, ◌-◌, ℕ, true, false, true≢false, List, [], ◌∷◌, ◌++◌, length, append-nil, Option, Some, refl, sym, subst, arith}
 use Rattle.rtc_assoc_packets.specs.declared.item.Item.{Item}
 use Rattle.rtc_assoc_packets.specs.declared.frame.Frame.{Frame}
-use Rattle.rtc_assoc_packets.specs.Packets.{frame_in}
 use Rattle.rtc_assoc_packets.specs.Pieces.{close_of, pieces_of}
 use Rattle.rtc_assoc_state.specs.declared.close_state.CloseState.TheVariants.{Queued}
 use Rattle.rtc_assoc_state.specs.declared.stream_row.StreamRow.{StreamRow}
-use Rattle.rtc_assoc_state.specs.Contents.{Contents, is_server}
+use Rattle.rtc_assoc_state.specs.Contents.{Contents}
 use Rattle.rtc_assoc_state.specs.Streams.{is_closed_here, stream_of}
-use Rattle.rtc_assoc_state.specs.Outbox.{settled_count}
-use Rattle.rtc_assoc_state.specs.Settling.{told_of}
-use Rattle.rtc_assoc_state.specs.Calls.{limited, started_as, said_hello, connected, accepted, snapped, opened, sent, message_written, next_message, taken_out, stream_ended, thresholded, shut_down, greeted, welcomed, acknowledged, item_came, answered, lost, framed, at_moment, half_taken, timed, event_given, packet_given}
-use Rattle.rtc_assoc_state.specs.PlainMeaning.{plain_meaning, open_cause, write_cause, end_cause, stream_cause, ending_cause, Gives, Leaves, Sends, Reads}
+use Rattle.rtc_assoc_state.specs.Calls.{limited, started_as, said_hello, connected, accepted, snapped, opened, sent, message_written, taken_out, stream_ended, thresholded, shut_down, timed}
 use Rattle.rtc_assoc_state.proofs.RaiseLemmas.{stream_of-stream}
 use Rattle.rtc_assoc.proofs.MessageLemmas.{HasClose, close-left, close-pieces}
-use Rattle.rtc_part_association.specs.AssociationNeeds.{need}
-use Rattle.rtc_assoc_state.specs.Contents.{closed_here, generation_of, has_stream}
 use Rattle.rtc_run_laws.proofs.SentOrder.{AllPieces, pieces_are, pieces_fit, pieces_low}
 use Rattle.rtc_run_laws.proofs.ClosingRows.{RowKeeps, RowSame, row_more, row_queued}
 use Rattle.rtc_run_laws.proofs.ClosingSteps.{EndGo, go_of, go_same, take_put}

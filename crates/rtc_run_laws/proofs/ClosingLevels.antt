@@ -1,21 +1,16 @@
 -- Two joined ends: what each sent the other, and what of closes and generations that makes of their rows.
 use Rattle.std.proofs.Common.{◌⊎◌, ◌<◌, ℕ, List, [], take, Option, Some, None}
-use Rattle.rtc_part_values.specs.Among.{Among, Member}
-use Rattle.rtc_part_association.specs.AssociationActs.{AssociationAct, Given, Taken, Moved}
-use Rattle.rtc_part_association.specs.AssociationWords.{ended, given, taken}
+use Rattle.rtc_part_values.specs.Among.{Member}
+use Rattle.rtc_part_association.specs.AssociationActs.{AssociationAct}
+use Rattle.rtc_part_association.specs.AssociationWords.{taken}
 use Rattle.rtc_assoc_packets.specs.Packets.{frame_in}
-use Rattle.rtc_assoc_state.specs.Says.{SaysPacket}
 use Rattle.rtc_assoc.proofs.MessageLemmas.{HasClose}
 use Rattle.rtc_sctp_laws.proofs.BackedRows.{plain_sound}
 use Rattle.rtc_run_laws.proofs.SentOrder.{OrderedFrom}
 use Rattle.rtc_assoc_packets.specs.declared.item.Item.{Item}
 use Rattle.rtc_assoc_packets.specs.declared.frame.Frame.{Frame}
 use Rattle.rtc_assoc_packets.specs.declared.frame.Frame.TheVariants.{Hello, Welcome, Data, Acknowledgement, Shutdown}
-use Rattle.rtc_assoc_state.specs.Contents.{Contents, closed_here, fresh_contents, generation_of, is_ending}
-use Rattle.rtc_assoc_state.specs.PlainMeaning.{plain_meaning}
-use Rattle.rtc_assoc_state.specs.Settling.{can_reset}
-use Rattle.rtc_assoc_state.specs.Streams.{LAST_GENERATION, any_at_last_generation, is_at_last_generation, is_closed_here, is_unclosed, stream_of}
-use Rattle.rtc_assoc.specs.Joined.{Ends, fresh_ends, Move, LeftMoves, RightMoves, Goes, Run}
+use Rattle.rtc_assoc_state.specs.Contents.{Contents}
 use Rattle.rtc_assoc.proofs.DirectedLemmas.{Directed}
 use Rattle.rtc_run_laws.proofs.ClosingRows.{Keeps}
 

@@ -1,5 +1,5 @@
 -- Two joined ends keep what their streams say of each other over each move.
-use Rattle.std.proofs.Common.{◌≡◌, ◌∙◌, ◌⊎◌, inl, inr, ◌≤◌, ℕ, true, false, true≢false, List, [], ◌∷◌, ◌++◌, drop, take, length, append-nil, append_assoc, Option, Some, None, refl, sym, ap, subst, arith}
+use Rattle.std.proofs.Common.{◌≡◌, ◌∙◌, ◌⊎◌, inl, inr, ◌≤◌, ℕ, true, true≢false, List, [], ◌∷◌, ◌++◌, drop, take, length, append-nil, append_assoc, Option, Some, None, refl, sym, ap, subst, arith}
 use Rattle.std.proofs.lemmas.List.{append_cancel_left, take-append-le}
 use Rattle.rtc_part_values.specs.Among.{Among, Member}
 use Rattle.rtc_part_association.specs.AssociationActs.{AssociationAct, Given, Taken, Moved}
@@ -15,10 +15,9 @@ use Rattle.rtc_assoc_packets.specs.declared.item.Item.{Item}
 use Rattle.rtc_assoc_packets.specs.declared.frame.Frame.{Frame}
 use Rattle.rtc_assoc_packets.specs.declared.frame.Frame.TheVariants.{Hello, Welcome, Data, Acknowledgement, Shutdown}
 use Rattle.rtc_assoc_state.specs.declared.close_state.CloseState.TheVariants.{Unclosed, Queued, Acknowledged}
-use Rattle.rtc_assoc_state.specs.Contents.{Contents, closed_here, fresh_contents, generation_of, is_ending}
+use Rattle.rtc_assoc_state.specs.Contents.{Contents, fresh_contents}
 use Rattle.rtc_assoc_state.specs.PlainMeaning.{plain_meaning}
-use Rattle.rtc_assoc_state.specs.Settling.{can_reset}
-use Rattle.rtc_assoc_state.specs.Streams.{LAST_GENERATION, any_at_last_generation, is_at_last_generation, is_closed_here, is_unclosed, stream_of}
+use Rattle.rtc_assoc_state.specs.Streams.{LAST_GENERATION, stream_of}
 use Rattle.rtc_assoc.specs.Joined.{Ends, fresh_ends, Move, LeftMoves, RightMoves, Goes, Run}
 use Rattle.rtc_assoc.proofs.FrameLemmas.{Brings}
 use Rattle.rtc_assoc.proofs.CoreLemmas.{Causes, Step}

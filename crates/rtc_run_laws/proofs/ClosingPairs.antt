@@ -1,24 +1,18 @@
 -- Two ends of the plain association between which nothing is under way have each stream in one generation, and closed at neither.
 use Rattle.std.proofs.Common.{◌≡◌, ◌∙◌, ◌⊎◌, inl, inr, ◌<◌, ◌≤◌, ◌==◌, ◌||◌, nat_lt, ℕ, zero, suc, not, Bool, true, false, true≢false, List, [], ◌∷◌, take, length, refl, sym, ap, subst, arith}
 use Rattle.std.proofs.lemmas.Bool.Decides.{leb_tells, nat_tests}
-use Rattle.rtc_part_values.specs.Among.{Among, Member}
-use Rattle.rtc_part_association.specs.AssociationActs.{AssociationAct, Given, Taken, Moved}
-use Rattle.rtc_part_association.specs.AssociationWords.{ended, given, taken}
-use Rattle.rtc_assoc_packets.specs.Packets.{frame_in}
-use Rattle.rtc_assoc_state.specs.Says.{SaysPacket}
+use Rattle.rtc_part_association.specs.AssociationActs.{AssociationAct}
 use Rattle.rtc_assoc_packets.specs.declared.item.Item.{Item}
 use Rattle.rtc_assoc_state.specs.declared.close_state.CloseState.{CloseState}
 use Rattle.rtc_assoc_state.specs.declared.close_state.CloseState.TheVariants.{Unclosed, Queued, Acknowledged}
 use Rattle.rtc_assoc_state.specs.declared.stream_row.StreamRow.{StreamRow}
-use Rattle.rtc_assoc_state.specs.Contents.{Contents, closed_here, fresh_contents, generation_of, is_ending}
-use Rattle.rtc_assoc_state.specs.PlainMeaning.{plain_meaning}
+use Rattle.rtc_assoc_state.specs.Contents.{Contents, closed_here, generation_of, is_ending}
 use Rattle.rtc_assoc_state.specs.Settling.{can_reset}
 use Rattle.rtc_assoc_state.specs.Streams.{LAST_GENERATION, any_at_last_generation, is_at_last_generation, is_closed_here, is_unclosed, stream_of}
-use Rattle.rtc_assoc.specs.Joined.{Ends, fresh_ends, Move, LeftMoves, RightMoves, Goes, Run}
 use Rattle.rtc_assoc.proofs.DirectedLemmas.{Directed}
 use Rattle.rtc_run_laws.proofs.ClosingRows.{Keeps, RowKeeps}
 use Rattle.rtc_run_laws.proofs.ClosingLevels.{Level}
-use Rattle.rtc_run_laws.proofs.ClosingMoves.{no_length, empty}
+use Rattle.rtc_run_laws.proofs.ClosingMoves.{no_length}
 
 -- ---- nothing is under way
 

@@ -1,6 +1,6 @@
 -- In a run each opening from here is over a stream of the side that its association has at the end, unless a channel was settled for it by other
 -- means.
-use Rattle.std.proofs.Common.{◌≡◌, ◌∙◌, ◌⊎◌, inl, inr, ℕ, zero, suc, Bool, true, List, [], ◌∷◌, None, Ok, refl, sym, ap, subst}
+use Rattle.std.proofs.Common.{◌≡◌, ◌∙◌, ◌⊎◌, inl, inr, ℕ, zero, suc, Bool, true, List, [], ◌∷◌, Ok, refl, sym, ap, subst}
 use Rattle.rtc_assoc_state.specs.Contents.{Contents}
 use Rattle.rtc_part_association.specs.AssociationLaws.{AssociationLaws}
 use Rattle.rtc_part_association.specs.AssociationMeaning.{AssociationMeaning}
