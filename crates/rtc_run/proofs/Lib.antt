@@ -1,3 +1,4 @@
 pub mod Sized
+pub mod ReadMoments
 pub mod Paired
 pub mod FaultlessSdps

@@ -2,6 +2,7 @@
 #![tactic(auto)]
 
 mod laws;
+mod moments;
 mod pair;
 mod performing;
 mod running;

@@ -6,10 +6,11 @@ ghost use Rattle.rtc_run_history.specs.Sizes.{steps_size};
 ghost use Rattle.rtc_run_history.specs.Fresh.{ArePeersFormed, IsFresh};
 ghost use Rattle.rtc_run_history.specs.Runs.{Runs};
 ghost use Rattle.rtc_run_history.specs.Signalled.{AllReadBack};
-ghost use Rattle.rtc_run_laws.specs.Drains.{AreUndriven, DrainsWithin, HaveMoments};
+ghost use Rattle.rtc_run_laws.specs.Drains.{AreUndriven, DrainsWithin};
 ghost use Rattle.rtc_peer_core.specs.Meanings.{meanings};
 
 use crate::Pair;
+use crate::moments::read_moment;
 use rtc_peer::{Association, DtlsInstance, IceAgent, Ids, MediaSession};
 use rtc_run_history::{Reply, Step};
 use rtc_wire::Seq;
@@ -40,7 +41,7 @@ pub fn run_pair<I: IceAgent, D: DtlsInstance, S: Association, M: MediaSession, N
         → AllPlain pair.new.sdps) }
     ensures crossed { ArePeersFormed (meanings I.ice D.dtls S.association M.media N.ids) pair.old
         → CrossedOffersMeet (meanings I.ice D.dtls S.association M.media N.ids) I.stun pair.old }
-    ensures drains { AreUndriven (meanings I.ice D.dtls S.association M.media N.ids) pair.old → HaveMoments steps.now
+    ensures drains { AreUndriven (meanings I.ice D.dtls S.association M.media N.ids) pair.old
         → IfOk result (λ replies. (run : Runs (meanings I.ice D.dtls S.association M.media N.ids) I.stun
         pair.old steps.now replies pair.new)
         → DrainsWithin (meanings I.ice D.dtls S.association M.media N.ids) I.stun pair.old run.past pair.new) }
@@ -48,6 +49,7 @@ pub fn run_pair<I: IceAgent, D: DtlsInstance, S: Association, M: MediaSession, N
 {
     let mut replies = Vec::with_capacity(alloc, steps.len())?;
     for step in steps {
+        read_moment(step);
         let reply = pair.perform(step);
         replies.push_reserved(reply);
     }
