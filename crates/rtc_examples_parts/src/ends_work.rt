@@ -176,11 +176,11 @@ fn give_piece<A: Association>(
     Ok(())
 }
 
-// Gives an end so many packets under the number that it waits for, each with a message of a later generation of stream
-// 0. Returns how many streams that makes.
+// Gives an end so many packets, each under the number that it then waits for and with a message of a later generation
+// of stream 0. Returns how many streams that makes.
 fn forge<A: Association>(alloc: Global, end: &mut A, packets: u32) -> Result<usize, AssocError> {
     for generation in 1..=packets {
-        give_piece(alloc, end, 1, (0, generation, 1))?;
+        give_piece(alloc, end, u64::from(generation), (0, generation, 1))?;
     }
     Ok(if end.has_stream(0) { 1 } else { 0 })
 }
