@@ -19,7 +19,10 @@ use Rattle.rtc_run_history.specs.DrawnInRuns.{AllPlain, DrawsUnused, HaveNoLines
 use Rattle.rtc_run_history.specs.Fresh.{ArePeersFormed}
 use Rattle.rtc_run_history.specs.Runs.{Runs}
 use Rattle.rtc_run_history.specs.Signalled.{AllReadBack}
-use Rattle.rtc_pair.proofs.ProgramDrains.{program_drains}
+use Rattle.rtc_run_laws.specs.Drains.{AreUndriven, DrainsWithin}
+use Rattle.rtc_script_reports.proofs.ToldReplies.{reports_tell}
+use Rattle.rtc_pair.proofs.AnsweredScripts.{run_answered}
+use Rattle.rtc_pair.proofs.ProgramDrains.{program_undriven}
 use Rattle.rtc_pair.proofs.NewPairs.{program_new, program_no_lines}
 use Rattle.rtc_pair.specs.Performed.{IsPairOf, IsReport, RanScript, KeepsReport, PerformsScript}
 
@@ -36,18 +39,32 @@ pub known_of : {E : Type 0} (start pair : PlainPairState) (replies : Result (Lis
 known_of start pair replies steps steps' is known =
     subst (λ (x : List Step). HaveNoLines plain_parts start → IfOk replies (KnowPlain x start pair)) is known
 
+-- what is known of drains, by replies
+abbrev pub KnowDrains : List Step → (start pair : PlainPairState) → List (Reply PlainMediaEvent) → Type 0
+KnowDrains steps start pair told =
+    (run : Runs plain_parts is_ice_message start steps told pair) → DrainsWithin plain_parts is_ice_message start run.past pair
+
+-- so it is of steps that are the same
+pub drains_of : {E : Type 0} (start pair : PlainPairState) (replies : Result (List (Reply PlainMediaEvent)) E) (steps steps' : List Step) → steps ≡ steps'
+    → (AreUndriven plain_parts start → IfOk replies (KnowDrains steps start pair)) → AreUndriven plain_parts start → IfOk replies (KnowDrains steps' start pair)
+drains_of start pair replies steps steps' is known =
+    subst (λ (x : List Step). AreUndriven plain_parts start → IfOk replies (KnowDrains x start pair)) is known
+
 -- replies that are joined with the pair are those of the run
 pub ran_joined : {E : Type 0} (alloc : Global) (script : Script) (start pair : PlainPairState) (replies : Result (List (Reply PlainMediaEvent)) E)
     (result : Result (PlainPairState × List (Reply PlainMediaEvent)) E) → IfOk result (λ joined. (joined.0 ≡ pair) × (replies ≡ Ok joined.1))
     → IsPairOf alloc script start → ArePeersFormed plain_parts start → IfOk replies (λ told. Runs plain_parts is_ice_message start script.steps told pair)
     → IfOk replies (λ told. AllReadBack pair.sdps) → (HaveNoLines plain_parts start → IfOk replies (KnowPlain script.steps start pair))
-    → CrossedOffersMeet plain_parts is_ice_message start → IfOk result (λ ran. RanScript alloc script ran.1 ran.0)
-ran_joined {E = E} alloc script start pair replies (Ok (kept, told)) (kept_is, told_is) program formed runs read_back plain crossed =
+    → CrossedOffersMeet plain_parts is_ice_message start → (AreUndriven plain_parts start → IfOk replies (KnowDrains script.steps start pair))
+    → IfOk result (λ ran. RanScript alloc script ran.1 ran.0)
+ran_joined {E = E} alloc script start pair replies (Ok (kept, told)) (kept_is, told_is) program formed runs read_back plain crossed drains =
     let Q : Result (List (Reply PlainMediaEvent)) E → Type 0 = λ (r : Result (List (Reply PlainMediaEvent)) E). IfOk r (λ told. Runs plain_parts is_ice_message start script.steps told pair) in
     let U : Result (List (Reply PlainMediaEvent)) E → Type 0 = λ (r : Result (List (Reply PlainMediaEvent)) E). IfOk r (λ told. AllReadBack pair.sdps) in
     let V : Result (List (Reply PlainMediaEvent)) E → Type 0 = λ (r : Result (List (Reply PlainMediaEvent)) E). IfOk r (KnowPlain script.steps start pair) in
     let ran : Runs plain_parts is_ice_message start script.steps told pair = subst Q told_is runs in
     let read : AllReadBack pair.sdps = subst U told_is read_back in
+    let D : Result (List (Reply PlainMediaEvent)) E → Type 0 = λ (r : Result (List (Reply PlainMediaEvent)) E). IfOk r (KnowDrains script.steps start pair) in
+    let drained : KnowDrains script.steps start pair told = subst D told_is (drains (program_undriven alloc _ _ start program)) in
     let known : KnowPlain script.steps start pair told = subst V told_is (plain (program_no_lines alloc _ _ start program)) in
     subst (λ (left : PlainPairState). RanScript alloc script told left) (sym kept_is) (record {
       start = start;
@@ -61,15 +78,16 @@ ran_joined {E = E} alloc script start pair replies (Ok (kept, told)) (kept_is, t
       settles = λ native. run_settles_open counting is_ice_message start pair script.steps told (program_new alloc _ _ start program) native ran;
       acknowledges = λ native. run_acknowledges counting is_ice_message start pair script.steps told (program_new alloc _ _ start program) native ran;
       crossed = crossed;
-      drains = λ moments. program_drains alloc _ _ start pair script.steps told program moments ran;
+      answered = run_answered plain_parts is_ice_message start pair script.steps told ran;
+      drains = drained ran;
     })
-ran_joined alloc script start pair replies (Err error) joined program formed runs read_back plain crossed = tt
+ran_joined alloc script start pair replies (Err error) joined program formed runs read_back plain crossed drains = tt
 
 -- a script was run, and its report was written
 pub performs : (alloc : Global) (lacking : Bool) (script : Script) (replies : List (Reply PlainMediaEvent)) (pair : PlainPairState) (written written' : Option (List ℕ))
     (last : Option PlainPairState) → RanScript alloc script replies pair → KeepsReport lacking script.steps replies pair written written' last
     → PerformsScript alloc lacking script written written' last
-performs alloc lacking script replies pair written written' last ran keeps = record { replies = replies; pair = pair; ran = ran; keeps = keeps }
+performs alloc lacking script replies pair written written' last ran keeps = record { replies = replies; pair = pair; ran = ran; keeps = keeps; tells = reports_tell script.steps replies keeps.fit ran.answered }
 
 pub performs_or : (alloc : Global) (lacking : Bool) (script : Script) (replies : List (Reply PlainMediaEvent)) (pair : PlainPairState) (written written' : Option (List ℕ))
     (last : Option PlainPairState) (R : Type 0) → RanScript alloc script replies pair → KeepsReport lacking script.steps replies pair written written' last ⊎ R

@@ -17,11 +17,13 @@ use Rattle.rtc_run_history.specs.Signalled.{AllReadBack}
 use Rattle.rtc_plain_ice.specs.Messages.{is_ice_message}
 use Rattle.rtc_plain_media.specs.declared.plain_media_event.PlainMediaEvent.{PlainMediaEvent}
 use Rattle.rtc_run_laws.specs.AcknowledgedData.{Acknowledges}
-use Rattle.rtc_run_laws.specs.Drains.{DrainsWithin, HaveMoments}
+use Rattle.rtc_run_laws.specs.Drains.{DrainsWithin}
 use Rattle.rtc_run_laws.specs.HandedOut.{HandsOut}
 use Rattle.rtc_run_laws.specs.SettledPairs.{SettlesOpen}
 use Rattle.rtc_run_plain.specs.ProgramPair.{counting, plain_parts, PlainPairState, IsProgramPair}
 use Rattle.rtc_run_plain.specs.declared.peer_settings.PeerSettings.{PeerSettings}
+use Rattle.rtc_script_reports.specs.Alike.{TellsReplies}
+use Rattle.rtc_script_reports.specs.Fits.{AreAnswered, AreFit}
 use Rattle.rtc_script_reports.specs.Report.{report}
 use Rattle.rtc_script.specs.declared.script.Script.{Script}
 use Rattle.rtc_script.specs.Settings.{sets_lite, sets_snap, buffer_set, interval_set, max_message_set, polite_set}
@@ -52,8 +54,8 @@ IsPairOf alloc script pair =
 -- step brings in a text or bytes of anybody, channels hand out what the other side sent, and of those that were opened in-band each is
 -- announced at most once. A buffered amount of 0 says that all that was sent over a channel is acknowledged, if its last message is not
 -- empty. If the run then leaves the pair settled, a channel that is open at a side, over a stream that both keep, is open at both, and was
--- announced at both. On glare a polite and an impolite side that are in step meet. A drain shows at most as many outputs as its peer weighs
--- before it.
+-- announced at both. On glare a polite and an impolite side that are in step meet. Each answer is of the kind that its operation gives. A
+-- drain shows at most as many outputs as its peer weighs before it.
 pub record RanScript (alloc : Global) (script : Script) (replies : List (Reply PlainMediaEvent)) (pair : PlainPairState) : Type 0 where
   pub start : PlainPairState
   pub program : IsPairOf alloc script start
@@ -66,7 +68,8 @@ pub record RanScript (alloc : Global) (script : Script) (replies : List (Reply P
   pub settles : are_native script.steps ≡ true → SettlesOpen counting is_ice_message start script.steps replies pair runs
   pub acknowledges : are_native script.steps ≡ true → Acknowledges counting is_ice_message start script.steps replies pair runs
   pub crossed : CrossedOffersMeet plain_parts is_ice_message start
-  pub drains : HaveMoments script.steps → DrainsWithin plain_parts is_ice_message start runs.past pair
+  pub answered : AreAnswered script.steps replies
+  pub drains : DrainsWithin plain_parts is_ice_message start runs.past pair
 
 -- This text is the report of a run of a script.
 pub record IsReport (alloc : Global) (script : Script) (text : List ℕ) : Type 0 where
@@ -75,17 +78,19 @@ pub record IsReport (alloc : Global) (script : Script) (text : List ℕ) : Type 
   pub ran : RanScript alloc script replies pair
   pub is : text ≡ report script.steps replies
 
--- The report of steps and their replies was written, and what they were performed on is kept.
+-- The report of steps and their replies was written, which are of their types, and what they were performed on is kept.
 pub record KeepsReport {P : Type 0} (lacking : Bool) (steps : List Step) (replies : List (Reply PlainMediaEvent)) (performed : P)
     (written written' : Option (List ℕ)) (last : Option P) : Type 0 where
   pub reported : Appends written written' (report steps replies)
   pub kept : last ≡ Some performed
+  pub fit : AreFit steps replies
   pub memory : lack_memory replies ≡ lacking
 
--- A script was run, its report was written, and the pair is left.
+-- A script was run, its report was written, and the pair is left. Other replies to its steps that have this report agree with its own.
 pub record PerformsScript (alloc : Global) (lacking : Bool) (script : Script) (written written' : Option (List ℕ))
     (last : Option PlainPairState) : Type 0 where
   pub replies : List (Reply PlainMediaEvent)
   pub pair : PlainPairState
   pub ran : RanScript alloc script replies pair
   pub keeps : KeepsReport lacking script.steps replies pair written written' last
+  pub tells : TellsReplies script.steps replies

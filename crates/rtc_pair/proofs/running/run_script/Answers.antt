@@ -1,4 +1,4 @@
-use Rattle.rtc_pair.proofs.Performances.{known_of, ran_joined}
+use Rattle.rtc_pair.proofs.Performances.{drains_of, known_of, ran_joined}
 use Rattle.rtc_pair.proofs.running.run_script.Goals as goal
 
 pub returns : goal.returns
@@ -7,3 +7,4 @@ returns c =
     (rw c.as_slice.ensures at c.run_pair-replies.ensures.runs) (c.run_pair-replies.ensures.read_back c.in_ok-pair.ensures.formed)
     (known_of _ _ _ _ _ c.as_slice.ensures (c.run_pair-replies.ensures.plain c.in_ok-pair.ensures.formed))
     (c.run_pair-replies.ensures.crossed c.in_ok-pair.ensures.formed)
+    (drains_of _ _ _ _ _ c.as_slice.ensures c.run_pair-replies.ensures.drains)
