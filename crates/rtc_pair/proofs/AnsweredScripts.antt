@@ -1,10 +1,11 @@
 -- Runs answer each operation by its kind.
 use Rattle.std.specs.List.{AllZip}
-use Rattle.std.proofs.Common.{◌≡◌, ◌++◌, ◌∷◌, ℕ, Bool, true, false, true≢false, List, [], Option, Some, None, sym, ap, subst}
+use Rattle.std.proofs.Common.{◌≡◌, ◌++◌, ◌∷◌, ℕ, Bool, true, false, true≢false, List, [], length, Option, Some, None, sym, ap, subst}
 use Rattle.rtc_wire.specs.declared.addr.Addr.{Addr}
 use Rattle.rtc_sdp_values.specs.declared.line_row.LineRow.{LineRow}
 use Rattle.rtc_change.specs.Held.{Asked, Held}
 use Rattle.rtc_peer_core.specs.Meanings.{Meanings}
+use Rattle.rtc_peer_core.specs.Stance.{held_by}
 use Rattle.rtc_peer_transport.specs.declared.polled_peer.PolledPeer.{PolledPeer}
 use Rattle.rtc_run_history.specs.declared.made.Made.{Made}
 use Rattle.rtc_run_history.specs.declared.op_answer.OpAnswer.{OpAnswer}
@@ -14,14 +15,15 @@ use Rattle.rtc_run_history.specs.declared.reply.Reply.{Reply}
 use Rattle.rtc_run_history.specs.declared.step.Step.{Step}
 use Rattle.rtc_run_history.specs.declared.step.Step.TheVariants.{Negotiate, AcceptOffer, AcceptAnswer, Time, Datagram, Poll, Drain, Write, CloseChannel, Close, Rollback, ForeignOffer, ForeignAnswer, Raw}
 use Rattle.rtc_run_history.specs.declared.table.Table.{Table}
-use Rattle.rtc_run_history.specs.PairState.{PairState, addr_at, rtc_at}
-use Rattle.rtc_run_history.specs.Past.{Entry, MadeSdp, replies_of, reply_of, steps_of}
+use Rattle.rtc_run_history.specs.PairState.{PairState, addr_at, rtc_at, stances_of}
+use Rattle.rtc_run_history.specs.Past.{Entry, MadeSdp, holds_token, is_right, remote_sdp, replies_of, reply_of, sdps, steps_of}
 use Rattle.rtc_run_history.specs.Performs.{Acts, Enters, lent}
 use Rattle.rtc_run_history.specs.Runs.{EntersSoundly, Runs, Went}
 use Rattle.rtc_run_history.specs.Sides.{other_side, side_of}
-use Rattle.rtc_run_history.specs.Signalled.{NotMade, Readable, Signalled, Unreadable}
-use Rattle.rtc_run_history.specs.Sound.{IsSound, RepliesToAnswer, RepliesToOffer, RepliesToRollback}
-use Rattle.rtc_run_history.specs.Views.{Stances}
+use Rattle.rtc_run_history.specs.Signalled.{NotMade, Readable, Signalled, Unreadable, foreign}
+use Rattle.rtc_run_history.specs.Sound.{IsSound, RepliesToAnswer, RepliesToOffer, RepliesToRollback, asked_in, is_glare_at}
+use Rattle.rtc_run_history.specs.Undone.{table_shown, table_undone}
+use Rattle.rtc_run_history.specs.Views.{Stances, view_in}
 use Rattle.rtc_script_reports.specs.Fits.{AnswersOps, AnswersStep, AreAnswered, ops_of}
 use Rattle.rtc_pair.proofs.DrawnAnswers.{ops_answered}
 
@@ -31,36 +33,36 @@ IsNegotiation : Step → Type 0
 IsNegotiation (Negotiate at ops apply) = Unit {0}
 IsNegotiation step = ⊥
 
-not_to_offer : {E : Type 0} (glare : Bool) (sdp : Signalled) (view : Held) (next : ℕ) (answers : List OpAnswer) (made : Made) (after : List LineRow)
-    → RepliesToOffer {E} glare sdp view next (Negotiated answers made) after → ⊥
-not_to_offer true NotMade view next answers made after h = h
-not_to_offer true (Unreadable line) view next answers made after h = h
-not_to_offer true (Readable sdp) view next answers made after h = h
-not_to_offer false NotMade view next answers made after h = h
-not_to_offer false (Unreadable line) view next answers made after h = h
-not_to_offer false (Readable sdp) view next answers made after h = h
+not_to_offer : (E : Type 0) (glare : Bool) (sdp : Signalled) (view : Held) (next : ℕ) (answers : List OpAnswer) (made : Made) (after : List LineRow)
+    → RepliesToOffer {E = E} glare sdp view next (Negotiated answers made) after → ⊥
+not_to_offer E true NotMade view next answers made after h = h
+not_to_offer E true (Unreadable line) view next answers made after h = h
+not_to_offer E true (Readable sdp) view next answers made after h = h
+not_to_offer E false NotMade view next answers made after h = h
+not_to_offer E false (Unreadable line) view next answers made after h = h
+not_to_offer E false (Readable sdp) view next answers made after h = h
 
-not_to_answer : {E : Type 0} (held right : Bool) (asked : Asked) (sdp : Signalled) (view : Held) (answers : List OpAnswer) (made : Made) (after : List LineRow)
-    → RepliesToAnswer {E} held right asked sdp view (Negotiated answers made) after → ⊥
-not_to_answer true true asked NotMade view answers made after h = h
-not_to_answer true true asked (Unreadable line) view answers made after h = h
-not_to_answer true true asked (Readable sdp) view answers made after h = h
-not_to_answer true false asked NotMade view answers made after h = h
-not_to_answer true false asked (Unreadable line) view answers made after h = h
-not_to_answer true false asked (Readable sdp) view answers made after h = h
-not_to_answer false true asked NotMade view answers made after h = h
-not_to_answer false true asked (Unreadable line) view answers made after h = h
-not_to_answer false true asked (Readable sdp) view answers made after h = h
-not_to_answer false false asked NotMade view answers made after h = h
-not_to_answer false false asked (Unreadable line) view answers made after h = h
-not_to_answer false false asked (Readable sdp) view answers made after h = h
+not_to_answer : (E : Type 0) (held right : Bool) (asked : Asked) (sdp : Signalled) (view : Held) (answers : List OpAnswer) (made : Made) (after : List LineRow)
+    → RepliesToAnswer {E = E} held right asked sdp view (Negotiated answers made) after → ⊥
+not_to_answer E true true asked NotMade view answers made after h = h
+not_to_answer E true true asked (Unreadable line) view answers made after h = h
+not_to_answer E true true asked (Readable sdp) view answers made after h = h
+not_to_answer E true false asked NotMade view answers made after h = h
+not_to_answer E true false asked (Unreadable line) view answers made after h = h
+not_to_answer E true false asked (Readable sdp) view answers made after h = h
+not_to_answer E false true asked NotMade view answers made after h = h
+not_to_answer E false true asked (Unreadable line) view answers made after h = h
+not_to_answer E false true asked (Readable sdp) view answers made after h = h
+not_to_answer E false false asked NotMade view answers made after h = h
+not_to_answer E false false asked (Unreadable line) view answers made after h = h
+not_to_answer E false false asked (Readable sdp) view answers made after h = h
 
-not_to_rollback : {E : Type 0} (held right : Bool) (earlier undone : Table) (answers : List OpAnswer) (made : Made) (table : Table)
-    → RepliesToRollback {E} held right earlier undone (Negotiated answers made) table → ⊥
-not_to_rollback true true earlier undone answers made table h = h
-not_to_rollback true false earlier undone answers made table h = h
-not_to_rollback false true earlier undone answers made table h = h
-not_to_rollback false false earlier undone answers made table h = h
+not_to_rollback : (E : Type 0) (held right : Bool) (earlier undone : Table) (answers : List OpAnswer) (made : Made) (table : Table)
+    → RepliesToRollback {E = E} held right earlier undone (Negotiated answers made) table → ⊥
+not_to_rollback E true true earlier undone answers made table h = h
+not_to_rollback E true false earlier undone answers made table h = h
+not_to_rollback E false true earlier undone answers made table h = h
+not_to_rollback E false false earlier undone answers made table h = h
 
 negotiates : {E : Type 0} (fresh : Stances) (past : List (Entry E)) (between : Stances) (step : Step) (answers : List OpAnswer) (made : Made) (table : Option Table) (said : List MadeSdp)
     → IsSound fresh past between step (Negotiated answers made) table said → IsNegotiation step
@@ -83,15 +85,15 @@ negotiates fresh past between (Close at) answers made (Some table) said h = absu
 negotiates fresh past between (Raw at bytes now) answers made None said h = absurd h
 negotiates fresh past between (Raw at bytes now) answers made (Some table) said h = absurd (true≢false (sym h.0))
 negotiates fresh past between (AcceptOffer at offer) answers made None said h = absurd h
-negotiates fresh past between (AcceptOffer at offer) answers made (Some table) said h = absurd (not_to_offer _ _ _ _ answers made table.lines h.0)
+negotiates fresh past between (AcceptOffer at offer) answers made (Some table) said h = absurd (not_to_offer _ (is_glare_at fresh at past) (remote_sdp true at offer past) (view_in fresh at past (held_by (between at))) (length (sdps past)) answers made table.lines h.0)
 negotiates fresh past between (ForeignOffer at text) answers made None said h = absurd h
-negotiates fresh past between (ForeignOffer at text) answers made (Some table) said h = absurd (not_to_offer _ _ _ _ answers made table.lines h.0)
+negotiates fresh past between (ForeignOffer at text) answers made (Some table) said h = absurd (not_to_offer _ (is_glare_at fresh at past) (foreign text) (view_in fresh at past (held_by (between at))) (length (sdps past)) answers made table.lines h.0)
 negotiates fresh past between (AcceptAnswer at token answer) answers made None said h = absurd h
-negotiates fresh past between (AcceptAnswer at token answer) answers made (Some table) said h = absurd (not_to_answer _ _ _ _ _ answers made table.lines h.0)
+negotiates fresh past between (AcceptAnswer at token answer) answers made (Some table) said h = absurd (not_to_answer _ (holds_token at token past) (is_right at token past) (asked_in at token past) (remote_sdp false at answer past) (view_in fresh at past (held_by (between at))) answers made table.lines h.0)
 negotiates fresh past between (ForeignAnswer at token text) answers made None said h = absurd h
-negotiates fresh past between (ForeignAnswer at token text) answers made (Some table) said h = absurd (not_to_answer _ _ _ _ _ answers made table.lines h.0)
+negotiates fresh past between (ForeignAnswer at token text) answers made (Some table) said h = absurd (not_to_answer _ (holds_token at token past) (is_right at token past) (asked_in at token past) (foreign text) (view_in fresh at past (held_by (between at))) answers made table.lines h.0)
 negotiates fresh past between (Rollback at token) answers made None said h = absurd h
-negotiates fresh past between (Rollback at token) answers made (Some table) said h = absurd (not_to_rollback _ _ _ _ answers made table h)
+negotiates fresh past between (Rollback at token) answers made (Some table) said h = absurd (not_to_rollback _ (holds_token at token past) (is_right at token past) (table_shown at past) (table_undone at token past) answers made table h)
 
 -- ---- entries and runs
 
@@ -113,7 +115,7 @@ module _ {I D S M E X T W N : Type 0} (m : Meanings I D S M E X T W N) (stun : L
   entry_answered : (start : PairState I D S M N) (past : List (Entry E)) (old : PairState I D S M N) (step : Step) (outcome : Outcome E) (table : Option Table) (made : List MadeSdp) (new : PairState I D S M N)
       → EntersSoundly m stun start past old (record { step = step; outcome = outcome; table = table; made = made }) new → AnswersStep step outcome
   entry_answered start past old step (Negotiated answers made) table said new h =
-      negotiated step answers made table old new h.0.performs.acts (negotiates _ past _ step answers made table said h.1.replied)
+      negotiated step answers made table old new h.0.performs.acts (negotiates (stances_of m start) past (stances_of m old) step answers made table said h.1.replied)
   entry_answered start past old step (Answered text) table said new h = tt
   entry_answered start past old step Finished table said new h = tt
   entry_answered start past old step Done table said new h = tt
@@ -126,7 +128,7 @@ module _ {I D S M E X T W N : Type 0} (m : Meanings I D S M E X T W N) (stun : L
   went_answered : (start pair : PairState I D S M N) (past : List (Entry E)) → Went (EntersSoundly m stun start) (λ fresh. fresh ≡ start) past pair → AreAnswered (steps_of past) (replies_of past)
   went_answered start pair [] h = tt
   went_answered start pair (entry ∷ past) h =
-      zip_more (λ step reply. AnswersStep step reply.outcome) (steps_of past) (replies_of past) entry.step (reply_of entry) (went_answered start h.0 past h.1)
+      zip_more (λ (step : Step) (reply : Reply E). AnswersStep step reply.outcome) (steps_of past) (replies_of past) entry.step (reply_of entry) (went_answered start h.0 past h.1)
       (entry_answered start past h.0 entry.step entry.outcome entry.table entry.made pair h.2)
 
   -- the replies of a run have the answers that its steps ask for
