@@ -1,18 +1,18 @@
 //! Offers that cross.
 ghost use Rattle.std.specs.Prelude.{◌≡◌, []};
-ghost use Rattle.std.specs.Bool.{OnTrue};
+ghost use Rattle.std.specs.Bool.{OnFalse, OnTrue};
 ghost use Rattle.rtc_peer.specs.Described.{sdp_of_answer};
 ghost use Rattle.rtc_peer_core.specs.Acceptances.{AcceptsOffer};
 ghost use Rattle.rtc_peer_core.specs.Meanings.{meanings};
 ghost use Rattle.rtc_peer_core.specs.declared.rtc_error.RtcError.TheVariants.{Glare};
-ghost use Rattle.rtc.specs.Crossing.{pending_behind, MeetsCrossed, MeetsOffer, Withdraws};
+ghost use Rattle.rtc.specs.Crossing.{pending_behind, MeetsCrossed, MeetsOffer, TakesBack};
 
 use crate::{Parts, Peer};
 use rtc_peer::{RtcError, SdpAnswer, SdpOffer, SdpPendingOffer};
 
 // A polite peer rolls its pending offer back.
 fn withdraw<P: Parts>(peer: &mut Peer<P>, polite: bool, pending: &mut Option<SdpPendingOffer>)
-    ensures withdraws { Withdraws polite pending.old peer.old.core peer.new.core }
+    ensures withdraws { TakesBack polite pending.old peer.old.core peer.new.core }
     ensures pending { pending.new ≡ pending_behind polite pending.old }
     ensures connection { peer.new.transport ≡ peer.old.transport }
 {
@@ -24,7 +24,8 @@ fn withdraw<P: Parts>(peer: &mut Peer<P>, polite: bool, pending: &mut Option<Sdp
 }
 
 fn is_glare(error: &RtcError) -> bool
-    ensures { OnTrue result (error.now ≡ Glare) }
+    ensures glare { OnTrue result (error.now ≡ Glare) }
+    ensures other { OnFalse result (error.now ≡ Glare → ⊥) }
 {
     match error {
         RtcError::Glare => true,
