@@ -24,24 +24,3 @@ is_native (Raw at bytes now) = false
 abbrev pub are_native : List Step → Bool
 are_native [] = true
 are_native (step ∷ steps) = is_native step && are_native steps
-
--- and no offer of a peer is rolled back
-abbrev pub goes_forward : Step → Bool
-goes_forward (Negotiate at ops apply) = true
-goes_forward (AcceptOffer at offer) = true
-goes_forward (AcceptAnswer at token answer) = true
-goes_forward (Time at now) = true
-goes_forward (Datagram at packet now) = true
-goes_forward (Poll at) = true
-goes_forward (Drain at) = true
-goes_forward (Write at channel binary bytes) = true
-goes_forward (CloseChannel at channel) = true
-goes_forward (Close at) = true
-goes_forward (Rollback at token) = false
-goes_forward (ForeignOffer at text) = false
-goes_forward (ForeignAnswer at token text) = false
-goes_forward (Raw at bytes now) = false
-
-abbrev pub go_forward : List Step → Bool
-go_forward [] = true
-go_forward (step ∷ steps) = goes_forward step && go_forward steps
