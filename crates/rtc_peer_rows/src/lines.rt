@@ -107,18 +107,10 @@ impl Lines {
         self.find(mid).is_some()
     }
 
-    /// Sets the direction of the live media row of a mid.
+    /// Sets the direction of the live media row of a mid. Nothing is allocated.
     ///
     /// Returns false, and changes nothing, if there is no such row or it already has that direction.
     pub fn set_direction(&mut self, mid: Mid, dir: Direction) -> bool
-        ensures changed { result ≡ is_changed (directed_row dir) (row_of self.old mid) }
-        ensures rows { self.new ≡ changed_of (directed_row dir) mid self.old }
-    {
-        self.expect_look_up();
-        self.direct(mid, dir)
-    }
-
-    fn direct(&mut self, mid: Mid, dir: Direction) -> bool
         ensures changed { result ≡ is_changed (directed_row dir) (row_of self.old mid) }
         ensures rows { self.new ≡ changed_of (directed_row dir) mid self.old }
     {
@@ -132,18 +124,10 @@ impl Lines {
         true
     }
 
-    /// Stops the live media row of a mid for good.
+    /// Stops the live media row of a mid for good. Nothing is allocated.
     ///
     /// Returns false, and changes nothing, if there is no such row.
     pub fn stop(&mut self, mid: Mid) -> bool
-        ensures changed { result ≡ is_changed stopped_row (row_of self.old mid) }
-        ensures rows { self.new ≡ changed_of stopped_row mid self.old }
-    {
-        self.expect_look_up();
-        self.stop_found(mid)
-    }
-
-    fn stop_found(&mut self, mid: Mid) -> bool
         ensures changed { result ≡ is_changed stopped_row (row_of self.old mid) }
         ensures rows { self.new ≡ changed_of stopped_row mid self.old }
     {
@@ -161,14 +145,6 @@ impl Lines {
     /// rolled back (RFC 8829, section 5.7). Nothing is allocated, and nothing happens if there is no such row.
     pub fn restore(&mut self, mid: Mid, dir: Direction, stopped: bool)
         requires { IsTrue stopped → dir ≡ Inactive }
-        ensures rows { self.new ≡ changed_of (restored_row dir stopped) mid self.old }
-        ensures count { length self.new ≡ length self.old }
-    {
-        self.expect_look_up();
-        self.restore_found(mid, dir, stopped);
-    }
-
-    fn restore_found(&mut self, mid: Mid, dir: Direction, stopped: bool)
         ensures rows { self.new ≡ changed_of (restored_row dir stopped) mid self.old }
         ensures count { length self.new ≡ length self.old }
     {

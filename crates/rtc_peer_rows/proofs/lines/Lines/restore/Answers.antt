@@ -4,7 +4,7 @@ use Rattle.rtc_sdp_values.specs.declared.line_row.LineRow.{LineRow}
 use Rattle.rtc_peer_rows.specs.RowChanges.{restored_row}
 use Rattle.rtc_peer_rows.proofs.RowChangeLemmas.{IsReplaced, is_replaced, row_found, row_missed, changed_of_none, changed_of_same, restored_row_keeps}
 use Rattle.rtc_peer_rows.proofs.MidIndexLemmas.{served_alike}
-use Rattle.rtc_peer_rows.proofs.lines.Lines.restore_found.Goals as goal
+use Rattle.rtc_peer_rows.proofs.lines.Lines.restore.Goals as goal
 
 pub returns-in_default-clause-rows : goal.returns-in_default-clause-rows
 returns-in_default-clause-rows c =
