@@ -1,10 +1,15 @@
 //! What offers and answers are judged by.
+ghost use Rattle.std.specs.Prelude.{◌≡◌, option_map};
+ghost use Rattle.std.specs.Option.{option_copied};
+ghost use Rattle.std.specs.Cmp.{partial_equiv_from_equiv};
+ghost use Rattle.rtc_change.specs.Held.{same_creds, same_text, same_held, same_held_equiv};
+
 use rtc_peer_rows::Lines;
 use rtc_sdp_values::IceCreds;
 use std::marker::Model;
 
 /// What a peer holds that an offer or an answer is judged by.
-#[derive(Drop)]
+#[derive(Clone, Copy, Debug)]
 pub struct View<'a> {
     pub lines: &'a Lines,
     /// Whether the ICE agent of this side is lite.
@@ -34,4 +39,47 @@ impl<'a> Model for View<'a> {
       sctp_inited = view.sctp_inited;
       sctp_kept = option_map (λ text. text.now) view.sctp_kept;
     } };
+}
+
+fn have_same_creds(one: Option<&IceCreds>, other: Option<&IceCreds>) -> bool
+    ensures { result ≡ same_creds (option_copied one) (option_copied other) }
+{
+    match one {
+        Some(creds) => match other {
+            Some(others) => creds == others,
+            None => false,
+        },
+        None => other.is_none(),
+    }
+}
+
+fn have_same_text(one: Option<&str>, other: Option<&str>) -> bool
+    ensures { result ≡ same_text (option_map (λ text. text.now) one) (option_map (λ text. text.now) other) }
+{
+    match one {
+        Some(text) => match other {
+            Some(others) => text == others,
+            None => false,
+        },
+        None => other.is_none(),
+    }
+}
+
+impl<'a> PartialEq for View<'a> {
+    ghost eq = { same_held };
+
+    ghost laws = { partial_equiv_from_equiv same_held_equiv };
+
+    fn eq(&self, other: &View<'a>) -> bool {
+        self.lines == other.lines
+            && self.lite == other.lite
+            && have_same_creds(self.remote_creds, other.remote_creds)
+            && self.has_fingerprint == other.has_fingerprint
+            && self.sctp_inited == other.sctp_inited
+            && have_same_text(self.sctp_kept, other.sctp_kept)
+    }
+}
+
+impl<'a> Eq for View<'a> {
+    ghost laws = { same_held_equiv };
 }

@@ -45,6 +45,28 @@ impl Model for Lines {
     ghost invariant = { λ lines. IsServedTable lines.positions lines.rows.items };
 }
 
+// Two tables are equal if their rows are, whether or not one of them has an index.
+impl PartialEq for Lines {
+    ghost use Rattle.std.specs.Cmp.Lexicographic.{pointwise, lists_per};
+    ghost use Rattle.rtc_sdp_values.specs.contracts.line_row.LineRowPartialEq.TheImpl as row_eq;
+    ghost use Rattle.rtc_sdp_values.specs.contracts.line_row.LineRowPartialEq.TheImpl.Laws as row_laws;
+
+    ghost eq = { pointwise (row_eq.ghosts).eq };
+
+    ghost laws = { lists_per row_laws.laws-law };
+
+    fn eq(&self, other: &Lines) -> bool {
+        self.rows.as_slice() == other.rows.as_slice()
+    }
+}
+
+impl Eq for Lines {
+    ghost use Rattle.std.specs.Cmp.Lexicographic.{lists_equiv};
+    ghost use Rattle.rtc_sdp_values.specs.contracts.line_row.LineRowEq.TheImpl.Laws as row_laws;
+
+    ghost laws = { lists_equiv row_laws.laws-law };
+}
+
 impl Lines {
     /// A table with no rows.
     pub fn new(alloc: Global) -> Lines
