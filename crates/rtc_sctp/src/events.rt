@@ -88,8 +88,8 @@ fn complete_reset(id: u16, resets: &mut Vec<u16>, completed: &mut Vec<u16>) -> M
     Met::Again
 }
 
-/// Does what an event does, if there is room for what it adds.
-pub fn apply_event(
+// Does what an event does, if there is room for what it adds.
+fn apply_event(
     event: AssocEvent,
     state: &mut RtcSctpState,
     entries: &mut Vec<StreamEntry>,
@@ -126,4 +126,26 @@ pub fn apply_event(
         AssocEvent::ResetComplete(id) => complete_reset(id, resets, completed),
         AssocEvent::BufferedAmountLow(id) => Met::Output(SctpEvent::BufferedAmountLow { id }),
     }
+}
+
+/// Does what an event does, if there is room for what it adds, and makes room for the next one, if there is memory for it: a poll with nothing
+/// to give then allocates nothing.
+pub fn apply_event_with_room(
+    event: AssocEvent,
+    state: &mut RtcSctpState,
+    entries: &mut Vec<StreamEntry>,
+    resets: &mut Vec<u16>,
+    completed: &mut Vec<u16>,
+) -> Met
+    requires ascend { Ascend entries.old.items }
+    requires entry_room { vec_len entries.old < vec_capacity entries.old }
+    requires reset_room { vec_len resets.old < vec_capacity resets.old }
+    requires completed_room { vec_len completed.old < vec_capacity completed.old }
+    ensures met { result ≡ event_met event }
+    ensures after { AfterEvent event (book state.old entries.old.items resets.old.items completed.old.items)
+        (book state.new entries.new.items resets.new.items completed.new.items) }
+{
+    let met = apply_event(event, state, entries, resets, completed);
+    let _made = make_room(entries, resets, completed);
+    met
 }

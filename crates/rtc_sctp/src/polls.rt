@@ -1,10 +1,10 @@
 //! The polls of streams.
-ghost use Rattle.std.specs.Prelude.{◌≡◌, true};
+ghost use Rattle.std.specs.Prelude.{◌≡◌, [], true};
 ghost use Rattle.rtc_sctp_entries.specs.Entries.{Ascend};
 ghost use Rattle.rtc_sctp.specs.Polls.{TakesPacket, GivesTransmit, TakesEvent, HandlesEvent, book, VisitsAll, VisitsEntries};
 ghost use Rattle.rtc_sctp.specs.Polls.{GivesCompletion, MakesPass, PollsStreams, unclosed_streams};
 
-use crate::events::{apply_event, make_room};
+use crate::events::{apply_event_with_room, make_room};
 use crate::streams::RtcSctp;
 use crate::{RtcSctpState, SctpEvent, StreamEntry};
 use rtc_part_association::Association;
@@ -13,19 +13,31 @@ use rtc_sctp_entries::entries::drop_closed;
 use rtc_sctp_entries::visit::visit;
 use rtc_wire::{Bytes, Moment, Seq};
 use std::alloc::{AllocError, Global};
+use std::mem;
 
-// One packet of an association. Room for it is made before it is taken.
-fn take_packet<S: Association>(alloc: Global, association: &mut S) -> Met
+/// Room for one packet, if there is memory for it.
+pub fn make_packet_room(alloc: Global) -> Vec<Bytes>
+    ensures { result.items ≡ [] }
+{
+    let mut room = Vec::new(alloc);
+    let _made = room.reserve(1).is_ok();
+    room
+}
+
+// One packet of an association. There is room for it before it is taken; the room for the next one is made with it, and kept until then.
+fn take_packet<S: Association>(alloc: Global, room: &mut Vec<Bytes>, association: &mut S) -> Met
     ensures { TakesPacket S.association association.old result association.new }
 {
-    let mut packets: Vec<Bytes> = Vec::new(alloc);
-    if packets.reserve(1).is_err() {
+    room.clear();
+    if room.reserve(1).is_err() {
         return Met::OutOfMemory;
     }
     let Some(packet) = association.poll_transmit() else {
         return Met::Nothing;
     };
+    let mut packets = mem::replace(room, Vec::new(alloc));
     packets.push_reserved(packet);
+    *room = make_packet_room(alloc);
     Met::Output(SctpEvent::Transmit {
         packets: Seq::new(packets),
     })
@@ -53,7 +65,7 @@ fn take_event<S: Association>(
     let Some(event) = association.poll() else {
         return Met::Nothing;
     };
-    apply_event(event, state, entries, resets, completed)
+    apply_event_with_room(event, state, entries, resets, completed)
 }
 
 // Visits the entries in order, up to the first that gives something.
@@ -87,7 +99,7 @@ impl<S: Association> RtcSctp<S> {
             Some(packets) => Met::Output(SctpEvent::Transmit { packets }),
             None => {
                 if self.association.is_started() {
-                    return take_packet(self.alloc, &mut self.association);
+                    return take_packet(self.alloc, &mut self.room, &mut self.association);
                 }
                 Met::Nothing
             }

@@ -7,6 +7,8 @@ ghost use Rattle.rtc_sctp.specs.Calls.{limit_or_default as LimitOrDefault, are_w
 ghost use Rattle.rtc_sctp.specs.Calls.{started_state as StartedState, begun_state as BegunState};
 ghost use Rattle.rtc_sctp.specs.Refusals.{IsRefusedAs, refusal_of_start};
 
+use crate::events::make_room;
+use crate::polls::make_packet_room;
 use crate::streams::RtcSctp;
 use crate::{ProtoError, RtcSctpState, SctpError, SctpInitData};
 use rtc_part_association::Association;
@@ -109,7 +111,7 @@ impl<S: Association> RtcSctp<S> {
         }
     }
 
-    // Keeps what the association was started with.
+    // Keeps what the association was started with, and makes room for the first packet and the first event, if there is memory for it.
     fn begin(&mut self, client: bool, max: u32, snap: Option<SctpInitData>)
         ensures { self.new ≡ record self.old {
           client = client;
@@ -122,6 +124,8 @@ impl<S: Association> RtcSctp<S> {
         self.remote_max = max;
         self.state = begun_state(&snap, client);
         self.snap.begin(snap);
+        self.room = make_packet_room(self.alloc);
+        let _made = make_room(&mut self.entries, &mut self.resets, &mut self.completed);
     }
 
     /// Starts the association. `snap` has the SNAP INIT chunks: with both it is established at once. `remote_max` is

@@ -33,6 +33,8 @@ pub struct RtcSctp<S> {
     pub(crate) entries: Vec<StreamEntry>,
     pub(crate) resets: Vec<u16>,
     pub(crate) completed: Vec<u16>,
+    // Room for the packet that is taken next, so that a poll with nothing to give allocates nothing.
+    pub(crate) room: Vec<Bytes>,
 }
 
 impl<S> Model for RtcSctp<S> {
@@ -78,6 +80,7 @@ impl<S: Drop> Drop for RtcSctp<S> {
             entries: _entries,
             resets: _resets,
             completed: _completed,
+            room: _room,
         } = self;
     }
 }
@@ -116,6 +119,7 @@ impl<S: Association> RtcSctp<S> {
             entries: Vec::new(alloc),
             resets: Vec::new(alloc),
             completed: Vec::new(alloc),
+            room: Vec::new(alloc),
         }
     }
 
