@@ -17,7 +17,7 @@ use crate::table_after::{find_new_places, find_removed, list_rows_after};
 use crate::wrong_lines::judge_new_lines;
 use crate::{Refusal, SdpPendingOffer, View};
 use rtc_peer_rows::{MidIndex, NewLine, ParsedLine, Plan, Why, judge_lines};
-use rtc_sdp_values::Sdp;
+use rtc_sdp_values::{Sdp, SdpError};
 use rtc_wire_drops::release;
 use std::alloc::{AllocError, Global};
 
@@ -27,9 +27,9 @@ fn find_inconsistency(sdp: &Sdp) -> Option<Refusal>
     ensures cause { result ≡ inconsistent sdp.now }
     ensures distinct { IfNone result (AreDistinct (map (λ line. line.mid) (parsed_lines sdp.now))) }
 {
-    match sdp.assert_consistency() {
-        Ok(()) => None,
-        Err(error) => Some(Refusal::Sdp(error)),
+    match sdp.find_inconsistency() {
+        None => None,
+        Some(why) => Some(Refusal::Sdp(SdpError::Inconsistent(why))),
     }
 }
 

@@ -150,7 +150,19 @@ fn group_cause(alloc: Global, group: &[Mid], lines: &[MediaLine]) -> Option<Inco
     }
 }
 
-/// Why a session description is inconsistent, if it is.
+/// Why a session description is inconsistent, if it is. Nothing is allocated.
+#[tactic(auto, unfolding(crate::specs::Sdp::inconsistency))]
+pub(crate) fn inconsistency_by_walks(sdp: &Sdp) -> Option<Inconsistent>
+    ensures { result ≡ spec.inconsistency sdp.now }
+{
+    match sdp.groups.as_slice() {
+        [] => Some(Inconsistent::NoGroup),
+        [group] => cause_by_walks(group.as_slice(), sdp.lines.as_slice()),
+        _ => Some(Inconsistent::ManyGroups),
+    }
+}
+
+/// Why a session description is inconsistent, if it is. Sets of mids are kept meanwhile, if there is memory for them.
 #[tactic(auto, unfolding(crate::specs::Sdp::inconsistency))]
 pub(crate) fn inconsistency(sdp: &Sdp) -> Option<Inconsistent>
     ensures { result ≡ spec.inconsistency sdp.now }

@@ -5,8 +5,8 @@ ghost use Rattle.std.specs.List.{flat_map};
 ghost use Rattle.rtc_wire_text.specs.Fields.{first};
 ghost use Rattle.rtc_sdp_values.specs.Sdp as spec;
 
-use crate::consistency::inconsistency;
-use crate::{Candidate, Fingerprint, IceCreds, MediaLine, Mid, SdpError, Setup};
+use crate::consistency::{inconsistency, inconsistency_by_walks};
+use crate::{Candidate, Fingerprint, IceCreds, Inconsistent, MediaLine, Mid, SdpError, Setup};
 use rtc_wire::{Seq, TryCopy};
 use rtc_wire_drops::{fill_next, whole};
 use std::alloc::AllocError;
@@ -169,14 +169,23 @@ impl Sdp {
 
     /// Whether the mids and the BUNDLE group are consistent (RFC 8843, section 7.1).
     ///
-    /// Sets of mids are kept meanwhile. If there is no memory for them, it takes time in the square of the lines.
+    /// Nothing is allocated, and it takes time in the square of the lines: a peer calls `find_inconsistency`.
     pub fn assert_consistency(&self) -> Result<(), SdpError>
         ensures { result ≡ spec.refusal (spec.inconsistency self.now) }
     {
-        match inconsistency(self) {
+        match inconsistency_by_walks(self) {
             None => Ok(()),
             Some(why) => Err(SdpError::Inconsistent(why)),
         }
+    }
+
+    /// Why the mids and the BUNDLE group are inconsistent, if they are (RFC 8843, section 7.1).
+    ///
+    /// Sets of mids are kept meanwhile. If there is no memory for them, it takes time in the square of the lines.
+    pub fn find_inconsistency(&self) -> Option<Inconsistent>
+        ensures { result ≡ spec.inconsistency self.now }
+    {
+        inconsistency(self)
     }
 }
 
