@@ -31,19 +31,19 @@ abbrev pub mids_without_codec : List PayloadRow → List MediaLine → List (Lis
 mids_without_codec rows lines = map (λ line. line.mid) (filter (lacks_codec rows) lines)
 
 -- ---- lines that are rejected
-abbrev pub is_listed : (mids : List (List ℕ)) → List ℕ → Bool
-is_listed mids mid = list_any (λ other. bytes_eq other mid) mids
+abbrev pub names_mid : (mids : List (List ℕ)) → List ℕ → Bool
+names_mid mids mid = list_any (λ other. bytes_eq other mid) mids
 
 -- port 0, without a stream and SSRCs
-abbrev pub rejected_line : MediaLine → MediaLine
-rejected_line line = record line { disabled = true; msid = None; cname = None; ssrcs = [] }
+abbrev pub line_at_port_0 : MediaLine → MediaLine
+line_at_port_0 line = record line { disabled = true; msid = None; cname = None; ssrcs = [] }
 
 abbrev pub line_rejecting : (mids : List (List ℕ)) → MediaLine → MediaLine
-line_rejecting mids line = if is_listed mids line.mid then rejected_line line else line
+line_rejecting mids line = if names_mid mids line.mid then line_at_port_0 line else line
 
 -- a rejected line is in no group
 abbrev pub group_rejecting : (mids : List (List ℕ)) → List (List ℕ) → List (List ℕ)
-group_rejecting mids group = filter (λ mid. not (is_listed mids mid)) group
+group_rejecting mids group = filter (λ mid. not (names_mid mids mid)) group
 
 abbrev pub sdp_rejecting : (mids : List (List ℕ)) → Sdp → Sdp
 sdp_rejecting mids sdp =

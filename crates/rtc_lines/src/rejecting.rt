@@ -64,8 +64,8 @@ pub(crate) fn mids_without_codec(
     Ok(mids)
 }
 
-fn is_listed(mids: &[Mid], mid: Mid) -> bool
-    ensures { result ≡ spec.is_listed mids.now mid }
+fn names_mid(mids: &[Mid], mid: Mid) -> bool
+    ensures { result ≡ spec.names_mid mids.now mid }
 {
     for other in mids {
         if *other == mid {
@@ -87,7 +87,7 @@ fn has_live(lines: &[MediaLine]) -> bool
 }
 
 fn reject_line(line: &MediaLine) -> Result<MediaLine, AllocError>
-    ensures { IfOk result (λ made. made ≡ spec.rejected_line line.now) }
+    ensures { IfOk result (λ made. made ≡ spec.line_at_port_0 line.now) }
 {
     let mut made = line.copy()?;
     made.disabled = true;
@@ -100,7 +100,7 @@ fn reject_line(line: &MediaLine) -> Result<MediaLine, AllocError>
 fn copy_line(mids: &[Mid], line: &MediaLine) -> Result<MediaLine, AllocError>
     ensures { IfOk result (λ made. made ≡ spec.line_rejecting mids.now line.now) }
 {
-    if is_listed(mids, line.mid) {
+    if names_mid(mids, line.mid) {
         return reject_line(line);
     }
     line.copy()
@@ -126,7 +126,7 @@ fn copy_group(alloc: Global, mids: &[Mid], group: &[Mid]) -> Result<Seq<Mid>, Al
 {
     let mut made = Seq::empty(alloc);
     for mid in group {
-        if !is_listed(mids, *mid) {
+        if !names_mid(mids, *mid) {
             made.push(*mid)?;
         }
     }
