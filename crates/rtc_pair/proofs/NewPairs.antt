@@ -3,7 +3,11 @@ use Rattle.std.proofs.Common.{◌≡◌, ◌∷◌, ◌∙◌, ℕ, List, [], tr
 use Rattle.std.specs.declared.alloc.Global.{Global}
 use Rattle.rtc_wire.specs.declared.addr.Addr.{Addr}
 use Rattle.rtc_plain_media.specs.MediaContents.{MediaContents, fresh_media, update_of}
+use Rattle.rtc_peer_transport.specs.declared.handshake.Handshake.TheVariants.{Pending}
+use Rattle.rtc_peer_transport.specs.declared.transport.Transport.{Transport}
+use Rattle.rtc_run_history.specs.declared.side.Side.{Side}
 use Rattle.rtc_run_history.specs.declared.side.Side.TheVariants.{Left, Right}
+use Rattle.rtc_run_history.specs.PairState.{rtc_at}
 use Rattle.rtc_run_history.specs.DrawnInRuns.{HaveNoLines}
 use Rattle.rtc_run_laws.specs.NewPairs.{IsNewPair, IsNewPeer}
 use Rattle.rtc_run_plain.specs.ProgramPair.{IsProgramPair, IsProgramPeer, PlainPairState, PlainPeer, counting, plain_parts, host_at, program_config}
@@ -23,10 +27,16 @@ peer_new alloc settings cert first addr p h = record {
   rest = h.rest;
 }
 
+program_pending : (alloc : Global) (left right : PeerSettings) (pair : PlainPairState) → IsProgramPair alloc left right pair → (at : Side)
+    → (rtc_at at pair).transport.handshake ≡ Pending
+program_pending alloc left right pair h Left = ap (λ (t : Transport). t.handshake) h.left_transport
+program_pending alloc left right pair h Right = ap (λ (t : Transport). t.handshake) h.right_transport
+
 pub program_new : (alloc : Global) (left right : PeerSettings) (pair : PlainPairState) → IsProgramPair alloc left right pair → IsNewPair counting pair
 program_new alloc left right pair h = record {
   left = peer_new alloc left _ _ _ pair.left.core h.left;
   right = peer_new alloc right _ _ _ pair.right.core h.right;
+  pending = λ at. program_pending alloc left right pair h at;
   packets = h.packets;
 }
 

@@ -3,6 +3,7 @@ use Rattle.std.proofs.Common.{◌≡◌, ◌⊎◌, inl, inr, ℕ, Bool, List, O
 use Rattle.std.specs.declared.alloc.Global.{Global}
 use Rattle.rtc_run_laws.specs.Crossed.{CrossedOffersMeet}
 use Rattle.rtc_run_laws.proofs.AcknowledgedSides.{run_acknowledges}
+use Rattle.rtc_run_laws.proofs.ConnectedRuns.{run_connected}
 use Rattle.rtc_run_laws.proofs.HandsRuns.{run_hands_out}
 use Rattle.rtc_run_laws.proofs.SettlesRuns.{run_settles_open}
 use Rattle.rtc_run_plain.proofs.PlainFaults.{plain_unfaulted}
@@ -77,6 +78,7 @@ ran_joined {E = E} alloc script start pair replies (Ok (kept, told)) (kept_is, t
       channels = λ native. run_hands_out counting is_ice_message start pair script.steps told (program_new alloc _ _ start program) native ran;
       settles = λ native. run_settles_open counting is_ice_message start pair script.steps told (program_new alloc _ _ start program) native ran;
       acknowledges = λ native. run_acknowledges counting is_ice_message start pair script.steps told (program_new alloc _ _ start program) native ran;
+      connected = λ native. run_connected counting is_ice_message start pair script.steps told (program_new alloc _ _ start program) native ran;
       crossed = crossed;
       answered = run_answered plain_parts is_ice_message start pair script.steps told ran;
       drains = drained ran;

@@ -17,6 +17,7 @@ use Rattle.rtc_run_history.specs.Signalled.{AllReadBack}
 use Rattle.rtc_plain_ice.specs.Messages.{is_ice_message}
 use Rattle.rtc_plain_media.specs.declared.plain_media_event.PlainMediaEvent.{PlainMediaEvent}
 use Rattle.rtc_run_laws.specs.AcknowledgedData.{Acknowledges}
+use Rattle.rtc_run_laws.specs.ConnectedSides.{ConnectedCanSend}
 use Rattle.rtc_run_laws.specs.Drains.{DrainsWithin}
 use Rattle.rtc_run_laws.specs.HandedOut.{HandsOut}
 use Rattle.rtc_run_laws.specs.SettledPairs.{SettlesOpen}
@@ -53,9 +54,9 @@ IsPairOf alloc script pair =
 -- back as it was written, if each SSRC was unused when it was drawn. No reply reports that a part failed: those in memory never do. If no
 -- step brings in a text or bytes of anybody, channels hand out what the other side sent, and of those that were opened in-band each is
 -- announced at most once. A buffered amount of 0 says that all that was sent over a channel is acknowledged, if its last message is not
--- empty. If the run then leaves the pair settled, a channel that is open at a side, over a stream that both keep, is open at both, and was
--- announced at both. On glare a polite and an impolite side that are in step meet. Each answer is of the kind that its operation gives. A
--- drain shows at most as many outputs as its peer weighs before it.
+-- empty. A side that is connected can send over its DTLS connection. If the run then leaves the pair settled, a channel that is open at a
+-- side, over a stream that both keep, is open at both, and was announced at both. On glare a polite and an impolite side that are in step
+-- meet. Each answer is of the kind that its operation gives. A drain shows at most as many outputs as its peer weighs before it.
 pub record RanScript (alloc : Global) (script : Script) (replies : List (Reply PlainMediaEvent)) (pair : PlainPairState) : Type 0 where
   pub start : PlainPairState
   pub program : IsPairOf alloc script start
@@ -67,6 +68,7 @@ pub record RanScript (alloc : Global) (script : Script) (replies : List (Reply P
   pub channels : are_native script.steps ≡ true → HandsOut counting is_ice_message start script.steps replies pair runs
   pub settles : are_native script.steps ≡ true → SettlesOpen counting is_ice_message start script.steps replies pair runs
   pub acknowledges : are_native script.steps ≡ true → Acknowledges counting is_ice_message start script.steps replies pair runs
+  pub connected : are_native script.steps ≡ true → ConnectedCanSend counting pair
   pub crossed : CrossedOffersMeet plain_parts is_ice_message start
   pub answered : AreAnswered script.steps replies
   pub drains : DrainsWithin plain_parts is_ice_message start runs.past pair

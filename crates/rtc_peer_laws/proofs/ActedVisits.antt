@@ -91,7 +91,7 @@ module _ {I D S M E X T W N : Type 0} (m : Meanings I D S M E X T W N) (laws : P
   unfolding TellsStatistics
   statistics_act p r q h = report_acts_of p.transport.stats p r q h
 
-  arrivals_act : StageActs m laws.association (TellsArrivals m)
+  pub arrivals_act : StageActs m laws.association (TellsArrivals m)
   unfolding TellsArrivals
   arrivals_act =
       else_acts m laws.association (TellsMedia m) _ told_acts
@@ -181,7 +181,7 @@ module _ {I D S M E X T W N : Type 0} (m : Meanings I D S M E X T W N) (laws : P
       visit_is m Nothing r p q h.0
       (plain_visit m Nothing p q (stirred_did p q (FeedbackCleared h.1) kept) refl kept.3 (ap (λ held. held.rows) kept.4) (media_kept m.association p q kept) tt)
 
-  datagrams_act : StageActs m laws.association (SendsDatagrams m)
+  pub datagrams_act : StageActs m laws.association (SendsDatagrams m)
   unfolding SendsDatagrams
   datagrams_act =
       else_acts m laws.association (SendsChecks m) (SendsByPair m) checks_act (λ p r q h. pair_acts p.transport.send_addr p r q h)

@@ -3,7 +3,6 @@ use Rattle.std.proofs.Common.{◌≡◌, ◌∙◌, ◌∷◌, ◌==◌, inl, in
 use Rattle.std.specs.Prelude.{nat_le}
 use Rattle.std.proofs.lemmas.Bool.{eqb-true}
 use Rattle.rtc_part_values.specs.Among.{Member}
-use Rattle.rtc_plain_dtls.specs.declared.output.Output.TheVariants.{Data, Close}
 use Rattle.rtc_plain_dtls.specs.declared.phase.Phase.{Phase}
 use Rattle.rtc_plain_dtls.specs.declared.phase.Phase.TheVariants.{NoRole, AwaitStart, AwaitCert, AwaitHello, AwaitFinish, FinishedActive, FinishedPassive}
 use Rattle.rtc_plain_dtls.specs.Frames as said

@@ -1,5 +1,5 @@
 -- The handshake of a plain DTLS part is finished only with a part that has the other role.
-use Rattle.std.proofs.Common.{◌≡◌, ◌∙◌, ◌∷◌, inl, inr, ℕ, Bool, true, false, if◌then◌else◌, List, [], Option, Some, refl, sym, ap, subst}
+use Rattle.std.proofs.Common.{◌≡◌, ◌∙◌, ◌∷◌, inl, inr, ℕ, Bool, true, false, List, [], Option, Some, refl, sym, ap, subst}
 use Rattle.rtc_part_values.specs.Among.{Member}
 use Rattle.rtc_part_dtls.specs.DtlsDrawn.{DrewPacket}
 use Rattle.rtc_part_dtls.specs.DtlsActs.{DtlsAct, Given, Taken, Sent, Got, Stirred, DtlsActed, DtlsMoved}

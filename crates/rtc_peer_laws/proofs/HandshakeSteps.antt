@@ -7,7 +7,7 @@ use Rattle.rtc_part_dtls.specs.DtlsDrawn.{DtlsDrawn, DrewPacket, DrewData}
 use Rattle.rtc_part_dtls.specs.DtlsActs.{DtlsAct, DtlsCall, Given, Taken, Sent, Got, Stirred, CertificateSet, Activated, VersionSet, SendRefused, TimedAt, Closed, Showed, DtlsActed}
 use Rattle.rtc_part_dtls.specs.DtlsWords.{dtls_given}
 use Rattle.rtc_plain_dtls.specs.declared.output.Output.{Output}
-use Rattle.rtc_plain_dtls.specs.declared.output.Output.TheVariants.{PeerCert, Keying, Connected, Data, Close}
+use Rattle.rtc_plain_dtls.specs.declared.output.Output.TheVariants.{PeerCert, Keying, Connected, Data}
 use Rattle.rtc_plain_dtls.specs.declared.phase.Phase.{Phase}
 use Rattle.rtc_plain_dtls.specs.declared.phase.Phase.TheVariants.{NoRole, AwaitStart, AwaitCert, AwaitHello, AwaitFinish, FinishedActive, FinishedPassive}
 use Rattle.rtc_plain_dtls.specs.Frames as said

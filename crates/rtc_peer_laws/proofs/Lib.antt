@@ -51,7 +51,7 @@ pub mod OpenedOnce
 pub mod JoinedLemmas
 pub mod ShownLemmas
 pub mod ExchangeLemmas
-mod HandshakeMarks
+pub mod HandshakeMarks
 mod HandshakeSteps
 pub mod HandshakeRoles
 pub mod RowLemmas

@@ -1,5 +1,5 @@
 -- A channel is not told to be open in-band in a generation of its stream in which a message that opens a channel was read before.
-use Rattle.std.proofs.Common.{◌≡◌, ◌≢◌, ◌⊎◌, inl, inr, ◌++◌, ◌∷◌, ◌==◌, ◌&&◌, ◌||◌, cond, ℕ, Bool, true, false, true≢false, List, [], append_assoc, Option, Some, refl, sym, ap, subst, ◌∙◌, arith}
+use Rattle.std.proofs.Common.{◌≡◌, ◌⊎◌, inl, inr, ◌++◌, ◌∷◌, ◌==◌, ◌&&◌, ◌||◌, cond, ℕ, Bool, true, false, true≢false, List, [], append_assoc, Option, Some, refl, sym, ap, subst, ◌∙◌, arith}
 use Rattle.std.proofs.lemmas.Bool.{eqb-true}
 use Rattle.rtc_part_association.specs.AssociationLaws.{AssociationLaws}
 use Rattle.rtc_part_association.specs.AssociationMeaning.{AssociationMeaning}

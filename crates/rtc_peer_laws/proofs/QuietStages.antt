@@ -120,114 +120,142 @@ module _ {I D S M E X T W N : Type 0} (m : Meanings I D S M E X T W N) where
 
   -- ---- the stages beside the connection
 
-  opens : (stream : ℕ) (label : List ℕ) → StaysQuiet (OpensChannelOver {I = I} {D = D} {S = S} {M = M} {E = E} {N = N} stream label)
+  -- a stage leaves the handshake, whatever it meets
+  abbrev pub LeavesHandshake : Stage (PolledPeer I D S M N) E → Type 0
+  LeavesHandshake stage = (p : PolledPeer I D S M N) (r : Met E) (q : PolledPeer I D S M N) → stage p r q → handshake_of q ≡ handshake_of p
+
+  else_leaves : (first rest : Stage (PolledPeer I D S M N) E) → LeavesHandshake first → LeavesHandshake rest → LeavesHandshake (FollowedBy first rest)
+  else_leaves first rest f g p r q (Stopped met stage) = f p r q stage
+  else_leaves first rest f g p r q (WentOn between stage after) = g between r q after ∙ f p Nothing between stage
+
+  abbrev SameHandshake : PolledPeer I D S M N → PolledPeer I D S M N → Type 0
+  SameHandshake p q = handshake_of q ≡ handshake_of p
+
+  repeats_leave : (stage : Stage (PolledPeer I D S M N) E) → LeavesHandshake stage → LeavesHandshake (RepeatsStage stage)
+  repeats_leave stage f p r q k =
+      f k.last r q k.ends
+      ∙ over_carries stage SameHandshake (λ x. refl) (λ a b c one two. two ∙ one) (λ a b turn. f a Again b turn) k.turns p k.last k.over
+
+  quiet_stage : (stage : Stage (PolledPeer I D S M N) E) → LeavesHandshake stage → StaysQuiet stage
+  quiet_stage stage f p r q k h = quiet_all r q (by_same p q (f p r q h) k)
+
+  opens : (stream : ℕ) (label : List ℕ) → LeavesHandshake (OpensChannelOver {I = I} {D = D} {S = S} {M = M} {E = E} {N = N} stream label)
   unfolding OpensChannelOver
-  opens stream label p (Event (told.ChannelOpen id text)) q k h = same p _ q h.2 refl k
-  opens stream label p Again q k h = same p _ q h.1 refl k
-  opens stream label p (Error Alloc) q k h = inl (same p _ q h refl k)
-  opens stream label p _ q k h = absurd h
+  opens stream label p (Event (told.ChannelOpen id text)) q h = shake _ q h.2
+  opens stream label p Again q h = shake _ q h.1
+  opens stream label p (Error Alloc) q h = shake _ q h
+  opens stream label p _ q h = absurd h
 
-  closes_over : (id : Option ℕ) (pending : Bool) → StaysQuiet (ClosesChannelOver {I = I} {D = D} {S = S} {M = M} {E = E} {N = N} id pending)
-  closes_over (Some id) pending p r q k h = quiet_all r q (same p _ q h.1 refl k)
-  closes_over None pending p r q k h = quiet_all r q (same p p q h.1 refl k)
+  closes_over : (id : Option ℕ) (pending : Bool) → LeavesHandshake (ClosesChannelOver {I = I} {D = D} {S = S} {M = M} {E = E} {N = N} id pending)
+  closes_over (Some id) pending p r q h = shake _ q h.1
+  closes_over None pending p r q h = shake p q h.1
 
-  hears : (id : Option ℕ) (binary : Bool) (bytes : List ℕ) → StaysQuiet (HearsChannelOver {I = I} {D = D} {S = S} {M = M} {E = E} {N = N} id binary bytes)
-  hears (Some id) binary bytes p r q k h = quiet_all r q (same p p q h.1 refl k)
-  hears None binary bytes p r q k h = quiet_all r q (same p p q h.1 refl k)
+  hears : (id : Option ℕ) (binary : Bool) (bytes : List ℕ) → LeavesHandshake (HearsChannelOver {I = I} {D = D} {S = S} {M = M} {E = E} {N = N} id binary bytes)
+  hears (Some id) binary bytes p r q h = shake p q h.1
+  hears None binary bytes p r q h = shake p q h.1
 
-  falls : (id : Option ℕ) → StaysQuiet (FallsChannelOver {I = I} {D = D} {S = S} {M = M} {E = E} {N = N} id)
-  falls (Some id) p r q k h = quiet_all r q (same p p q h.1 refl k)
-  falls None p r q k h = quiet_all r q (same p p q h.1 refl k)
+  falls : (id : Option ℕ) → LeavesHandshake (FallsChannelOver {I = I} {D = D} {S = S} {M = M} {E = E} {N = N} id)
+  falls (Some id) p r q h = shake p q h.1
+  falls None p r q h = shake p q h.1
 
-  loses : StaysQuiet (LosesAssociation m)
+  loses : LeavesHandshake (LosesAssociation m)
   unfolding LosesAssociation
-  loses p (Event told.Closed) q k h = by_same p q (closes_same (with_channels (holds_lost p.core.channels) p) (Ok tt) q h) k
-  loses p (Error error) q k h = inl (by_same p q (closes_same (with_channels (holds_lost p.core.channels) p) (Err error) q h) k)
-  loses p _ q k h = absurd h
+  loses p (Event told.Closed) q h = closes_same (with_channels (holds_lost p.core.channels) p) (Ok tt) q h
+  loses p (Error error) q h = closes_same (with_channels (holds_lost p.core.channels) p) (Err error) q h
+  loses p _ q h = absurd h
 
-  takes : (e : SctpEvent) → StaysQuiet (TakesStreamEvent m e)
-  takes (event.Transmit packets) p r q k h = quiet_all r q (same p _ q h.1 refl k)
-  takes (event.Open stream label) p r q k h = opens stream label p r q k h
-  takes (event.Close stream pending) p r q k h = closes_over (channel_over stream p.core.channels) pending p r q k h
-  takes (event.StreamResetComplete stream) p r q k h = quiet_all r q (same p _ q h.1 refl k)
-  takes (event.Data stream binary bytes) p r q k h = hears (channel_over stream p.core.channels) binary bytes p r q k h
-  takes (event.BufferedAmountLow stream) p r q k h = falls (channel_over stream p.core.channels) p r q k h
-  takes event.AssociationLost p r q k h = loses p r q k h
+  takes : (e : SctpEvent) → LeavesHandshake (TakesStreamEvent m e)
+  takes (event.Transmit packets) p r q h = shake _ q h.1
+  takes (event.Open stream label) p r q h = opens stream label p r q h
+  takes (event.Close stream pending) p r q h = closes_over (channel_over stream p.core.channels) pending p r q h
+  takes (event.StreamResetComplete stream) p r q h = shake _ q h.1
+  takes (event.Data stream binary bytes) p r q h = hears (channel_over stream p.core.channels) binary bytes p r q h
+  takes (event.BufferedAmountLow stream) p r q h = falls (channel_over stream p.core.channels) p r q h
+  takes event.AssociationLost p r q h = loses p r q h
 
-  answer : (a : Result (Option SctpEvent) AllocError) → StaysQuiet (TakesStreamAnswer m a)
-  answer (Ok None) p r q k h = quiet_all r q (same p p q h.1 refl k)
-  answer (Ok (Some e)) p r q k h = takes e p r q k h
-  answer (Err error) p r q k h = quiet_all r q (same p _ q h.1 refl k)
+  answer : (a : Result (Option SctpEvent) AllocError) → LeavesHandshake (TakesStreamAnswer m a)
+  answer (Ok None) p r q h = shake p q h.1
+  answer (Ok (Some e)) p r q h = takes e p r q h
+  answer (Err error) p r q h = shake _ q h.1
 
-  sends : (packet : List ℕ) (rest : List (List ℕ)) → StaysQuiet (SendsPacket m packet rest)
+  sends : (packet : List ℕ) (rest : List (List ℕ)) → LeavesHandshake (SendsPacket m packet rest)
   unfolding SendsPacket
-  sends packet rest p Nothing q k h = same p _ q h.1 refl k
-  sends packet rest p Again q k h = same p _ q h.0 refl k
-  sends packet rest p (Error (Dtls cause)) q k h = inl (same p _ q h.3 refl k)
-  sends packet rest p (Error Alloc) q k h = inl (same p _ q h.1 refl k)
-  sends packet rest p _ q k h = absurd h
+  sends packet rest p Nothing q h = shake _ q h.1
+  sends packet rest p Again q h = shake _ q h.0
+  sends packet rest p (Error (Dtls cause)) q h = shake _ q h.3
+  sends packet rest p (Error Alloc) q h = shake _ q h.1
+  sends packet rest p _ q h = absurd h
 
-  sends_first : (packets : Option (List (List ℕ))) → StaysQuiet (SendsFirst m packets)
-  sends_first None p r q k h = quiet_all r q (same p p q h.1 refl k)
-  sends_first (Some []) p r q k h = quiet_all r q (same p p q h.1 refl k)
-  sends_first (Some (packet ∷ rest)) p r q k h = sends packet rest p r q k h
+  sends_first : (packets : Option (List (List ℕ))) → LeavesHandshake (SendsFirst m packets)
+  sends_first None p r q h = shake p q h.1
+  sends_first (Some []) p r q h = shake p q h.1
+  sends_first (Some (packet ∷ rest)) p r q h = sends packet rest p r q h
+
+  pub streams_leave : LeavesHandshake (TellsStreams m)
+  unfolding TellsStreams
+  streams_leave =
+      else_leaves (PollsStreamEvents m) (SendsKeptPackets m)
+      (repeats_leave (PollsStreamEvent m) (λ p r q turn. answer turn.answer (with_sctp turn.streams p) r q turn.by_answer))
+      (λ p r q h. sends_first p.core.sctp.pushed (with_pushed None p) r q h)
+
+  media_leaves : LeavesHandshake (TellsMedia m)
+  unfolding TellsMedia
+  media_leaves p Nothing q h = shake _ q h.1
+  media_leaves p (Event (told.Media e)) q h = shake _ q h.1
+  media_leaves p _ q h = absurd h
+
+  fallible_leaves : LeavesHandshake (TellsFallibleMedia m)
+  unfolding TellsFallibleMedia
+  fallible_leaves p Nothing q h = shake _ q h.1
+  fallible_leaves p (Event (told.Media e)) q h = shake _ q h.1
+  fallible_leaves p (Error (MediaFailed cause)) q h = shake _ q h.2
+  fallible_leaves p (Error Alloc) q h = shake _ q h.1
+  fallible_leaves p _ q h = absurd h
+
+  report : (events : List StatsEvent) (stats : Reporting) → LeavesHandshake (TellsReport events stats)
+  report [] stats p r q h = shake p q h.1
+  report (e ∷ events) stats p r q h = shake _ q h.1
+
+  reports : (stats : Option Reporting) → LeavesHandshake (TellsReportOf stats)
+  reports None p r q h = shake p q h.1
+  reports (Some stats) p r q h = report stats.events stats p r q h
+
+  pub arrivals_leave : LeavesHandshake (TellsArrivals m)
+  unfolding TellsArrivals TellsStatistics
+  arrivals_leave =
+      else_leaves (TellsMedia m) _ media_leaves (else_leaves (TellsFallibleMedia m) TellsStatistics fallible_leaves (λ p r q h. reports p.transport.stats p r q h))
+
+  checks_leave : LeavesHandshake (SendsChecks m)
+  unfolding SendsChecks
+  checks_leave p Nothing q h = shake _ q h.1
+  checks_leave p (Sent transmit) q h = shake _ q h.1
+  checks_leave p _ q h = absurd h
+
+  packet_leaves : (addr : SendAddr) → LeavesHandshake (SendsDtlsPacket m addr)
+  unfolding SendsDtlsPacket
+  packet_leaves addr p Nothing q h = shake _ q h.1
+  packet_leaves addr p (Sent transmit) q h = shake _ q h.2
+  packet_leaves addr p _ q h = absurd h
+
+  datagram_leaves : (addr : SendAddr) → LeavesHandshake (SendsMediaDatagram m addr)
+  unfolding SendsMediaDatagram
+  datagram_leaves addr p Nothing q h = shake _ q h.1
+  datagram_leaves addr p (Sent transmit) q h = shake _ q h.2
+  datagram_leaves addr p _ q h = absurd h
+
+  pair_leaves : (addr : Option SendAddr) → LeavesHandshake (SendsBy m addr)
+  pair_leaves (Some addr) p r q h = else_leaves (SendsDtlsPacket m addr) (SendsMediaDatagram m addr) (packet_leaves addr) (datagram_leaves addr) p r q h
+  pair_leaves None p r q h = shake _ q h.2
+
+  pub datagrams_leave : LeavesHandshake (SendsDatagrams m)
+  unfolding SendsDatagrams
+  datagrams_leave = else_leaves (SendsChecks m) (SendsByPair m) checks_leave (λ p r q h. pair_leaves p.transport.send_addr p r q h)
 
   pub streams_quiet : StaysQuiet (TellsStreams m)
-  unfolding TellsStreams
-  streams_quiet =
-      else_quiet (PollsStreamEvents m) (SendsKeptPackets m)
-      (repeats_quiet (PollsStreamEvent m) (λ p r q k turn. answer turn.answer (with_sctp turn.streams p) r q k turn.by_answer))
-      (λ p r q k h. sends_first p.core.sctp.pushed (with_pushed None p) r q k h)
-
-  media_quiet : StaysQuiet (TellsMedia m)
-  unfolding TellsMedia
-  media_quiet p Nothing q k h = same p _ q h.1 refl k
-  media_quiet p (Event (told.Media e)) q k h = same p _ q h.1 refl k
-  media_quiet p _ q k h = absurd h
-
-  fallible_quiet : StaysQuiet (TellsFallibleMedia m)
-  unfolding TellsFallibleMedia
-  fallible_quiet p Nothing q k h = same p _ q h.1 refl k
-  fallible_quiet p (Event (told.Media e)) q k h = same p _ q h.1 refl k
-  fallible_quiet p (Error (MediaFailed cause)) q k h = inl (same p _ q h.2 refl k)
-  fallible_quiet p (Error Alloc) q k h = inl (same p _ q h.1 refl k)
-  fallible_quiet p _ q k h = absurd h
-
-  report : (events : List StatsEvent) (stats : Reporting) → StaysQuiet (TellsReport events stats)
-  report [] stats p r q k h = quiet_all r q (same p p q h.1 refl k)
-  report (e ∷ events) stats p r q k h = quiet_all r q (same p _ q h.1 refl k)
-
-  reports : (stats : Option Reporting) → StaysQuiet (TellsReportOf stats)
-  reports None p r q k h = quiet_all r q (same p p q h.1 refl k)
-  reports (Some stats) p r q k h = report stats.events stats p r q k h
+  streams_quiet = quiet_stage (TellsStreams m) streams_leave
 
   pub arrivals_quiet : StaysQuiet (TellsArrivals m)
-  unfolding TellsArrivals TellsStatistics
-  arrivals_quiet =
-      else_quiet (TellsMedia m) _ media_quiet (else_quiet (TellsFallibleMedia m) TellsStatistics fallible_quiet (λ p r q k h. reports p.transport.stats p r q k h))
-
-  checks_quiet : StaysQuiet (SendsChecks m)
-  unfolding SendsChecks
-  checks_quiet p Nothing q k h = same p _ q h.1 refl k
-  checks_quiet p (Sent transmit) q k h = same p _ q h.1 refl k
-  checks_quiet p _ q k h = absurd h
-
-  packet_quiet : (addr : SendAddr) → StaysQuiet (SendsDtlsPacket m addr)
-  unfolding SendsDtlsPacket
-  packet_quiet addr p Nothing q k h = same p _ q h.1 refl k
-  packet_quiet addr p (Sent transmit) q k h = same p _ q h.2 refl k
-  packet_quiet addr p _ q k h = absurd h
-
-  datagram_quiet : (addr : SendAddr) → StaysQuiet (SendsMediaDatagram m addr)
-  unfolding SendsMediaDatagram
-  datagram_quiet addr p Nothing q k h = same p _ q h.1 refl k
-  datagram_quiet addr p (Sent transmit) q k h = same p _ q h.2 refl k
-  datagram_quiet addr p _ q k h = absurd h
-
-  pair_quiet : (addr : Option SendAddr) → StaysQuiet (SendsBy m addr)
-  pair_quiet (Some addr) p r q k h = else_quiet (SendsDtlsPacket m addr) (SendsMediaDatagram m addr) (packet_quiet addr) (datagram_quiet addr) p r q k h
-  pair_quiet None p r q k h = quiet_all r q (same p _ q h.2 refl k)
+  arrivals_quiet = quiet_stage (TellsArrivals m) arrivals_leave
 
   pub datagrams_quiet : StaysQuiet (SendsDatagrams m)
-  unfolding SendsDatagrams
-  datagrams_quiet = else_quiet (SendsChecks m) (SendsByPair m) checks_quiet (λ p r q k h. pair_quiet p.transport.send_addr p r q k h)
+  datagrams_quiet = quiet_stage (SendsDatagrams m) datagrams_leave

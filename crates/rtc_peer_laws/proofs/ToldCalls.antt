@@ -142,6 +142,16 @@ module _ {I D S M E X T W N : Type 0} (m : Meanings I D S M E X T W N) where
   pub inputs_told : (p q : PolledPeer I D S M N) (input : Input) (r : Result (Unit {0}) RtcError) → IsHandshakeTold p → HandlesInput m input p r q → IsHandshakeTold q
   inputs_told p q input r k h = input_in p.core.phase input p r q refl h k
 
+  in_same : (phase : Phase) (input : Input) (p : PolledPeer I D S M N) (r : Result (Unit {0}) RtcError) (q : PolledPeer I D S M N)
+      → HandlesInputIn m phase input p r q → handshake_of q ≡ handshake_of p
+  in_same Alive input p r q h = input_by input p r q h
+  in_same Closing input p r q h = input_by input p r q h
+  in_same Closed input p r q h = shake m p q h.1
+
+  pub inputs_same : (p q : PolledPeer I D S M N) (input : Input) (r : Result (Unit {0}) RtcError) → HandlesInput m input p r q
+      → handshake_of q ≡ handshake_of p
+  inputs_same p q input r h = in_same p.core.phase input p r q h
+
   -- ---- closes and writes
 
   close_in : (phase : Phase) (p : PolledPeer I D S M N) (r : Result (Unit {0}) RtcError) (q : PolledPeer I D S M N) → p.core.phase ≡ phase → ClosesPeerFrom m phase p r q
@@ -161,6 +171,19 @@ module _ {I D S M E X T W N : Type 0} (m : Meanings I D S M E X T W N) where
   pub writes_told : (p q : PolledPeer I D S M N) (stream : ℕ) (binary : Bool) (bytes : List ℕ) (r : Result Bool RtcError) → IsHandshakeTold p
       → WritesChannel m stream binary bytes p r q → IsHandshakeTold q
   writes_told p q stream binary bytes r k h = write_by _ stream binary bytes p r q h k
+
+  same_by : (full : Bool) (stream : ℕ) (binary : Bool) (bytes : List ℕ) (p : PolledPeer I D S M N) (r : Result Bool RtcError) (q : PolledPeer I D S M N)
+      → WritesIf m full stream binary bytes p r q → handshake_of q ≡ handshake_of p
+  same_by true stream binary bytes p r q h = shake m p q h.1
+  same_by false stream binary bytes p r q h = shake m _ q h.3
+
+  pub writes_same : (p q : PolledPeer I D S M N) (stream : ℕ) (binary : Bool) (bytes : List ℕ) (r : Result Bool RtcError)
+      → WritesChannel m stream binary bytes p r q → handshake_of q ≡ handshake_of p
+  writes_same p q stream binary bytes r h = same_by _ stream binary bytes p r q h
+
+  pub channel_closes_same : (p q : PolledPeer I D S M N) (id : ℕ) (r : Result (Unit {0}) AllocError) → ClosesDataChannel m id p r q
+      → handshake_of q ≡ handshake_of p
+  channel_closes_same p q id r h = shake m _ q h.1
 
   pub channel_closes_told : (p q : PolledPeer I D S M N) (id : ℕ) (r : Result (Unit {0}) AllocError) → IsHandshakeTold p → ClosesDataChannel m id p r q → IsHandshakeTold q
   channel_closes_told p q id r k h = told_as _ q h.1 k

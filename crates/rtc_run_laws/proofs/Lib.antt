@@ -175,6 +175,9 @@ mod BegunRows
 mod OpenedRows
 mod StepRows
 mod ConfirmedRuns
+mod DtlsFinishes
+mod ConnectedPolls
+mod ConnectedRuns
 mod ConfirmedSides
 mod ClosingRows
 mod ClosingSettled

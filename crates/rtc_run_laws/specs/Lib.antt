@@ -1,6 +1,7 @@
 pub mod SentContents
 pub mod PlainPairs
 pub mod NewPairs
+pub mod ConnectedSides
 pub mod ChannelUses
 pub mod PollsOfRuns
 pub mod UsesOfRuns

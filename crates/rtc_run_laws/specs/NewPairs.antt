@@ -13,6 +13,9 @@ use Rattle.rtc_part_values.specs.Draws.{Draws}
 use Rattle.rtc_config.specs.RtcConfig.{PeerConfig}
 use Rattle.rtc_peer_core.specs.declared.peer.Peer.{Peer}
 use Rattle.rtc_peer_core.specs.Built.{Builds}
+use Rattle.rtc_peer_transport.specs.declared.handshake.Handshake.TheVariants.{Pending}
+use Rattle.rtc_run_history.specs.declared.side.Side.{Side}
+use Rattle.rtc_run_history.specs.PairState.{rtc_at}
 use Rattle.rtc_run_laws.specs.PlainPairs.{PlainPair, plain_over}
 
 -- an agent was given local candidates, one after the other, whatever it returned
@@ -33,8 +36,9 @@ pub record IsNewPeer {N : Type 0} (draws : Draws N) (p : Peer IceContents DtlsCo
   pub by_candidates : GivenCandidates plain_ice built.ice candidates p.ice
   pub rest : p ≡ record built { ice = p.ice }
 
--- both peers are new, and no datagram was sent yet
+-- both peers are new, no handshake is finished, and no datagram was sent yet
 pub record IsNewPair {N : Type 0} (draws : Draws N) (pair : PlainPair N) : Type 0 where
   pub left : IsNewPeer draws pair.left.core
   pub right : IsNewPeer draws pair.right.core
+  pub pending : (at : Side) → (rtc_at at pair).transport.handshake ≡ Pending
   pub packets : pair.packets ≡ []

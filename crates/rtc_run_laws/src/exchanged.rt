@@ -12,6 +12,7 @@ ghost use Rattle.rtc_run_history.specs.Past.{Entry, steps_of};
 ghost use Rattle.rtc_run_history.specs.Native.{are_native};
 ghost use Rattle.rtc_run_history.specs.Runs.{Reached, Runs};
 ghost use Rattle.rtc_run_history.specs.Sides.{other_side};
+ghost use Rattle.rtc_run_laws.specs.ConnectedSides.{ConnectedCanSend};
 ghost use Rattle.rtc_run_laws.specs.NewPairs.{IsNewPair};
 ghost use Rattle.rtc_run_laws.specs.PlainPairs.{HasExchanged, PairActs, PairExchanges, PlainPair, acts_at, plain_over};
 
@@ -21,12 +22,15 @@ use rtc_part_values::Ids;
 /// text and no bytes of anybody. This holds whatever datagrams these lose, repeat or reorder. What the association of
 /// one side reads of a generation of a stream is a prefix of what the association of the other side wrote. The messages
 /// read and those still unread are together all that were written, if neither closed the generation and the writer
-/// holds no unacknowledged item of the stream.
+/// holds no unacknowledged item of the stream. A peer that is connected can send application data over its DTLS
+/// connection.
 pub fn runs_keep_peers_joined<N: Ids>()
     ensures reached { (stun : List ℕ → Bool) (start pair : PlainPair N) (past : List (Entry PlainMediaEvent)) → IsNewPair N.ids start
         → are_native (steps_of past) ≡ true → Reached (plain_over N.ids) stun start past pair → HasExchanged pair }
     ensures ran { (stun : List ℕ → Bool) (start pair : PlainPair N) (steps : List Step) (replies : List (Reply PlainMediaEvent))
         → IsNewPair N.ids start → are_native steps ≡ true → Runs (plain_over N.ids) stun start steps replies pair → HasExchanged pair }
+    ensures sends { (stun : List ℕ → Bool) (start pair : PlainPair N) (past : List (Entry PlainMediaEvent)) → IsNewPair N.ids start
+        → are_native (steps_of past) ≡ true → Reached (plain_over N.ids) stun start past pair → ConnectedCanSend N.ids pair }
     ensures reads { (acts : PairActs) (pair : PlainPair N) (at : Side) (s g : ℕ) → PairExchanges acts pair
         → IsPrefix (read s g (acts_at (other_side at) acts).association) (written s g (acts_at at acts).association) }
     ensures all { (acts : PairActs) (pair : PlainPair N) (at : Side) (s g : ℕ) → PairExchanges acts pair
