@@ -1,13 +1,17 @@
--- Behind runs, a buffered amount of 0 says that nothing that a side sent over a channel is unacknowledged, if its last message is not empty.
-use Rattle.std.proofs.Common.{◌≡◌, ◌∙◌, ℕ, cond, Bool, true, List, sym, ap}
-use Rattle.rtc_part_association.specs.AssociationWords.{written}
-use Rattle.rtc_assoc_state.specs.Contents.{buffered_of, fresh_contents}
+-- Behind runs, a buffered amount of 0 says that nothing that a side sent over a channel is unacknowledged, if its last message is not empty:
+-- so a reader that was drained has all of it.
+use Rattle.std.proofs.Common.{◌≡◌, ◌∙◌, ◌++◌, ℕ, cond, Bool, true, false, List, sym, ap}
+use Rattle.rtc_part_association.specs.AssociationWords.{ended, read, written}
+use Rattle.rtc_assoc.specs.Unread.{IsPrefix, unread}
+use Rattle.rtc_assoc_state.specs.Contents.{buffered_of, fresh_contents, generation_of, has_unread}
 use Rattle.rtc_assoc_state.specs.PlainMeaning.{plain_meaning}
+use Rattle.rtc_part_values.specs.Among.{Member}
 use Rattle.rtc_part_values.specs.Draws.{Draws}
 use Rattle.rtc_plain_media.specs.declared.plain_media_event.PlainMediaEvent.{PlainMediaEvent}
 use Rattle.rtc_sctp_laws.specs.Contents.{contents_by}
 use Rattle.rtc_sctp_laws.specs.RunningStreams.{AreRunning}
 use Rattle.rtc_sctp_laws.proofs.ContentLemmas.{written_contents}
+use Rattle.rtc_peer_transport.specs.ChannelCalls.{bytes_buffered}
 use Rattle.rtc_peer_laws.specs.PeerActs.{PeerActs}
 use Rattle.rtc_run_history.specs.declared.reply.Reply.{Reply}
 use Rattle.rtc_run_history.specs.declared.side.Side.{Side}
@@ -17,27 +21,43 @@ use Rattle.rtc_run_history.specs.Native.{are_native}
 use Rattle.rtc_run_history.specs.PairState.{rtc_at}
 use Rattle.rtc_run_history.specs.Past.{Entry, steps_of}
 use Rattle.rtc_run_history.specs.Runs.{Reached, Runs}
-use Rattle.rtc_run_laws.specs.AcknowledgedData.{Acknowledges, AreAcknowledged, ends_with_bytes}
+use Rattle.rtc_run_history.specs.Sides.{other_side}
+use Rattle.rtc_run_laws.specs.AcknowledgedData.{Acknowledges, AreAcknowledged, AreDeliveredByAmount, ends_with_bytes, has_unacknowledged_data}
 use Rattle.rtc_run_laws.specs.ChannelUses.{ChannelUse}
+use Rattle.rtc_run_laws.specs.Delivered.{AreDelivering}
+use Rattle.rtc_run_laws.specs.DrainedSides.{IsDrained}
 use Rattle.rtc_run_laws.specs.NewPairs.{IsNewPair}
 use Rattle.rtc_run_laws.specs.PlainPairs.{PlainPair, PlainPolled, plain_over}
 use Rattle.rtc_run_laws.specs.SentMessages.{sent_over}
 use Rattle.rtc_run_laws.specs.ToldMessages.{MessagesTold, told_over}
 use Rattle.rtc_run_laws.specs.UsesOfRuns.{reached_by, uses_of}
+use Rattle.rtc_run_laws.proofs.AcknowledgedPairs.{side_data}
+use Rattle.rtc_run_laws.proofs.Delivered.{delivered, stream_same, wrote_sent}
+use Rattle.rtc_run_laws.proofs.DrainedRuns.{heard_reached, new_unused}
+use Rattle.rtc_run_laws.proofs.HeardSides.{HeardSide, heard_open}
 use Rattle.rtc_run_laws.proofs.LastMessagesHeld.{amount_zero}
+use Rattle.rtc_run_laws.proofs.RunsExchange.{side_reads}
 use Rattle.rtc_run_laws.proofs.RunsTold.{PairTold, new_pair_told, reached_told}
-use Rattle.rtc_run_laws.proofs.StandingSides.{Sent, SideSent}
+use Rattle.rtc_run_laws.proofs.StandingSides.{Sent, SideSent, SideStood}
 use Rattle.rtc_run_laws.proofs.UseLists.{all_member}
 
 module _ {N : Type 0} (draws : Draws N) where
+  -- by what was written to the generation
+  written_acknowledged : (acts : PeerActs) (uses : List ChannelUse) (sent : Sent) (told : MessagesTold) (p : PlainPolled N) (x : ChannelUse) (s g : ℕ)
+      → SideSent draws acts uses sent told p → Member x uses → generation_of p.core.sctp.association s ≡ g
+      → ends_with_bytes (contents_by (written s g acts.association)) ≡ true → bytes_buffered (plain_over draws) s p ≡ 0
+      → has_unacknowledged_data s g p.core.sctp.association.outbox.items ≡ false
+  written_acknowledged acts uses sent told p x s g h member own ends none =
+      let runs : AreRunning plain_meaning p.core.sctp = all_member (λ y. AreRunning plain_meaning p.core.sctp) uses x h.running member in
+      let amount : buffered_of p.core.sctp.association s ≡ 0 = sym (ap (λ (b : Bool). cond b (buffered_of p.core.sctp.association s) 0) runs.0) ∙ none in
+      amount_zero fresh_contents p.core.sctp.association acts.association s g h.side.went own ends amount
+
   side_acknowledged : (acts : PeerActs) (uses : List ChannelUse) (sent : Sent) (told : MessagesTold) (p : PlainPolled N) → SideSent draws acts uses sent told p
       → AreAcknowledged draws uses sent p
   side_acknowledged acts uses sent told p h = λ x s member stream own ends none.
-      let runs : AreRunning plain_meaning p.core.sctp = all_member (λ y. AreRunning plain_meaning p.core.sctp) uses x h.running member in
-      let amount : buffered_of p.core.sctp.association s ≡ 0 = sym (ap (λ (b : Bool). cond b (buffered_of p.core.sctp.association s) 0) runs.0) ∙ none in
       let carries : contents_by (written s x.generation acts.association) ≡ sent s x.generation =
       written_contents s x.generation acts.association h.side.written h.side.wrote_is h.side.told.named_written ∙ h.sent_is s x.generation in
-      amount_zero fresh_contents p.core.sctp.association acts.association s x.generation h.side.went own (ap ends_with_bytes carries ∙ ends) amount
+      written_acknowledged acts uses sent told p x s x.generation h member own (ap ends_with_bytes carries ∙ ends) none
 
   pair_acknowledged : (pair : PlainPair N) (uses : Side → List ChannelUse) (sent : Side → Sent) (told : Side → MessagesTold) (at : Side)
       → PairTold draws pair uses sent told → AreAcknowledged draws (uses at) (sent at) (rtc_at at pair)
@@ -50,6 +70,51 @@ module _ {N : Type 0} (draws : Draws N) where
   run_acknowledged stun start new past pair go ran at =
       pair_acknowledged pair (λ z. uses_of (plain_over draws) stun start z past pair ran) (λ z. sent_over (plain_over draws) stun start z past pair ran)
       (λ z. told_over (plain_over draws) stun start z past pair ran) at (reached_told draws stun start past pair go ran (new_pair_told draws start new))
+
+  -- what a reader has of it is all that was sent
+  amount_delivered : (a b : PeerActs) (us vs : List ChannelUse) (p q : PlainPolled N) (sent : Sent) (told : MessagesTold) (x : SideStood draws a us p)
+      (y : SideSent draws b vs sent told q) (k l : ChannelUse) (h : AreDelivering k p l q) → Member k us → Member l vs
+      → IsPrefix (read h.reader.stream k.generation a.association) (written h.reader.stream k.generation b.association)
+      → (has_unacknowledged_data h.reader.stream k.generation q.core.sctp.association.outbox.items ≡ false
+      → ended h.reader.stream k.generation b.association ≡ false → ended h.reader.stream k.generation a.association ≡ false
+      → contents_by (read h.reader.stream k.generation a.association ++ unread h.reader.stream k.generation p.core.sctp.association.inbox.unread)
+      ≡ contents_by (written h.reader.stream k.generation b.association))
+      → has_unread p.core.sctp.association h.reader.stream k.generation ≡ false → ends_with_bytes l.sent ≡ true
+      → bytes_buffered (plain_over draws) h.writer.stream q ≡ 0 → k.got ≡ l.sent
+  amount_delivered a b us vs p q sent told x y k l h mine theirs reads all heard ends amount =
+      let same : h.writer.stream ≡ h.reader.stream = stream_same draws k l p q h in
+      let carries : contents_by (written h.reader.stream k.generation b.association) ≡ l.sent =
+      wrote_sent draws a b us vs p q x y.side k l h mine theirs reads in
+      let none : has_unacknowledged_data h.reader.stream k.generation q.core.sctp.association.outbox.items ≡ false =
+      written_acknowledged b vs sent told q l h.reader.stream k.generation y theirs
+      (ap (λ (n : ℕ). generation_of q.core.sctp.association n) (sym same) ∙ h.writer.generation ∙ sym h.generation_is)
+      (ap ends_with_bytes carries ∙ ends)
+      (ap (λ (n : ℕ). bytes_buffered (plain_over draws) n q) (sym same) ∙ amount) in
+      delivered draws a b us vs p q x y.side k l h mine theirs reads (all none) heard
+
+  pair_delivered : (pair : PlainPair N) (uses : Side → List ChannelUse) (sent : Side → Sent) (told : Side → MessagesTold) (at : Side) (drained : ℕ → Type 0)
+      → PairTold draws pair uses sent told → ((channel : ℕ) → drained channel → HeardSide channel (uses at) (rtc_at at pair))
+      → AreDeliveredByAmount draws drained (uses at) (rtc_at at pair) (uses (other_side at)) (rtc_at (other_side at) pair)
+  pair_delivered pair uses sent told Left drained h heard = λ x y mine theirs rested d.
+      amount_delivered h.acts.left h.acts.right (uses Left) (uses Right) pair.left pair.right (sent Right) (told Right) h.left.side h.right x y d mine theirs
+      (side_reads h.acts pair Right d.reader.stream x.generation h.exchange)
+      (side_data h.acts pair Right d.reader.stream x.generation h.exchange)
+      (heard_open draws (uses Left) pair.left x (heard x.channel rested) mine d.reader_in_band d.reader.stream d.reader.of d.there d.reader.generation)
+  pair_delivered pair uses sent told Right drained h heard = λ x y mine theirs rested d.
+      amount_delivered h.acts.right h.acts.left (uses Right) (uses Left) pair.right pair.left (sent Left) (told Left) h.right.side h.left x y d mine theirs
+      (side_reads h.acts pair Left d.reader.stream x.generation h.exchange)
+      (side_data h.acts pair Left d.reader.stream x.generation h.exchange)
+      (heard_open draws (uses Right) pair.right x (heard x.channel rested) mine d.reader_in_band d.reader.stream d.reader.of d.there d.reader.generation)
+
+  pub run_amounts : (stun : List ℕ → Bool) (start : PlainPair N) → IsNewPair draws start → (past : List (Entry PlainMediaEvent)) (pair : PlainPair N)
+      → are_native (steps_of past) ≡ true → (ran : Reached (plain_over draws) stun start past pair) → (at : Side)
+      → AreDeliveredByAmount draws (λ channel. IsDrained at channel past) (uses_of (plain_over draws) stun start at past pair ran) (rtc_at at pair)
+      (uses_of (plain_over draws) stun start (other_side at) past pair ran) (rtc_at (other_side at) pair)
+  run_amounts stun start new past pair go ran at =
+      pair_delivered pair (λ z. uses_of (plain_over draws) stun start z past pair ran) (λ z. sent_over (plain_over draws) stun start z past pair ran)
+      (λ z. told_over (plain_over draws) stun start z past pair ran) at (λ channel. IsDrained at channel past)
+      (reached_told draws stun start past pair go ran (new_pair_told draws start new))
+      (λ channel drained. heard_reached draws stun start past pair go ran (new_pair_told draws start new) (new_unused draws start new) at channel drained)
 
   pub run_acknowledges : (stun : List ℕ → Bool) (start pair : PlainPair N) (steps : List Step) (replies : List (Reply PlainMediaEvent)) → IsNewPair draws start
       → are_native steps ≡ true → (run : Runs (plain_over draws) stun start steps replies pair) → Acknowledges draws stun start steps replies pair run

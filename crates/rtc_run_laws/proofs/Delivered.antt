@@ -8,7 +8,7 @@ use Rattle.rtc_part_association.specs.AssociationWords.{AssociationMessage, ende
 use Rattle.rtc_part_association.proofs.AssociationLemmas.{generation_rises}
 use Rattle.rtc_part_values.specs.Among.{Member}
 use Rattle.rtc_part_values.specs.Draws.{Draws}
-use Rattle.rtc_assoc.specs.Unread.{unread}
+use Rattle.rtc_assoc.specs.Unread.{IsPrefix, unread}
 use Rattle.rtc_assoc_state.proofs.PlainLaws.{plain_laws}
 use Rattle.rtc_assoc_state.specs.Contents.{closed_here, fresh_contents, generation_of, has_unread}
 use Rattle.rtc_assoc_state.specs.Outbox.{has_unacknowledged}
@@ -41,10 +41,10 @@ use Rattle.rtc_run_laws.proofs.DrainedRuns.{heard_reached, new_unused}
 use Rattle.rtc_run_laws.proofs.GotAndSent.{both_carry}
 use Rattle.rtc_run_laws.proofs.HeardSides.{HeardSide, heard_open}
 use Rattle.rtc_run_laws.proofs.OpenStreams.{open_free, open_placed}
-use Rattle.rtc_run_laws.proofs.RunsExchange.{side_all}
+use Rattle.rtc_run_laws.proofs.RunsExchange.{side_all, side_reads}
 use Rattle.rtc_run_laws.proofs.RunsTold.{PairTold, new_pair_told, reached_told}
 use Rattle.rtc_run_laws.proofs.StandingSides.{Sent, SideStood}
-use Rattle.rtc_run_laws.proofs.UseLists.{all_member, prefix_same}
+use Rattle.rtc_run_laws.proofs.UseLists.{all_member}
 use Rattle.rtc_run_laws.proofs.UsesTold.{HasGone, InBandTold, IsOver, Lives, StandsSo, UseTold, opened_of}
 
 -- ---- generations that this end closed
@@ -122,71 +122,85 @@ module _ {N : Type 0} (draws : Draws N) where
       absurd (no_some stream (sym (none_under c p.core.channels.rows gone.1) ∙ open_placed c stream p there))
   all_told p c s g stream got rest there (IsOver closed k) = absurd (open_free c stream p there closed)
 
+  pub stream_same : (k l : ChannelUse) (p q : PlainPolled N) (h : AreDelivering k p l q) → h.writer.stream ≡ h.reader.stream
+  stream_same k l p q h = some_is h.writer.stream h.reader.stream (sym h.writer.of ∙ sym h.stream_is ∙ h.reader.of)
+
   module _ (a b : PeerActs) (us vs : List ChannelUse) (p q : PlainPolled N) (x : SideStood draws a us p) (y : SideStood draws b vs q) (k l : ChannelUse)
       (h : AreDelivering k p l q) (mine : Member k us) (theirs : Member l vs)
-      (all : ended h.reader.stream k.generation b.association ≡ false → ended h.reader.stream k.generation a.association ≡ false
-      → has_unacknowledged h.reader.stream q.core.sctp.association.outbox.items ≡ false
-      → read h.reader.stream k.generation a.association ++ unread h.reader.stream k.generation p.core.sctp.association.inbox.unread
-      ≡ written h.reader.stream k.generation b.association)
-      (acknowledged : has_unacknowledged h.writer.stream q.core.sctp.association.outbox.items ≡ false)
-      (heard : has_unread p.core.sctp.association h.reader.stream k.generation ≡ false) where
+      (reads : IsPrefix (read h.reader.stream k.generation a.association) (written h.reader.stream k.generation b.association)) where
     abbrev s : ℕ
     s = h.reader.stream
-
-    same_stream : h.writer.stream ≡ s
-    same_stream = some_is h.writer.stream s (sym h.writer.of ∙ sym h.stream_is ∙ h.reader.of)
 
     there_open : ended s k.generation b.association ≡ false
     there_open =
         never_ended plain_meaning plain_laws plain_generations s k.generation b.association fresh_contents q.core.sctp.association y.went
-        (ap (λ (n : ℕ). generation_of q.core.sctp.association n) (sym same_stream) ∙ h.writer.generation ∙ sym h.generation_is)
-        (ap (λ (n : ℕ). closed_here q.core.sctp.association n) (sym same_stream) ∙ h.writer.unclosed)
+        (ap (λ (n : ℕ). generation_of q.core.sctp.association n) (sym (stream_same k l p q h)) ∙ h.writer.generation ∙ sym h.generation_is)
+        (ap (λ (n : ℕ). closed_here q.core.sctp.association n) (sym (stream_same k l p q h)) ∙ h.writer.unclosed)
 
     here_open : ended s k.generation a.association ≡ false
     here_open =
         never_ended plain_meaning plain_laws plain_generations s k.generation a.association fresh_contents p.core.sctp.association x.went h.reader.generation
         h.reader.unclosed
 
-    -- all that was written was read
-    all_read : read s k.generation a.association ≡ written s k.generation b.association
-    all_read =
-        sym (append-nil (read s k.generation a.association))
-        ∙ ap (λ (r : List AssociationMessage). read s k.generation a.association ++ r)
-        (sym (none_unread s k.generation p.core.sctp.association.inbox.unread heard))
-        ∙ all there_open here_open
-        (ap (λ (n : ℕ). has_unacknowledged n q.core.sctp.association.outbox.items) (sym same_stream) ∙ acknowledged)
+    here_told : UseTold (plain_over draws) x.written x.read p k.channel k.stream k.generation k.sent k.got
+    here_told =
+        open_told draws x.written x.read p k s h.there
+        (all_member (InBandTold (plain_over draws) x.written x.read p) us k x.told.each mine h.reader_in_band)
 
-    got_is : UseTold (plain_over draws) x.written x.read p k.channel k.stream k.generation k.sent k.got
-        → UseTold (plain_over draws) y.written y.read q l.channel l.stream k.generation l.sent l.got → k.got ≡ l.sent
-    got_is t u =
-        let carry =
+    there_told : UseTold (plain_over draws) y.written y.read q l.channel l.stream k.generation l.sent l.got
+    there_told =
+        subst (λ (n : ℕ). UseTold (plain_over draws) y.written y.read q l.channel l.stream n l.sent l.got) (sym h.generation_is)
+        ((all_member (InBandTold (plain_over draws) y.written y.read q) vs l y.told.each theirs h.writer_in_band).kept h.writer_kept)
+
+    carried : (t : UseTold (plain_over draws) x.written x.read p k.channel k.stream k.generation k.sent k.got)
+        → UseTold (plain_over draws) y.written y.read q l.channel l.stream k.generation l.sent l.got
+        → (contents_by (read s k.generation a.association) ≡ contents_of t.rest) × (contents_by (written s k.generation b.association) ≡ l.sent)
+    carried t u =
         both_carry draws s k.generation a b us vs p q x y l.channel k.stream l.stream k.got l.sent l.got
         (opened_of (plain_over draws) x.written x.read p k.channel k.stream k.generation k.sent k.got t) u
-        (some_is t.stream s (sym t.stream_is ∙ h.reader.of)) (some_is u.stream s (sym u.stream_is ∙ sym h.stream_is ∙ h.reader.of))
-        (prefix_same (read s k.generation a.association) (written s k.generation b.association) all_read) in
-        all_told p k.channel t.stream k.generation s k.got t.rest h.there t.stands
-        ∙ sym carry.0
-        ∙ ap contents_by all_read
-        ∙ carry.1
+        (some_is t.stream s (sym t.stream_is ∙ h.reader.of)) (some_is u.stream s (sym u.stream_is ∙ sym h.stream_is ∙ h.reader.of)) reads
 
-    delivered : k.got ≡ l.sent
-    delivered =
-        got_is
-        (open_told draws x.written x.read p k s h.there
-        (all_member (InBandTold (plain_over draws) x.written x.read p) us k x.told.each mine h.reader_in_band))
-        (subst (λ (n : ℕ). UseTold (plain_over draws) y.written y.read q l.channel l.stream n l.sent l.got) (sym h.generation_is)
-        ((all_member (InBandTold (plain_over draws) y.written y.read q) vs l y.told.each theirs h.writer_in_band).kept h.writer_kept))
+    -- what was written to the generation carries what was sent
+    pub wrote_sent : contents_by (written s k.generation b.association) ≡ l.sent
+    wrote_sent = (carried here_told there_told).1
+
+    -- if all that was written is read or stands unread, and nothing stands unread
+    pub delivered : (ended s k.generation b.association ≡ false → ended s k.generation a.association ≡ false
+        → contents_by (read s k.generation a.association ++ unread s k.generation p.core.sctp.association.inbox.unread)
+        ≡ contents_by (written s k.generation b.association))
+        → has_unread p.core.sctp.association s k.generation ≡ false → k.got ≡ l.sent
+    delivered all heard = got_is here_told
+      where
+        got_is : UseTold (plain_over draws) x.written x.read p k.channel k.stream k.generation k.sent k.got → k.got ≡ l.sent
+        got_is t =
+            all_told p k.channel t.stream k.generation s k.got t.rest h.there t.stands
+            ∙ sym (carried t there_told).0
+            ∙ ap contents_by
+            (sym (append-nil (read s k.generation a.association))
+            ∙ ap (λ (r : List AssociationMessage). read s k.generation a.association ++ r)
+            (sym (none_unread s k.generation p.core.sctp.association.inbox.unread heard)))
+            ∙ all there_open here_open
+            ∙ wrote_sent
+
+  none_of : (k l : ChannelUse) (p q : PlainPolled N) (h : AreDelivering k p l q)
+      → has_unacknowledged h.writer.stream q.core.sctp.association.outbox.items ≡ false
+      → has_unacknowledged h.reader.stream q.core.sctp.association.outbox.items ≡ false
+  none_of k l p q h none = ap (λ (n : ℕ). has_unacknowledged n q.core.sctp.association.outbox.items) (sym (stream_same k l p q h)) ∙ none
 
   module _ (pair : PlainPair N) (uses : Side → List ChannelUse) (sent : Side → Sent) (told : Side → MessagesTold) (h : PairTold draws pair uses sent told) where
     pair_delivered : (at : Side) (drained : ℕ → Type 0) → ((channel : ℕ) → drained channel → HeardSide channel (uses at) (rtc_at at pair))
         → AreAllDelivered drained (uses at) (rtc_at at pair) (uses (other_side at)) (rtc_at (other_side at) pair)
     pair_delivered Left drained heard = λ x y mine theirs rested d acknowledged.
         delivered h.acts.left h.acts.right (uses Left) (uses Right) pair.left pair.right h.left.side h.right.side x y d mine theirs
-        (λ here there none. side_all h.acts pair Right d.reader.stream x.generation h.exchange here there none) acknowledged
+        (side_reads h.acts pair Right d.reader.stream x.generation h.exchange)
+        (λ there here. ap contents_by (side_all h.acts pair Right d.reader.stream x.generation h.exchange there here
+        (none_of x y pair.left pair.right d acknowledged)))
         (heard_open draws (uses Left) pair.left x (heard x.channel rested) mine d.reader_in_band d.reader.stream d.reader.of d.there d.reader.generation)
     pair_delivered Right drained heard = λ x y mine theirs rested d acknowledged.
         delivered h.acts.right h.acts.left (uses Right) (uses Left) pair.right pair.left h.right.side h.left.side x y d mine theirs
-        (λ here there none. side_all h.acts pair Left d.reader.stream x.generation h.exchange here there none) acknowledged
+        (side_reads h.acts pair Left d.reader.stream x.generation h.exchange)
+        (λ there here. ap contents_by (side_all h.acts pair Left d.reader.stream x.generation h.exchange there here
+        (none_of x y pair.right pair.left d acknowledged)))
         (heard_open draws (uses Right) pair.right x (heard x.channel rested) mine d.reader_in_band d.reader.stream d.reader.of d.there d.reader.generation)
 
   pub run_delivered : (stun : List ℕ → Bool) (start : PlainPair N) → IsNewPair draws start → (past : List (Entry PlainMediaEvent)) (pair : PlainPair N)

@@ -258,4 +258,5 @@ pub mod CompletingUses
 pub mod LastItems
 pub mod LastActs
 pub mod LastMessagesHeld
+pub mod AcknowledgedPairs
 pub mod AcknowledgedSides

@@ -1,4 +1,5 @@
--- That a buffered amount of 0 says that nothing that was sent over a channel is unacknowledged, if its last message is not empty.
+-- That a buffered amount of 0 says that nothing that was sent over a channel is unacknowledged, if its last message is not empty: so a
+-- drained reader has all of it.
 use Rattle.std.specs.Prelude.{ℕ, ◌≡◌, ◌==◌, ◌&&◌, nat_lt, Bool, true, false, List, [], ◌∷◌, length, Some}
 use Rattle.std.specs.List.{list_any}
 use Rattle.rtc_part_association.specs.declared.ppi.Ppi.{Ppi}
@@ -16,6 +17,7 @@ use Rattle.rtc_run_history.specs.declared.step.Step.{Step}
 use Rattle.rtc_run_history.specs.PairState.{rtc_at}
 use Rattle.rtc_run_history.specs.Runs.{Runs}
 use Rattle.rtc_run_laws.specs.ChannelUses.{ChannelUse}
+use Rattle.rtc_run_laws.specs.Delivered.{AreDelivering}
 use Rattle.rtc_run_laws.specs.PlainPairs.{PlainPair, PlainPolled, plain_over}
 use Rattle.rtc_run_laws.specs.SentMessages.{sent_over}
 use Rattle.rtc_run_laws.specs.UsesOfRuns.{reached_by, uses_in_run}
@@ -55,7 +57,21 @@ AreAcknowledged draws uses sent p =
     → bytes_buffered (plain_over draws) s p ≡ 0
     → has_unacknowledged_data s x.generation p.core.sctp.association.outbox.items ≡ false
 
--- So it is at both sides behind a run by these steps with these replies.
+-- If both sides announced a channel over the same generation and neither closed it, the reader's channel is open and was drained, and the
+-- last message that the writer sent over its own is not empty, then a buffered amount of 0 says that the reader got all that was sent.
+abbrev pub AreDeliveredByAmount : {N : Type 0} → Draws N → (drained : ℕ → Type 0) → (readers : List ChannelUse) → PlainPolled N
+    → (writers : List ChannelUse) → PlainPolled N → Type 0
+AreDeliveredByAmount draws drained readers p writers q =
+    (x y : ChannelUse)
+    → Member x readers
+    → Member y writers
+    → drained x.channel
+    → (h : AreDelivering x p y q)
+    → ends_with_bytes y.sent ≡ true
+    → bytes_buffered (plain_over draws) h.writer.stream q ≡ 0
+    → x.got ≡ y.sent
+
+-- A side's own data is acknowledged so at both sides behind a run by these steps with these replies.
 abbrev pub Acknowledges : {N : Type 0} (draws : Draws N) (stun : List ℕ → Bool) (start : PlainPair N) (steps : List Step)
     (replies : List (Reply PlainMediaEvent)) (pair : PlainPair N) → Runs (plain_over draws) stun start steps replies pair → Type 0
 Acknowledges draws stun start steps replies pair run =

@@ -1,8 +1,11 @@
-use Rattle.rtc_run_laws.proofs.AcknowledgedSides.{run_acknowledged, run_acknowledges}
+use Rattle.rtc_run_laws.proofs.AcknowledgedSides.{run_acknowledged, run_acknowledges, run_amounts}
 use Rattle.rtc_run_laws.proofs.acknowledged.sent_messages_are_acknowledged.Goals as goal
 
 pub returns-clause-reached : goal.returns-clause-reached
 returns-clause-reached g c = λ stun start pair past new go ran at. run_acknowledged g.N.Ids.ids stun start new past pair go ran at
+
+pub returns-clause-delivered : goal.returns-clause-delivered
+returns-clause-delivered g c = λ stun start pair past new go ran at. run_amounts g.N.Ids.ids stun start new past pair go ran at
 
 pub returns-clause-ran : goal.returns-clause-ran
 returns-clause-ran g c = λ stun start pair steps replies new go run. run_acknowledges g.N.Ids.ids stun start pair steps replies new go run
