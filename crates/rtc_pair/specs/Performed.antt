@@ -16,7 +16,7 @@ use Rattle.rtc_run_history.specs.Runs.{Runs}
 use Rattle.rtc_run_history.specs.Signalled.{AllReadBack}
 use Rattle.rtc_plain_ice.specs.Messages.{is_ice_message}
 use Rattle.rtc_plain_media.specs.declared.plain_media_event.PlainMediaEvent.{PlainMediaEvent}
-use Rattle.rtc_run_laws.specs.AcknowledgedData.{Acknowledges}
+use Rattle.rtc_run_laws.specs.AcknowledgedData.{AcknowledgesData}
 use Rattle.rtc_run_laws.specs.ConnectedSides.{ConnectedCanSend}
 use Rattle.rtc_run_laws.specs.Drains.{DrainsWithin}
 use Rattle.rtc_run_laws.specs.HandedOut.{HandsOut}
@@ -67,7 +67,7 @@ pub record RanScript (alloc : Global) (script : Script) (replies : List (Reply P
   pub no_fault : tell_fault replies ≡ false
   pub channels : are_native script.steps ≡ true → HandsOut counting is_ice_message start script.steps replies pair runs
   pub settles : are_native script.steps ≡ true → SettlesOpen counting is_ice_message start script.steps replies pair runs
-  pub acknowledges : are_native script.steps ≡ true → Acknowledges counting is_ice_message start script.steps replies pair runs
+  pub acknowledges : are_native script.steps ≡ true → AcknowledgesData counting is_ice_message start script.steps replies pair runs
   pub connected : are_native script.steps ≡ true → ConnectedCanSend counting pair
   pub crossed : CrossedOffersMeet plain_parts is_ice_message start
   pub answered : AreAnswered script.steps replies

@@ -22,7 +22,7 @@ use Rattle.rtc_run_history.specs.PairState.{rtc_at}
 use Rattle.rtc_run_history.specs.Past.{Entry, steps_of}
 use Rattle.rtc_run_history.specs.Runs.{Reached, Runs}
 use Rattle.rtc_run_history.specs.Sides.{other_side}
-use Rattle.rtc_run_laws.specs.AcknowledgedData.{Acknowledges, AreAcknowledged, AreDeliveredByAmount, ends_with_bytes, has_unacknowledged_data}
+use Rattle.rtc_run_laws.specs.AcknowledgedData.{AcknowledgesData, AreAcknowledged, AreDeliveredByAmount, ends_with_bytes, has_unacknowledged_data}
 use Rattle.rtc_run_laws.specs.ChannelUses.{ChannelUse}
 use Rattle.rtc_run_laws.specs.Delivered.{AreDelivering}
 use Rattle.rtc_run_laws.specs.DrainedSides.{IsDrained}
@@ -117,6 +117,6 @@ module _ {N : Type 0} (draws : Draws N) where
       (λ channel drained. heard_reached draws stun start past pair go ran (new_pair_told draws start new) (new_unused draws start new) at channel drained)
 
   pub run_acknowledges : (stun : List ℕ → Bool) (start pair : PlainPair N) (steps : List Step) (replies : List (Reply PlainMediaEvent)) → IsNewPair draws start
-      → are_native steps ≡ true → (run : Runs (plain_over draws) stun start steps replies pair) → Acknowledges draws stun start steps replies pair run
+      → are_native steps ≡ true → (run : Runs (plain_over draws) stun start steps replies pair) → AcknowledgesData draws stun start steps replies pair run
   run_acknowledges stun start pair steps replies new go run at =
       run_acknowledged stun start new run.past pair (ap are_native run.steps_are ∙ go) (reached_by (plain_over draws) stun start run.past pair run.went) at

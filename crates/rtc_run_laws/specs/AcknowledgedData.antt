@@ -72,9 +72,9 @@ AreDeliveredByAmount draws drained readers p writers q =
     → x.got ≡ y.sent
 
 -- A side's own data is acknowledged so at both sides behind a run by these steps with these replies.
-abbrev pub Acknowledges : {N : Type 0} (draws : Draws N) (stun : List ℕ → Bool) (start : PlainPair N) (steps : List Step)
+abbrev pub AcknowledgesData : {N : Type 0} (draws : Draws N) (stun : List ℕ → Bool) (start : PlainPair N) (steps : List Step)
     (replies : List (Reply PlainMediaEvent)) (pair : PlainPair N) → Runs (plain_over draws) stun start steps replies pair → Type 0
-Acknowledges draws stun start steps replies pair run =
+AcknowledgesData draws stun start steps replies pair run =
     (at : Side)
     → AreAcknowledged draws (uses_in_run (plain_over draws) stun start steps replies pair run at)
     (sent_over (plain_over draws) stun start at run.past pair (reached_by (plain_over draws) stun start run.past pair run.went))

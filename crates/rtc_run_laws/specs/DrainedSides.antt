@@ -47,4 +47,5 @@ DrainedByEntry channel false step outcome earlier = earlier
 abbrev pub IsDrained : {E : Type 0} → (at : Side) (channel : ℕ) (past : List (Entry E)) → Type 0
 IsDrained at channel [] = ⊥
 IsDrained at channel (entry ∷ past) =
-    DrainedByEntry channel (same_side (side_of entry.step) at && calls_peer entry.outcome) entry.step entry.outcome (IsDrained at channel past)
+    DrainedByEntry channel (same_side (side_of entry.step) at && calls_peer entry.outcome) entry.step entry.outcome
+    (IsDrained at channel past)

@@ -39,8 +39,7 @@ HasNothingDue at past pair = RestsUntil (λ moment. (rtc_at at pair).core.greate
 -- nor was anything to be tried again: the moment is later than half a second after the last one that the streams took, too
 abbrev pub HasNothingSoon : {E N : Type 0} → Side → List (Entry E) → PlainPair N → Type 0
 HasNothingSoon at past pair =
-    RestsUntil
-    (λ moment. ((rtc_at at pair).core.greatest < moment) × ((rtc_at at pair).core.sctp.last + 500_000_000 < moment)) at past
+    RestsUntil (λ moment. ((rtc_at at pair).core.greatest < moment) × ((rtc_at at pair).core.sctp.last + 500_000_000 < moment)) at past
 
 -- A peer is alive, application data can go over its DTLS connection, and its association is established, neither closing nor closed. It has
 -- no unacknowledged item, and a number is left for a channel.

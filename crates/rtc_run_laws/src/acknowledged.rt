@@ -9,7 +9,7 @@ ghost use Rattle.rtc_run_history.specs.Past.{Entry, steps_of};
 ghost use Rattle.rtc_run_history.specs.Native.{are_native};
 ghost use Rattle.rtc_run_history.specs.Runs.{Reached, Runs};
 ghost use Rattle.rtc_run_history.specs.Sides.{other_side};
-ghost use Rattle.rtc_run_laws.specs.AcknowledgedData.{Acknowledges, AreAcknowledged, AreDeliveredByAmount};
+ghost use Rattle.rtc_run_laws.specs.AcknowledgedData.{AcknowledgesData, AreAcknowledged, AreDeliveredByAmount};
 ghost use Rattle.rtc_run_laws.specs.DrainedSides.{IsDrained};
 ghost use Rattle.rtc_run_laws.specs.NewPairs.{IsNewPair};
 ghost use Rattle.rtc_run_laws.specs.PlainPairs.{PlainPair, plain_over};
@@ -38,5 +38,5 @@ pub fn sent_messages_are_acknowledged<N: Ids>()
         (uses_of (plain_over N.ids) stun start (other_side at) past pair ran) (rtc_at (other_side at) pair) }
     ensures ran { (stun : List ℕ → Bool) (start pair : PlainPair N) (steps : List Step) (replies : List (Reply PlainMediaEvent))
         → IsNewPair N.ids start → are_native steps ≡ true → (run : Runs (plain_over N.ids) stun start steps replies pair)
-        → Acknowledges N.ids stun start steps replies pair run }
+        → AcknowledgesData N.ids stun start steps replies pair run }
 {}
