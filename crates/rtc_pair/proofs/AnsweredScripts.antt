@@ -24,7 +24,7 @@ use Rattle.rtc_run_history.specs.Signalled.{NotMade, Readable, Signalled, Unread
 use Rattle.rtc_run_history.specs.Sound.{IsSound, RepliesToAnswer, RepliesToOffer, RepliesToRollback, asked_in, is_glare_at}
 use Rattle.rtc_run_history.specs.Undone.{table_shown, table_undone}
 use Rattle.rtc_run_history.specs.Views.{Stances, view_in}
-use Rattle.rtc_script_reports.specs.Fits.{AnswersOps, AnswersStep, AreAnswered, ops_of}
+use Rattle.rtc_script_reports.specs.Fits.{AnswersOps, AnswersStep, AreAnswersTo, ops_of}
 use Rattle.rtc_pair.proofs.DrawnAnswers.{ops_answered}
 
 -- ---- only negotiation answers operations
@@ -125,14 +125,14 @@ module _ {I D S M E X T W N : Type 0} (m : Meanings I D S M E X T W N) (stun : L
   entry_answered start past old step NoSuch table said new h = tt
   entry_answered start past old step Alloc table said new h = tt
 
-  went_answered : (start pair : PairState I D S M N) (past : List (Entry E)) → Went (EntersSoundly m stun start) (λ fresh. fresh ≡ start) past pair → AreAnswered (steps_of past) (replies_of past)
+  went_answered : (start pair : PairState I D S M N) (past : List (Entry E)) → Went (EntersSoundly m stun start) (λ fresh. fresh ≡ start) past pair → AreAnswersTo (steps_of past) (replies_of past)
   went_answered start pair [] h = tt
   went_answered start pair (entry ∷ past) h =
       zip_more (λ (step : Step) (reply : Reply E). AnswersStep step reply.outcome) (steps_of past) (replies_of past) entry.step (reply_of entry) (went_answered start h.0 past h.1)
       (entry_answered start past h.0 entry.step entry.outcome entry.table entry.made pair h.2)
 
   -- the replies of a run have the answers that its steps ask for
-  pub run_answered : (start pair : PairState I D S M N) (steps : List Step) (replies : List (Reply E)) → Runs m stun start steps replies pair → AreAnswered steps replies
+  pub run_answered : (start pair : PairState I D S M N) (steps : List Step) (replies : List (Reply E)) → Runs m stun start steps replies pair → AreAnswersTo steps replies
   run_answered start pair steps replies run =
-      subst (λ (rs : List (Reply E)). AreAnswered steps rs) run.replies_are
-      (subst (λ (ss : List Step). AreAnswered ss (replies_of run.past)) run.steps_are (went_answered start pair run.past run.went))
+      subst (λ (rs : List (Reply E)). AreAnswersTo steps rs) run.replies_are
+      (subst (λ (ss : List Step). AreAnswersTo ss (replies_of run.past)) run.steps_are (went_answered start pair run.past run.went))

@@ -24,7 +24,7 @@ use Rattle.rtc_run_laws.specs.SettledPairs.{SettlesOpen}
 use Rattle.rtc_run_plain.specs.ProgramPair.{counting, plain_parts, PlainPairState, IsProgramPair}
 use Rattle.rtc_run_plain.specs.declared.peer_settings.PeerSettings.{PeerSettings}
 use Rattle.rtc_script_reports.specs.Alike.{TellsReplies}
-use Rattle.rtc_script_reports.specs.Fits.{AreAnswered, AreFit}
+use Rattle.rtc_script_reports.specs.Fits.{AreAnswersTo, AreFit}
 use Rattle.rtc_script_reports.specs.Report.{report}
 use Rattle.rtc_script.specs.declared.script.Script.{Script}
 use Rattle.rtc_script.specs.Settings.{sets_lite, sets_snap, buffer_set, interval_set, max_message_set, polite_set}
@@ -70,7 +70,7 @@ pub record RanScript (alloc : Global) (script : Script) (replies : List (Reply P
   pub acknowledges : are_native script.steps ≡ true → AcknowledgesData counting is_ice_message start script.steps replies pair runs
   pub connected : are_native script.steps ≡ true → ConnectedCanSend counting pair
   pub crossed : CrossedOffersMeet plain_parts is_ice_message start
-  pub answered : AreAnswered script.steps replies
+  pub answered : AreAnswersTo script.steps replies
   pub drains : DrainsWithin plain_parts is_ice_message start runs.past pair
 
 -- This text is the report of a run of a script.

@@ -3,6 +3,7 @@ pub mod LineTexts
 pub mod WordTexts
 pub mod TableTexts
 pub mod EventTexts
+pub mod ErrorTexts
 pub mod OutputTexts
 pub mod AnswerTexts
 pub mod ReplyLines

@@ -13,11 +13,12 @@ use Rattle.rtc_run_history.specs.declared.outcome.Outcome.{Outcome}
 use Rattle.rtc_run_history.specs.declared.outcome.Outcome.TheVariants.{Negotiated, Answered, Finished, Done, Wrote, Polled, Refused, NoSuch, Alloc}
 use Rattle.rtc_run_history.specs.declared.step.Step.{Step}
 use Rattle.rtc_script_reports.specs.Alike.{AreAlikeOutcomes}
-use Rattle.rtc_script_reports.specs.Fits.{AnswersOps, AnswersStep, FitsPolled, FitsWords, PrintsInLine, breaks, ops_of}
+use Rattle.rtc_script_reports.specs.Fits.{AnswersOps, AnswersStep, FitsPolled, FitsWords, breaks, ops_of}
 use Rattle.rtc_script_reports.specs.Outcomes.{answers_text, made_text, outcome_text, truth_text}
 use Rattle.rtc_script_reports.specs.Outputs.{output_line}
 use Rattle.rtc_script_reports.proofs.AnswerTexts.{answers_spaceless, answers_whole, made_whole, same_answers, same_made, same_truth}
 use Rattle.rtc_script_reports.proofs.Cuts.{cut_front, cut_nothing, cut_space, none_append, none_put, text_of}
+use Rattle.rtc_script_reports.proofs.ErrorTexts.{PrintsInLine}
 use Rattle.rtc_script_reports.proofs.OutputTexts.{refusal_whole, same_end, same_outputs, same_refusal}
 use Rattle.rtc_script_reports.proofs.ReplyLines.{outcome_ends, outputs_of}
 use Rattle.rtc_script_reports.proofs.WordTexts.{decimal_gap}
@@ -113,7 +114,7 @@ alike_of step (Answered k) (Answered j) fit fit' out out' one another line line'
 alike_of step Finished Finished fit fit' out out' one another line line' words lines ends same = tt
 alike_of step Done Done fit fit' out out' one another line line' words lines ends same = tt
 alike_of step (Wrote taken) (Wrote taken') fit fit' out out' one another line line' words lines ends same = same_truth taken taken' (append_cancel_left (codes "wrote ") (truth_text taken) (truth_text taken') words)
-alike_of step (Polled outputs end) (Polled outputs' end') fit fit' out out' one another line line' words lines ends same = (same_outputs outputs outputs' out out' lines, same_end end end' line line' ends)
+alike_of step (Polled outputs end) (Polled outputs' end') fit fit' out out' one another line line' words lines ends same = (same_outputs outputs outputs' out.0 out'.0 lines, same_end end end' line line' ends)
 alike_of step (Refused error) (Refused error') fit fit' out out' one another line line' words lines ends same = same_refusal error error' words
 alike_of step NoSuch NoSuch fit fit' out out' one another line line' words lines ends same = tt
 alike_of step Alloc Alloc fit fit' out out' one another line line' words lines ends same = tt

@@ -17,10 +17,11 @@ use Rattle.rtc_run_history.specs.declared.shown.Shown.{Shown}
 use Rattle.rtc_run_history.specs.declared.shown.Shown.TheVariants.{Timeout, Packet, Event}
 use Rattle.rtc_script_reports.specs.Alike.{AreAlikeEnds, AreAlikeErrors, AreAlikeShown, error_number}
 use Rattle.rtc_script_reports.specs.Events.{event_text}
-use Rattle.rtc_script_reports.specs.Fits.{EndsInLine, FitsShown, IsInLine, has_byte}
+use Rattle.rtc_script_reports.specs.Fits.{FitsShown, has_byte}
 use Rattle.rtc_script_reports.specs.Outcomes.{no_memory, refusal_text}
 use Rattle.rtc_script_reports.specs.Outputs.{end_line, error_line, moment_text, output_line, reason_text}
 use Rattle.rtc_script_reports.proofs.Cuts.{cut_end, cut_front, cut_space, none_append, none_put, text_of}
+use Rattle.rtc_script_reports.proofs.ErrorTexts.{EndsInLine, IsInLine}
 use Rattle.rtc_script_reports.proofs.EventTexts.{event_whole, same_event}
 use Rattle.rtc_script_reports.proofs.LineTexts.{IsOneLine, same_lines}
 use Rattle.rtc_script_reports.proofs.WordTexts.{decimal_gap, letter, moment_gap, same_moment}

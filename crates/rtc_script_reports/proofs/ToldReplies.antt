@@ -16,8 +16,9 @@ use Rattle.rtc_script_reports.specs.Outputs.{output_line, polled_lines}
 use Rattle.rtc_script_reports.specs.Report.{report_from, step_line, step_lines, table_lines}
 use Rattle.rtc_script_reports.specs.Rows.{channel_report_line, row_report_line}
 use Rattle.rtc_script_reports.specs.Alike.{AreAlike, ReportsTell}
-use Rattle.rtc_script_reports.specs.Fits.{AnswersStep, AreAnswered, AreFit, FitsReply, PrintInLine, PrintsInLine}
+use Rattle.rtc_script_reports.specs.Fits.{AnswersStep, AreAnswersTo, AreFit, AreInLine, FitsReply}
 use Rattle.rtc_script_reports.proofs.Cuts.{text_of}
+use Rattle.rtc_script_reports.proofs.ErrorTexts.{PrintsInLine, prints_in_line}
 use Rattle.rtc_script_reports.proofs.LineTexts.{GoesOn, cut_line, cut_text, split_by}
 use Rattle.rtc_script_reports.proofs.OutcomeTexts.{outcome_whole, same_outcome}
 use Rattle.rtc_script_reports.proofs.ReplyLines.{behind_begins, behind_text, channels_all, ends_all, lines_behind, outcome_ends, outputs_all, outputs_of, rest_begins, rows_all, table_begins, table_channels}
@@ -73,7 +74,7 @@ reply_text number step reply more =
 
 -- ---- all steps
 
-replies_agree : (number : ℕ) (steps : List Step) (replies others : List (Reply PlainMediaEvent)) → AreFit steps replies → AreAnswered steps replies → PrintInLine replies → AreFit steps others → AreAnswered steps others → PrintInLine others
+replies_agree : (number : ℕ) (steps : List Step) (replies others : List (Reply PlainMediaEvent)) → AreFit steps replies → AreAnswersTo steps replies → AreInLine replies → AreFit steps others → AreAnswersTo steps others → AreInLine others
     → report_from number steps replies ≡ report_from number steps others → AllZip AreAlike replies others
 replies_agree number [] [] [] fit one line fit' other line' same = tt
 replies_agree number [] (reply ∷ replies) others fit one line fit' other line' same = absurd one
@@ -81,15 +82,17 @@ replies_agree number [] [] (answer ∷ others) fit one line fit' other line' sam
 replies_agree number (step ∷ steps) [] others fit one line fit' other line' same = absurd one
 replies_agree number (step ∷ steps) (reply ∷ replies) [] fit one line fit' other line' same = absurd other
 replies_agree number (step ∷ steps) (reply ∷ replies) (answer ∷ others) fit one line fit' other line' same =
+    let here = prints_in_line reply.outcome fit.0.0 fit.0.1 line.0 in
+    let there = prints_in_line answer.outcome fit'.0.0 fit'.0.1 line'.0 in
     let more : List ℕ = report_from (number + 1) steps replies in
     let rest : List ℕ = report_from (number + 1) steps others in
     let words : outcome_text reply.outcome ++ 10 ∷ (text_of (lines_behind reply) ++ more) ≡ outcome_text answer.outcome ++ 10 ∷ (text_of (lines_behind answer) ++ rest) =
     append_cancel_left (front number step) _ _ (sym (reply_text number step reply more) ∙ same ∙ reply_text number step answer rest) in
-    let cut = cut_line (outcome_text reply.outcome) (outcome_text answer.outcome) _ _ (outcome_whole step reply.outcome one.0 line.0) (outcome_whole step answer.outcome other.0 line'.0) words in
-    let lines = cut_text (λ c. c == 115) (lines_behind reply) (lines_behind answer) more rest (lines_whole reply fit.0 line.0) (lines_whole answer fit'.0 line'.0)
+    let cut = cut_line (outcome_text reply.outcome) (outcome_text answer.outcome) _ _ (outcome_whole step reply.outcome one.0 here) (outcome_whole step answer.outcome other.0 there) words in
+    let lines = cut_text (λ c. c == 115) (lines_behind reply) (lines_behind answer) more rest (lines_whole reply fit.0 here) (lines_whole answer fit'.0 there)
     (behind_begins (λ c. c == 115) false reply refl refl refl refl refl) (behind_begins (λ c. c == 115) false answer refl refl refl refl refl)
     (steps_begin (number + 1) steps replies) (steps_begin (number + 1) steps others) cut.1 in
-    (same_behind step reply answer fit.0 fit'.0 one.0 other.0 line.0 line'.0 cut.0 lines.0, replies_agree (number + 1) steps replies others fit.1 one.1 line.1 fit'.1 other.1 line'.1 lines.1)
+    (same_behind step reply answer fit.0 fit'.0 one.0 other.0 here there cut.0 lines.0, replies_agree (number + 1) steps replies others fit.1 one.1 line.1 fit'.1 other.1 line'.1 lines.1)
 
 pub reports_tell : ReportsTell
 reports_tell = λ steps replies fit one others line fit' other line' same. replies_agree 0 steps replies others fit one line fit' other line' same

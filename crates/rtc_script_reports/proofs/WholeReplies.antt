@@ -10,9 +10,10 @@ use Rattle.rtc_run_history.specs.declared.reply.Reply.{Reply}
 use Rattle.rtc_run_history.specs.declared.table.Table.{Table}
 use Rattle.rtc_run_history.specs.Past.{table_rows}
 use Rattle.rtc_script_reports.specs.Alike.{AreAlikeTables}
-use Rattle.rtc_script_reports.specs.Fits.{FitsChannel, FitsPolled, FitsReply, FitsRow, FitsTable, PrintsInLine}
+use Rattle.rtc_script_reports.specs.Fits.{FitsChannel, FitsPolled, FitsReply, FitsRow, FitsTable}
 use Rattle.rtc_script_reports.specs.Outputs.{output_line}
 use Rattle.rtc_script_reports.specs.Rows.{channel_report_line, row_report_line}
+use Rattle.rtc_script_reports.proofs.ErrorTexts.{PrintsInLine}
 use Rattle.rtc_script_reports.proofs.LineTexts.{IsOneLine, same_lines}
 use Rattle.rtc_script_reports.proofs.OutputTexts.{end_whole, outputs_whole}
 use Rattle.rtc_script_reports.proofs.ReplyLines.{lines_behind, outcome_ends, outputs_of, table_channels}
@@ -38,7 +39,7 @@ table_whole (Some table) fit =
     both_whole (map row_report_line table.lines) (map channel_report_line table.channels) (rows_whole table.lines fit.0) (channels_whole table.channels)
 
 outputs_lines_whole : (outcome : Outcome PlainMediaEvent) → FitsPolled outcome → AllByRecursion IsOneLine (map output_line (outputs_of outcome))
-outputs_lines_whole (Polled outputs end) fit = outputs_whole outputs fit
+outputs_lines_whole (Polled outputs end) fit = outputs_whole outputs fit.0
 outputs_lines_whole (Negotiated answers made) fit = tt
 outputs_lines_whole (Answered k) fit = tt
 outputs_lines_whole Finished fit = tt

@@ -1,5 +1,5 @@
 -- What one report of two lists of replies says of them.
-use Rattle.std.specs.Prelude.{◌≡◌, ◌⊎◌, ℕ, List, [], ◌∷◌, map, length, Option, Some, None}
+use Rattle.std.specs.Prelude.{◌≡◌, ℕ, List, [], length, Option, Some, None}
 use Rattle.std.specs.List.{AllZip}
 use Rattle.rtc_part_media.specs.declared.raw_packet.RawPacket.{RawPacket}
 use Rattle.rtc_part_media.specs.declared.raw_packet.RawPacket.TheVariants.{RtcpTx, RtcpRx, RtpTx, RtpRx}
@@ -26,7 +26,7 @@ use Rattle.rtc_run_history.specs.declared.shown.Shown.{Shown}
 use Rattle.rtc_run_history.specs.declared.shown.Shown.TheVariants.{Timeout, Packet, Event as EventOf}
 use Rattle.rtc_run_history.specs.declared.step.Step.{Step}
 use Rattle.rtc_run_history.specs.declared.table.Table.{Table}
-use Rattle.rtc_script_reports.specs.Fits.{AreAnswered, AreFit, PrintInLine}
+use Rattle.rtc_script_reports.specs.Fits.{AreAnswersTo, AreFit, AreInLine}
 use Rattle.rtc_script_reports.specs.Report.{report}
 
 -- the number of an error
@@ -74,8 +74,10 @@ AreAlikeEvents (events.ChannelClose id) (events.ChannelClose id') = id ≡ id'
 AreAlikeEvents (events.ChannelBufferedAmountLow id) (events.ChannelBufferedAmountLow id') = id ≡ id'
 AreAlikeEvents (events.PeerStats stats) (events.PeerStats stats') =
     (stats.peer_bytes_rx ≡ stats'.peer_bytes_rx) × (stats.peer_bytes_tx ≡ stats'.peer_bytes_tx)
-AreAlikeEvents (events.MediaIngressStats stats) (events.MediaIngressStats stats') = (stats.mid ≡ stats'.mid) × (stats.bytes ≡ stats'.bytes)
-AreAlikeEvents (events.MediaEgressStats stats) (events.MediaEgressStats stats') = (stats.mid ≡ stats'.mid) × (stats.bytes ≡ stats'.bytes)
+AreAlikeEvents (events.MediaIngressStats stats) (events.MediaIngressStats stats') =
+    (stats.mid ≡ stats'.mid) × (stats.bytes ≡ stats'.bytes)
+AreAlikeEvents (events.MediaEgressStats stats) (events.MediaEgressStats stats') =
+    (stats.mid ≡ stats'.mid) × (stats.bytes ≡ stats'.bytes)
 AreAlikeEvents (events.Media event) (events.Media event') = AreAlikeMediaEvents event event'
 AreAlikeEvents events.Closed events.Closed = Unit {0}
 AreAlikeEvents event other = ⊥
@@ -144,16 +146,18 @@ AreAlikeTables (Some table) None = (table.lines ≡ []) × (table.channels ≡ [
 abbrev pub AreAlike : Reply PlainMediaEvent → Reply PlainMediaEvent → Type 0
 AreAlike reply other = AreAlikeOutcomes reply.outcome other.outcome × AreAlikeTables reply.table other.table
 
--- Other replies to the same steps that have the report of these agree with them. What an error prints must be one line at both.
+-- Other replies to the same steps that have the report of these agree with them, if the name of a hash function that an error prints has no
+-- end of line.
 abbrev pub TellsReplies : List Step → List (Reply PlainMediaEvent) → Type 0
 TellsReplies steps replies =
     (others : List (Reply PlainMediaEvent))
-    → PrintInLine replies
-    → AreFit steps others → AreAnswered steps others → PrintInLine others
+    → AreInLine replies
+    → AreFit steps others → AreAnswersTo steps others → AreInLine others
     → report steps replies ≡ report steps others
     → AllZip AreAlike replies others
 
 -- replies to the same steps with one report agree
 abbrev pub ReportsTell : Type 0
 ReportsTell =
-    (steps : List Step) (replies : List (Reply PlainMediaEvent)) → AreFit steps replies → AreAnswered steps replies → TellsReplies steps replies
+    (steps : List Step) (replies : List (Reply PlainMediaEvent))
+    → AreFit steps replies → AreAnswersTo steps replies → TellsReplies steps replies

@@ -10,8 +10,14 @@ use Rattle.rtc_part_media.specs.declared.raw_packet.RawPacket.TheVariants.{RtcpT
 use Rattle.rtc_plain_media.specs.declared.plain_media_event.PlainMediaEvent.{PlainMediaEvent}
 use Rattle.rtc_plain_media.specs.declared.plain_media_event.PlainMediaEvent.TheVariants.{Added, Changed as DirChanged, Rtp, Rtcp, Raw}
 use Rattle.rtc_channels.specs.declared.channel_row.ChannelRow.{ChannelRow}
-use Rattle.rtc_peer_core.specs.RtcErrorText.{rtc_error_text}
+use Rattle.rtc_part_media.specs.declared.media_error.MediaError.{MediaError}
+use Rattle.rtc_part_media.specs.declared.media_error.MediaError.TheVariants.{UnknownRid}
+use Rattle.rtc_peer_rows.specs.declared.new_line.NewLine.{NewLine}
+use Rattle.rtc_peer_rows.specs.declared.new_line.NewLine.TheVariants.{Count, NotMedia, NotChannel, NotOffered, OtherKind, OtherPlace}
+use Rattle.rtc_peer_rows.specs.declared.why.Why.{Why}
+use Rattle.rtc_peer_rows.specs.declared.why.Why.TheVariants.{MovedLine, PlaceTaken, AnswerRecycles, WrongNewLines, UnknownHash}
 use Rattle.rtc_peer_core.specs.declared.rtc_error.RtcError.{RtcError}
+use Rattle.rtc_peer_core.specs.declared.rtc_error.RtcError.TheVariants.{RemoteSdp, Media as MediaFailed}
 use Rattle.rtc_peer_transport.specs.declared.event.Event.{Event}
 use Rattle.rtc_peer_transport.specs.declared.event.Event.TheVariants as events
 use Rattle.rtc_run_history.specs.declared.made.Made.{Made}
@@ -96,6 +102,38 @@ FitsShown (Timeout moment reason) = moment < 2 ^ 64
 FitsShown (Packet number len) = (number < 2 ^ 64) × (len < 2 ^ 64)
 FitsShown (EventOf event) = FitsEvent event
 
+-- ---- errors
+
+abbrev pub FitsNewLine : NewLine → Type 0
+FitsNewLine (Count expected got) = Unit {0}
+FitsNewLine (NotMedia mid kind) = IsName mid
+FitsNewLine (NotChannel mid kind) = IsName mid
+FitsNewLine (NotOffered mid) = IsName mid
+FitsNewLine (OtherKind mid) = IsName mid
+FitsNewLine (OtherPlace mid) = IsName mid
+
+abbrev pub FitsWhy : Why → Type 0
+FitsWhy (MovedLine mid) = IsName mid
+FitsWhy (PlaceTaken mid) = IsName mid
+FitsWhy (AnswerRecycles mid) = IsName mid
+FitsWhy (WrongNewLines wrong) = FitsNewLine wrong
+FitsWhy why = Unit {0}
+
+abbrev pub FitsMediaError : MediaError → Type 0
+FitsMediaError (UnknownRid rid) = IsName rid
+FitsMediaError error = Unit {0}
+
+-- the names in what an error prints
+abbrev pub FitsError : RtcError → Type 0
+FitsError (RemoteSdp why) = FitsWhy why
+FitsError (MediaFailed error) = FitsMediaError error
+FitsError error = Unit {0}
+
+abbrev pub FitsEnd : PollEnd → Type 0
+FitsEnd Ended = Unit {0}
+FitsEnd (EndRefused error) = FitsError error
+FitsEnd NoRoom = Unit {0}
+
 -- ---- outcomes
 
 abbrev pub FitsAnswer : OpAnswer → Type 0
@@ -121,7 +159,7 @@ FitsWords Finished = Unit {0}
 FitsWords Done = Unit {0}
 FitsWords (Wrote taken) = Unit {0}
 FitsWords (Polled outputs end) = Unit {0}
-FitsWords (Refused error) = Unit {0}
+FitsWords (Refused error) = FitsError error
 FitsWords NoSuch = Unit {0}
 FitsWords Alloc = Unit {0}
 
@@ -132,7 +170,7 @@ FitsPolled (Answered text) = Unit {0}
 FitsPolled Finished = Unit {0}
 FitsPolled Done = Unit {0}
 FitsPolled (Wrote taken) = Unit {0}
-FitsPolled (Polled outputs end) = AllByRecursion FitsShown outputs
+FitsPolled (Polled outputs end) = AllByRecursion FitsShown outputs × FitsEnd end
 FitsPolled (Refused error) = Unit {0}
 FitsPolled NoSuch = Unit {0}
 FitsPolled Alloc = Unit {0}
@@ -184,15 +222,6 @@ abbrev pub ops_of : Step → List Op
 ops_of (Negotiate at ops apply) = ops
 ops_of step = []
 
--- what an error prints is one line
-abbrev pub IsInLine : RtcError → Type 0
-IsInLine error = breaks (rtc_error_text error) ≡ false
-
-abbrev pub EndsInLine : PollEnd → Type 0
-EndsInLine Ended = Unit {0}
-EndsInLine (EndRefused error) = IsInLine error
-EndsInLine NoRoom = Unit {0}
-
 -- each answer in an outcome is of the kind that its operation gives
 abbrev pub AnswersStep : {E : Type 0} → Step → Outcome E → Type 0
 AnswersStep step (Negotiated answers made) = AnswersOps (ops_of step) answers
@@ -205,22 +234,28 @@ AnswersStep step (Refused error) = Unit {0}
 AnswersStep step NoSuch = Unit {0}
 AnswersStep step Alloc = Unit {0}
 
--- what an error in an outcome prints is one line
-abbrev pub PrintsInLine : {E : Type 0} → Outcome E → Type 0
-PrintsInLine (Negotiated answers made) = Unit {0}
-PrintsInLine (Answered text) = Unit {0}
-PrintsInLine Finished = Unit {0}
-PrintsInLine Done = Unit {0}
-PrintsInLine (Wrote taken) = Unit {0}
-PrintsInLine (Polled outputs end) = EndsInLine end
-PrintsInLine (Refused error) = IsInLine error
-PrintsInLine NoSuch = Unit {0}
-PrintsInLine Alloc = Unit {0}
+-- the name of a hash function that is refused has no end of line
+abbrev pub IsHashInLine : Why → Type 0
+IsHashInLine (UnknownHash name) = breaks name ≡ false
+IsHashInLine why = Unit {0}
+
+abbrev pub IsErrorInLine : RtcError → Type 0
+IsErrorInLine (RemoteSdp why) = IsHashInLine why
+IsErrorInLine error = Unit {0}
+
+abbrev pub IsEndInLine : PollEnd → Type 0
+IsEndInLine (EndRefused error) = IsErrorInLine error
+IsEndInLine end = Unit {0}
+
+abbrev pub IsOutcomeInLine : {E : Type 0} → Outcome E → Type 0
+IsOutcomeInLine (Polled outputs end) = IsEndInLine end
+IsOutcomeInLine (Refused error) = IsErrorInLine error
+IsOutcomeInLine outcome = Unit {0}
 
 -- as many replies as steps, with the answers that the steps ask for
-abbrev pub AreAnswered : {E : Type 0} → List Step → List (Reply E) → Type 0
-AreAnswered steps replies = AllZip (λ step reply. AnswersStep step reply.outcome) steps replies
+abbrev pub AreAnswersTo : {E : Type 0} → List Step → List (Reply E) → Type 0
+AreAnswersTo steps replies = AllZip (λ step reply. AnswersStep step reply.outcome) steps replies
 
--- no error in replies prints an end of line
-abbrev pub PrintInLine : {E : Type 0} → List (Reply E) → Type 0
-PrintInLine replies = AllByRecursion (λ reply. PrintsInLine reply.outcome) replies
+-- so it is in replies
+abbrev pub AreInLine : {E : Type 0} → List (Reply E) → Type 0
+AreInLine replies = AllByRecursion (λ reply. IsOutcomeInLine reply.outcome) replies

@@ -7,6 +7,7 @@ mod laws;
 mod outcomes;
 mod outputs;
 mod pushing;
+mod reading;
 mod refusals;
 mod reports;
 mod rows;

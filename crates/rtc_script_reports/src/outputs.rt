@@ -2,12 +2,13 @@
 ghost use Rattle.std.specs.Prelude.{◌≡◌, ◌<◌, ◌^◌, ◌++◌, OnOk, codes, string_bytes};
 ghost use Rattle.std.specs.List.{AllByRecursion};
 ghost use Rattle.rtc_peer_core.specs.RtcErrorText.{rtc_error_text};
-ghost use Rattle.rtc_script_reports.specs.Fits.{FitsPolled, FitsShown};
+ghost use Rattle.rtc_script_reports.specs.Fits.{FitsEnd, FitsPolled, FitsShown};
 ghost use Rattle.rtc_script_reports.specs.Outputs.{end_line, error_line, moment_text, output_line, outputs_lines};
 ghost use Rattle.rtc_script_reports.specs.Outputs.{polled_lines, reason_text};
 
 use crate::events::push_event;
 use crate::pushing::{push_named, push_number, push_word};
+use crate::reading::read_error;
 use crate::refusals::push_error_text;
 use rtc_part_values::Reason;
 use rtc_peer_core::RtcError;
@@ -115,11 +116,15 @@ fn push_error(out: &mut String, error: &RtcError) -> Result<(), AllocError>
 }
 
 fn push_end(out: &mut String, end: &PollEnd) -> Result<(), AllocError>
-    ensures { OnOk result (string_bytes out.new ≡ string_bytes out.old ++ end_line end.now) }
+    ensures text { OnOk result (string_bytes out.new ≡ string_bytes out.old ++ end_line end.now) }
+    ensures fit { FitsEnd end.now }
 {
     match end {
         PollEnd::Ended => Ok(()),
-        PollEnd::Refused(error) => push_error(out, error),
+        PollEnd::Refused(error) => {
+            read_error(error);
+            push_error(out, error)
+        }
         PollEnd::NoRoom => out.push_str("nomemory\n"),
     }
 }

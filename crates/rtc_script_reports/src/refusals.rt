@@ -1,8 +1,10 @@
 //! Refusals.
 ghost use Rattle.std.specs.Prelude.{◌≡◌, ◌++◌, OnOk, string_bytes};
 ghost use Rattle.rtc_peer_core.specs.RtcErrorText.{rtc_error_text};
+ghost use Rattle.rtc_script_reports.specs.Fits.{FitsError};
 ghost use Rattle.rtc_script_reports.specs.Outcomes.{refusal_text};
 
+use crate::reading::read_error;
 use rtc_peer_core::RtcError;
 use std::alloc::AllocError;
 
@@ -16,8 +18,10 @@ pub fn push_error_text(out: &mut String, word: &str, error: &RtcError) -> Result
 
 /// Puts the words of a refusal behind a text: its number, and what the error prints.
 pub fn push_refusal(out: &mut String, error: &RtcError) -> Result<(), AllocError>
-    ensures { OnOk result (string_bytes out.new ≡ string_bytes out.old ++ refusal_text error.now) }
+    ensures text { OnOk result (string_bytes out.new ≡ string_bytes out.old ++ refusal_text error.now) }
+    ensures fit { FitsError error.now }
 {
+    read_error(error);
     match error {
         RtcError::RemoteSdp(_) => push_error_text(out, "refused 1 ", error),
         RtcError::Sdp(_) => push_error_text(out, "refused 2 ", error),
