@@ -101,7 +101,7 @@ impl Case<'_> {
     // The run of the first so many steps.
     fn run(&self, alloc: Global, count: usize) -> Result<Option<Ran>, AllocError> {
         match self.course.front(count) {
-            Some(steps) => Ok(Some(perform(alloc, self.part, self.numbers, steps)?)),
+            Some(steps) => Ok(Some(perform(alloc, None, self.part, self.numbers, steps)?)),
             None => Ok(None),
         }
     }

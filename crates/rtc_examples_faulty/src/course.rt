@@ -68,24 +68,37 @@ impl Course {
 
     /// Left offers a channel with a label of one letter, right answers, and left takes the answer.
     pub fn negotiate(&mut self, alloc: Global) -> Result<(), AllocError> {
+        self.offer(alloc, Side::Left)?;
+        self.accept_offer(Side::Right, 0)?;
+        self.accept_answer(Side::Left, 0, 1)
+    }
+
+    /// A side offers a channel with a label of one letter.
+    pub fn offer(&mut self, alloc: Global, at: Side) -> Result<(), AllocError> {
         let mut config = ChannelConfig::new(alloc);
         config.label = Text::from_str(alloc, "a")?;
         let mut ops = Seq::empty(alloc);
         ops.push(Op::AddChannel { config })?;
         self.push(Step::Negotiate {
-            at: Side::Left,
+            at,
             ops,
             apply: true,
-        })?;
-        self.push(Step::AcceptOffer {
-            at: Side::Right,
-            offer: 0,
-        })?;
-        self.push(Step::AcceptAnswer {
-            at: Side::Left,
-            token: 0,
-            answer: 1,
         })
+    }
+
+    /// A side accepts an offer of the other one.
+    pub fn accept_offer(&mut self, at: Side, offer: u32) -> Result<(), AllocError> {
+        self.push(Step::AcceptOffer { at, offer })
+    }
+
+    /// A side accepts the answer to an offer of its own.
+    pub fn accept_answer(&mut self, at: Side, token: u32, answer: u32) -> Result<(), AllocError> {
+        self.push(Step::AcceptAnswer { at, token, answer })
+    }
+
+    /// A side rolls its offer back.
+    pub fn roll_back(&mut self, at: Side, token: u32) -> Result<(), AllocError> {
+        self.push(Step::Rollback { at, token })
     }
 
     /// A side is given a moment, and polled up to a timeout.

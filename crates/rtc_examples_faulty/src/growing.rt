@@ -106,7 +106,7 @@ impl Growth {
         let Some(steps) = self.course.front(self.course.len()) else {
             return Ok(false);
         };
-        let ran = perform(alloc, Part::Dtls, &[], steps)?;
+        let ran = perform(alloc, None, Part::Dtls, &[], steps)?;
         self.take_both(&ran, start)
     }
 

@@ -3,11 +3,13 @@
 //! Each line of the input names a subject and an example of it, and is printed again behind `agrees` or `differs`.
 //! `single PART SPAN` connects two peers whose left DTLS part, association or media part fails at one call, for each
 //! number from 0 to 63. `pairs PART SPAN COUNT SEED` does so at two calls, for so many pairs of numbers that the seed
-//! determines. So many milliseconds pass before each round. `numbers` are calls of a part alone.
+//! determines. So many milliseconds pass before each round. `crossed PART ROLE` crosses the offers of a polite and an
+//! impolite peer, of which the left one, in this role, has a part that fails. `numbers` are calls of a part alone.
 #![tactic(auto)]
 
 mod checking;
 mod course;
+mod crossing;
 mod dtls_calls;
 mod growing;
 mod media_calls;
@@ -33,6 +35,7 @@ impl Examples for Faults {
         match subject {
             "single" => is_true(table::does_hold_once(alloc, name)),
             "pairs" => is_true(table::does_hold_twice(alloc, name)),
+            "crossed" => is_true(crossing::does_meet(alloc, name)),
             "numbers" => is_true(numbers::does_agree(alloc, name)),
             _ => false,
         }

@@ -7,6 +7,7 @@ use crate::ran::{Faults, Ran};
 use rtc_plain::PlainMediaEvent;
 use rtc_run_faulty::{FailingCalls, PartWatches, make_faulty_pair, run_faulty_pair};
 use rtc_run_history::{Reply, Step};
+use rtc_run_plain::PeerSettings;
 use rtc_wire::Seq;
 use rtc_wire_drops::release;
 use std::alloc::{AllocError, Global};
@@ -34,6 +35,18 @@ fn failing_calls(alloc: Global, part: Part, numbers: &[u64]) -> Result<FailingCa
     })
 }
 
+// A peer as it is by default, but for its role on glare.
+fn settings(polite: Option<bool>) -> PeerSettings {
+    PeerSettings {
+        lite: false,
+        snap: false,
+        max_buffered: 131_072,
+        max_message_size: 262_144,
+        stats_interval: None,
+        polite,
+    }
+}
+
 // What is seen of a run with these replies.
 fn see(
     replies: Result<Seq<Reply<PlainMediaEvent>>, AllocError>,
@@ -50,9 +63,11 @@ fn see(
     })
 }
 
-/// Performs steps on a fresh pair whose left part fails at the calls of these numbers. This function alone names the parts.
+/// Performs steps on a fresh pair whose left part fails at the calls of these numbers. If the left peer is given a role on glare, the right
+/// one has the other role. This function alone names the parts.
 pub fn perform(
     alloc: Global,
+    polite: Option<bool>,
     part: Part,
     numbers: &[u64],
     steps: &[Step],
@@ -63,7 +78,9 @@ pub fn perform(
     let left = PartWatches::new(alloc)?;
     let right = PartWatches::new(alloc)?;
     let none = FailingCalls::none(alloc);
-    let mut pair = make_faulty_pair(alloc, failing, none, &left, &right)?;
+    let own = settings(polite);
+    let other = settings(polite.map(|polite| !polite));
+    let mut pair = make_faulty_pair(alloc, own, other, failing, none, &left, &right)?;
     let replies = run_faulty_pair(alloc, &mut pair, steps);
     let is_alive = pair.left().is_alive();
     release(pair, see(replies, is_alive, &left, &right))

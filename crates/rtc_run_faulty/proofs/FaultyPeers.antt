@@ -6,7 +6,7 @@ use Rattle.rtc_assoc_state.specs.Calls.{limited}
 use Rattle.rtc_assoc_state.specs.Contents.{Contents, fresh_contents, is_started}
 use Rattle.rtc_config.specs.RtcConfig.{PeerConfig}
 use Rattle.rtc_faulty.specs.declared.faulty.Faulty.{Faulty}
-use Rattle.rtc_peer_core.specs.Built.{Builds, payload_of_mtu, creds_or, session_drawn}
+use Rattle.rtc_peer_core.specs.Built.{Builds, allowed_halves, payload_of_mtu, creds_or, session_drawn}
 use Rattle.rtc_peer_core.specs.Formats.{config_formats, AreFormedFormats}
 use Rattle.rtc_peer_core.specs.Formed.{AreSdpCreds, IsFormed, IsHostCandidate}
 use Rattle.rtc_peer_core.specs.Stance.{stance_of}
@@ -17,14 +17,15 @@ use Rattle.rtc_run_history.specs.declared.side.Side.{Side}
 use Rattle.rtc_run_history.specs.declared.side.Side.TheVariants.{Left, Right}
 use Rattle.rtc_run_history.specs.Fresh.{IsFresh, IsJustBuilt}
 use Rattle.rtc_run_history.specs.PairState.{peer_at, stances_of}
-use Rattle.rtc_run_plain.specs.ProgramPair.{counting, host_at}
+use Rattle.rtc_run_plain.specs.ProgramPair.{counting, host_at, program_config}
+use Rattle.rtc_run_plain.specs.declared.peer_settings.PeerSettings.{PeerSettings}
 use Rattle.rtc_sctp.specs.Streams.{SctpStreams}
 use Rattle.rtc_sctp_values.specs.SnapHalves.{KeptHalves, nothing_kept}
 use Rattle.rtc_sdp_values.specs.declared.candidate.Candidate.{Candidate}
 use Rattle.rtc_sdp_values.specs.declared.ice_creds.IceCreds.{IceCreds}
 use Rattle.rtc_wire.specs.declared.addr.Addr.{Addr}
 use Rattle.rtc_run_faulty.specs.declared.failing_calls.FailingCalls.{FailingCalls}
-use Rattle.rtc_run_faulty.specs.FaultyPairs.{certified_config, IsFaultyPeer}
+use Rattle.rtc_run_faulty.specs.FaultyPairs.{IsFaultyPeer}
 use Rattle.rtc_run_faulty.specs.FaultyParts.{
   FaultyCore,
   FaultyPairState,
@@ -80,49 +81,68 @@ limited_is_unstarted : (payload max : ℕ) → is_started (limited payload max f
 unfolding limited
 limited_is_unstarted payload max = refl
 
+-- no half of a start by session descriptions is there, whether or not it is allowed
+starts_none : (allowed : Bool) (limit : ℕ) → (allowed_halves allowed limit nothing_kept).started ≡ None
+starts_none true limit = refl
+starts_none false limit = refl
+
+draws_none : (allowed : Bool) (limit : ℕ) → IfSome (allowed_halves allowed limit nothing_kept).pending (λ halves. halves.local ≡ None)
+draws_none true limit = refl
+draws_none false limit = tt
+
 -- how a peer was built and given its address
-pub record Makes (alloc : Global) (cert : List ℕ) (first : ℕ) (addr : Addr) (failing : FailingCalls) (config : PeerConfig) (built p : FaultyCore) : Type 0 where
-  pub config_is : config ≡ certified_config cert
+pub record Makes (alloc : Global) (settings : PeerSettings) (cert : List ℕ) (first : ℕ) (addr : Addr) (failing : FailingCalls) (config : PeerConfig) (built p : FaultyCore) : Type 0 where
+  pub config_is : config ≡ program_config settings cert
   pub builds : IsBuilt alloc config failing first built
   pub added : plain_ice.local_added built.ice (host_at addr) (Ok true) p.ice
   pub rest : p ≡ record built { ice = p.ice }
 
-module _ (alloc : Global) (cert : List ℕ) (first : ℕ) (addr : Addr) (failing : FailingCalls) (config : PeerConfig) (built p : FaultyCore)
-    (h : Makes alloc cert first addr failing config built p) where
-  certified : IsBuilt alloc (certified_config cert) failing first built
-  certified = subst (λ (c : PeerConfig). IsBuilt alloc c failing first built) h.config_is h.builds
+-- the role on glare is that of the settings
+pub faulty_role : (alloc : Global) (settings : PeerSettings) (cert : List ℕ) (first : ℕ) (addr : Addr) (failing : FailingCalls) (p : FaultyCore)
+    → IsFaultyPeer alloc settings cert first addr failing p → p.polite ≡ settings.polite
+faulty_role alloc settings cert first addr failing p h =
+    ap (λ (q : FaultyCore). q.polite) h.rest ∙ ap (λ (q : FaultyCore). q.polite) h.by_build.rest
 
-  pub faulty_peer : IsFaultyPeer alloc cert first addr failing p
-  faulty_peer = record { built = built; by_build = certified; by_address = h.added; rest = h.rest }
+module _ (alloc : Global) (settings : PeerSettings) (cert : List ℕ) (first : ℕ) (addr : Addr) (failing : FailingCalls) (config : PeerConfig) (built p : FaultyCore)
+    (h : Makes alloc settings cert first addr failing config built p) where
+  pub faulty_peer : IsFaultyPeer alloc settings cert first addr failing p
+  faulty_peer = record {
+    built = built;
+    by_build = subst (λ (c : PeerConfig). IsBuilt alloc c failing first built) h.config_is h.builds;
+    by_address = h.added;
+    rest = h.rest;
+  }
 
   streams_are : p.sctp ≡ built.sctp
   streams_are = ap (λ (q : FaultyCore). q.sctp) h.rest
 
-  snap_is : p.sctp.snap ≡ nothing_kept
-  snap_is = ap (λ (s : SctpStreams (Faulty Contents)). s.snap) (streams_are ∙ certified.streams)
+  snap_is : p.sctp.snap ≡ allowed_halves config.sctp.snap_enabled config.sctp.max_message_size nothing_kept
+  snap_is = ap (λ (s : SctpStreams (Faulty Contents)). s.snap) (streams_are ∙ h.builds.streams)
 
   association_unstarted : is_started built.sctp.association.inner ≡ false
   association_unstarted =
-      ap is_started certified.by_limits.0 ∙ limited_is_unstarted (payload_of_mtu (certified_config cert).mtu.0) (certified_config cert).sctp.max_message_size
+      ap is_started h.builds.by_limits.0 ∙ limited_is_unstarted (payload_of_mtu config.mtu.0) config.sctp.max_message_size
 
   pub faulty_fresh : IsJustBuilt (stance_of faulty_parts p)
   faulty_fresh = record {
-    lines = ap (λ (q : FaultyCore). q.lines) h.rest ∙ ap (λ (q : FaultyCore). q.lines) certified.rest;
-    staged = ap (λ (q : FaultyCore). q.staged) h.rest ∙ ap (λ (q : FaultyCore). q.staged) certified.rest;
-    channels = ap (λ (q : FaultyCore). q.channels) h.rest ∙ ap (λ (q : FaultyCore). q.channels) certified.rest;
-    counter = ap (λ (q : FaultyCore). q.counter) h.rest ∙ ap (λ (q : FaultyCore). q.counter) certified.rest;
-    outstanding = ap (λ (q : FaultyCore). q.outstanding) h.rest ∙ ap (λ (q : FaultyCore). q.outstanding) certified.rest;
+    lines = ap (λ (q : FaultyCore). q.lines) h.rest ∙ ap (λ (q : FaultyCore). q.lines) h.builds.rest;
+    staged = ap (λ (q : FaultyCore). q.staged) h.rest ∙ ap (λ (q : FaultyCore). q.staged) h.builds.rest;
+    channels = ap (λ (q : FaultyCore). q.channels) h.rest ∙ ap (λ (q : FaultyCore). q.channels) h.builds.rest;
+    counter = ap (λ (q : FaultyCore). q.counter) h.rest ∙ ap (λ (q : FaultyCore). q.counter) h.builds.rest;
+    outstanding = ap (λ (q : FaultyCore). q.outstanding) h.rest ∙ ap (λ (q : FaultyCore). q.outstanding) h.builds.rest;
     remote = ap (λ (ice : IceContents). ice.settings.remote) h.added.1 ∙ adding_keeps_remote (host_at addr) built.ice
         ∙ built_knows_nobody alloc config failing first built h.builds;
-    fingerprint = ap (λ (q : FaultyCore). q.fingerprint) h.rest ∙ ap (λ (q : FaultyCore). q.fingerprint) certified.rest;
+    fingerprint = ap (λ (q : FaultyCore). q.fingerprint) h.rest ∙ ap (λ (q : FaultyCore). q.fingerprint) h.builds.rest;
     uninited = ap (λ (s : SctpStreams (Faulty Contents)). is_started s.association.inner) streams_are ∙ association_unstarted;
-    unstarted = ap (λ (kept : KeptHalves). kept.started) snap_is;
-    undrawn = subst (λ (kept : KeptHalves). IfSome kept.pending (λ halves. halves.local ≡ None)) (sym snap_is) tt;
+    unstarted = ap (λ (kept : KeptHalves). kept.started) snap_is ∙ starts_none config.sctp.snap_enabled config.sctp.max_message_size;
+    undrawn =
+        subst (λ (kept : KeptHalves). IfSome kept.pending (λ halves. halves.local ≡ None)) (sym snap_is)
+        (draws_none config.sctp.snap_enabled config.sctp.max_message_size);
   }
 
   -- no stream is in use
   pub faulty_unused : p.sctp.entries ≡ []
-  faulty_unused = ap (λ (s : SctpStreams (Faulty Contents)). s.entries) (streams_are ∙ certified.streams)
+  faulty_unused = ap (λ (s : SctpStreams (Faulty Contents)). s.entries) (streams_are ∙ h.builds.streams)
 
   pub faulty_formed : (config.ice.credentials ≡ None → AreFormedFormats (config_formats config) → IsFormed (stance_of faulty_parts built))
       → AreFormedFormats (config_formats config) → IsHostCandidate (host_at addr) → IsFormed (stance_of faulty_parts p)

@@ -8,9 +8,9 @@ ghost use Rattle.rtc_peer_core.specs.Formed.{IsFormed, IsHostCandidate};
 ghost use Rattle.rtc_peer_core.specs.Stance.{stance_of};
 ghost use Rattle.rtc_peer_transport.specs.Connection.{no_transport};
 ghost use Rattle.rtc_run_history.specs.Fresh.{ArePeersFormed, IsFresh, IsJustBuilt};
-ghost use Rattle.rtc_run_plain.specs.ProgramPair.{host_at};
+ghost use Rattle.rtc_run_plain.specs.ProgramPair.{host_at, program_config};
 ghost use Rattle.rtc_run_faulty.specs.FaultyParts.{faulty_parts, fresh_faulty_dtls, fresh_faulty_association, fresh_faulty_media};
-ghost use Rattle.rtc_run_faulty.specs.FaultyPairs.{certified_config, IsFaultyPeer, IsFaultyPair};
+ghost use Rattle.rtc_run_faulty.specs.FaultyPairs.{IsFaultyPeer, IsFaultyPair};
 
 use crate::{CallWatch, FailingCalls, PartWatches};
 use rtc_assoc_end::PlainAssociation;
@@ -18,6 +18,7 @@ use rtc_faulty::{Counted, Faulty};
 use rtc_peer::{Candidate, Rtc, RtcConfig};
 use rtc_plain::{CountIds, PlainDtls, PlainIce, PlainMedia};
 use rtc_run::Pair;
+use rtc_run_plain::PeerSettings;
 use rtc_wire::{Addr, Moment, Protocol, Seq};
 use std::alloc::{AllocError, Global};
 
@@ -37,15 +38,24 @@ pub type FaultyPeer = Rtc<PlainIce, FaultyDtls, FaultyAssociation, FaultyMedia, 
 pub type FaultyPair = Pair<PlainIce, FaultyDtls, FaultyAssociation, FaultyMedia, CountIds>;
 
 #[tactic(auto, using(rtc_peer_core::proofs::BuiltPeers::formats_formed))]
-fn make_config(alloc: Global, cert: &str) -> Result<RtcConfig, AllocError>
+fn make_config(alloc: Global, settings: PeerSettings, cert: &str) -> Result<RtcConfig, AllocError>
     requires { length cert.now ≤ 1900 }
-    ensures value { IfOk result (λ config. config ≡ certified_config cert.now) }
+    ensures value { IfOk result (λ config. config ≡ program_config settings cert.now) }
     ensures formed { IfOk result (λ config. AreFormedFormats (config_formats config)) }
 {
     let mut bytes = Vec::new(alloc);
     bytes.extend_from_slice(cert.as_bytes())?;
     let config = RtcConfig::new(alloc)?;
-    Ok(config.set_dtls_cert(bytes))
+    Ok(
+        config
+            .set_ice_lite(settings.lite)
+            .set_dtls_cert(bytes)
+            .set_snap_enabled(settings.snap)
+            .set_sctp_max_buffered_amount(settings.max_buffered)
+            .set_sctp_max_message_size(settings.max_message_size)
+            .set_stats_interval(settings.stats_interval)
+            .set_polite(settings.polite),
+    )
 }
 
 fn count_dtls(alloc: Global, failing: Seq<u64>, watch: &CallWatch) -> Result<FaultyDtls, AllocError>
@@ -127,6 +137,7 @@ fn add_address(alloc: Global, rtc: &mut FaultyPeer, addr: Addr) -> Result<(), Al
 // A peer with a certificate and an address, whose numbers count up from `first`, and whose parts fail at these calls.
 fn make_peer(
     alloc: Global,
+    settings: PeerSettings,
     cert: &str,
     first: u64,
     addr: Addr,
@@ -134,28 +145,32 @@ fn make_peer(
     watches: &PartWatches,
 ) -> Result<FaultyPeer, AllocError>
     requires { length cert.now ≤ 1900 }
-    ensures peer { IfOk result (λ rtc. IsFaultyPeer alloc cert.now first addr failing rtc.core) }
-    ensures unconnected { IfOk result (λ rtc. rtc.transport ≡ no_transport true false None) }
+    ensures peer { IfOk result (λ rtc. IsFaultyPeer alloc settings cert.now first addr failing rtc.core) }
+    ensures unconnected { IfOk result (λ rtc. rtc.transport ≡ no_transport true false settings.stats_interval) }
     ensures fresh { IfOk result (λ rtc. IsJustBuilt (stance_of faulty_parts rtc.core)) }
     ensures unused { IfOk result (λ rtc. rtc.core.sctp.entries ≡ []) }
     ensures formed { IfOk result (λ rtc. IsHostCandidate (host_at addr) → IsFormed (stance_of faulty_parts rtc.core)) }
 {
-    let config = make_config(alloc, cert)?;
+    let config = make_config(alloc, settings, cert)?;
     let mut rtc = build_peer(alloc, config, first, failing, watches)?;
     add_address(alloc, &mut rtc, addr)?;
     Ok(rtc)
 }
 
-/// Two fresh peers at moment 0, each of the default configuration, whose certificates, addresses and first numbers are those of the
-/// pair that scripts are performed on. The parts of each fail at the calls that are listed for it.
+/// Two fresh peers at moment 0, each set to what is given, whose certificates, addresses and first numbers are those of the pair that
+/// scripts are performed on. The parts of each fail at the calls that are listed for it.
 pub fn make_faulty_pair(
     alloc: Global,
+    left_settings: PeerSettings,
+    right_settings: PeerSettings,
     left: FailingCalls,
     right: FailingCalls,
     left_watches: &PartWatches,
     right_watches: &PartWatches,
 ) -> Result<FaultyPair, AllocError>
-    ensures state { IfOk result (λ pair. IsFaultyPair alloc left right pair) }
+    ensures state { IfOk result (λ pair. IsFaultyPair alloc left_settings right_settings left right pair) }
+    ensures roles { IfOk result (λ pair.
+        (pair.left.core.polite ≡ left_settings.polite) × (pair.right.core.polite ≡ right_settings.polite)) }
     ensures fresh { IfOk result (λ pair. IsFresh faulty_parts pair) }
     ensures formed { IfOk result (λ pair. ArePeersFormed faulty_parts pair) }
 {
@@ -167,7 +182,23 @@ pub fn make_faulty_pair(
         ip: [2, 2, 2, 2],
         port: 2000,
     };
-    let left = make_peer(alloc, "abc", 1, left_addr, left, left_watches)?;
-    let right = make_peer(alloc, "def", 1_000_001, right_addr, right, right_watches)?;
+    let left = make_peer(
+        alloc,
+        left_settings,
+        "abc",
+        1,
+        left_addr,
+        left,
+        left_watches,
+    )?;
+    let right = make_peer(
+        alloc,
+        right_settings,
+        "def",
+        1_000_001,
+        right_addr,
+        right,
+        right_watches,
+    )?;
     Ok(Pair::new(alloc, left, right, left_addr, right_addr))
 }

@@ -1,6 +1,6 @@
 use Rattle.std.proofs.Common.{refl}
 use Rattle.rtc_run_plain.proofs.PlainPeers.{left_host, right_host}
-use Rattle.rtc_run_faulty.proofs.FaultyPeers.{faulty_pair_fresh, faulty_pair_formed}
+use Rattle.rtc_run_faulty.proofs.FaultyPeers.{faulty_pair_fresh, faulty_pair_formed, faulty_role}
 use Rattle.rtc_run_faulty.proofs.faulty_pair.make_faulty_pair.Goals as goal
 
 pub returns-clause-fresh : goal.returns-clause-fresh
@@ -24,3 +24,10 @@ returns-clause-state c =
       packets = refl;
       size = refl;
     })
+
+pub returns-clause-roles : goal.returns-clause-roles
+returns-clause-roles c =
+    rw c.new.ensures (
+      faulty_role _ _ _ _ _ _ _ c.in_ok-left.ensures.peer,
+      faulty_role _ _ _ _ _ _ _ c.in_ok-right.ensures.peer,
+    )

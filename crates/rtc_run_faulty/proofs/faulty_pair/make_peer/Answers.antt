@@ -9,22 +9,22 @@ add_address-requires c = built_has_no_candidate c.args.alloc c.in_ok-config.conf
 
 pub returns-clause-peer : goal.returns-clause-peer
 returns-clause-peer c =
-    faulty_peer c.args.alloc c.args.cert.now c.args.first c.args.addr c.args.failing c.in_ok-config.config c.in_ok-rtc.rtc.core c.add_address.new.rtc.core
+    faulty_peer c.args.alloc c.args.settings c.args.cert.now c.args.first c.args.addr c.args.failing c.in_ok-config.config c.in_ok-rtc.rtc.core c.add_address.new.rtc.core
     (record { config_is = c.in_ok-config.ensures.value; builds = c.in_ok-rtc.ensures.built; added = c.in_ok-add_address.ensures.added; rest = c.in_ok-add_address.ensures.others })
 
 pub returns-clause-fresh : goal.returns-clause-fresh
 returns-clause-fresh c =
-    faulty_fresh c.args.alloc c.args.cert.now c.args.first c.args.addr c.args.failing c.in_ok-config.config c.in_ok-rtc.rtc.core c.add_address.new.rtc.core
+    faulty_fresh c.args.alloc c.args.settings c.args.cert.now c.args.first c.args.addr c.args.failing c.in_ok-config.config c.in_ok-rtc.rtc.core c.add_address.new.rtc.core
     (record { config_is = c.in_ok-config.ensures.value; builds = c.in_ok-rtc.ensures.built; added = c.in_ok-add_address.ensures.added; rest = c.in_ok-add_address.ensures.others })
 
 pub returns-clause-unused : goal.returns-clause-unused
 returns-clause-unused c =
-    faulty_unused c.args.alloc c.args.cert.now c.args.first c.args.addr c.args.failing c.in_ok-config.config c.in_ok-rtc.rtc.core c.add_address.new.rtc.core
+    faulty_unused c.args.alloc c.args.settings c.args.cert.now c.args.first c.args.addr c.args.failing c.in_ok-config.config c.in_ok-rtc.rtc.core c.add_address.new.rtc.core
     (record { config_is = c.in_ok-config.ensures.value; builds = c.in_ok-rtc.ensures.built; added = c.in_ok-add_address.ensures.added; rest = c.in_ok-add_address.ensures.others })
 
 pub returns-clause-formed : goal.returns-clause-formed
 returns-clause-formed c =
-    faulty_formed c.args.alloc c.args.cert.now c.args.first c.args.addr c.args.failing c.in_ok-config.config c.in_ok-rtc.rtc.core c.add_address.new.rtc.core
+    faulty_formed c.args.alloc c.args.settings c.args.cert.now c.args.first c.args.addr c.args.failing c.in_ok-config.config c.in_ok-rtc.rtc.core c.add_address.new.rtc.core
     (record { config_is = c.in_ok-config.ensures.value; builds = c.in_ok-rtc.ensures.built; added = c.in_ok-add_address.ensures.added; rest = c.in_ok-add_address.ensures.others })
     c.in_ok-rtc.ensures.formed c.in_ok-config.ensures.formed
 
