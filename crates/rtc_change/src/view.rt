@@ -9,7 +9,7 @@ use rtc_sdp_values::IceCreds;
 use std::marker::Model;
 
 /// What a peer holds that an offer or an answer is judged by.
-#[derive(Clone, Copy, Debug)]
+#[derive(Debug, Drop)]
 pub struct View<'a> {
     pub lines: &'a Lines,
     /// Whether the ICE agent of this side is lite.
