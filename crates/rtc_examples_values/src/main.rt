@@ -1,5 +1,5 @@
-//! Runs stored examples of values: kinds of datagrams, open messages, hashes of certificates, copies, records of a file, sources and sinks of
-//! bytes, and configurations with their codecs.
+//! Runs stored examples of values: kinds of datagrams, open messages, hashes of certificates, copies, records of a file, sources and sinks
+//! of bytes, and configurations with their codecs.
 //!
 //! Each line of the input names a subject and an example of it. It is printed again behind `agrees` or `differs`.
 #![tactic(auto)]
