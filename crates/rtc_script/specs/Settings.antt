@@ -1,5 +1,5 @@
 -- What the settings of a script say of each side.
-use Rattle.std.specs.Prelude.{◌&&◌, ◌*◌, if◌then◌else◌, ℕ, Bool, true, false, List, [], ◌∷◌, Option, Some, None}
+use Rattle.std.specs.Prelude.{◌&&◌, ◌*◌, ◌^◌, ◌-◌, if◌then◌else◌, min, ℕ, Bool, true, false, List, [], ◌∷◌, Option, Some, None}
 use Rattle.std.specs.List.{list_any}
 use Rattle.rtc_run_history.specs.declared.side.Side.{Side}
 use Rattle.rtc_run_history.specs.Sides.{same_side}
@@ -71,13 +71,13 @@ max_message_by (Polite polite) size = size
 abbrev pub max_message_set : Side → List (Side × Setting) → ℕ
 max_message_set at settings = number_from max_message_by at settings 262144
 
--- the nanoseconds between two rounds of statistics by a setting, or else as before
+-- the nanoseconds between two rounds of statistics by a setting, at most 2^64 - 1, or else as before
 abbrev pub interval_by : Setting → Option ℕ → Option ℕ
 interval_by Lite interval = interval
 interval_by Snap interval = interval
 interval_by (Buffer size) interval = interval
 interval_by (MaxMessage size) interval = interval
-interval_by (Stats millis) interval = Some (millis * 1000000)
+interval_by (Stats millis) interval = Some (min (millis * 1000000) (2 ^ 64 - 1))
 interval_by (Polite polite) interval = interval
 
 abbrev pub interval_after : Side → Side × Setting → Option ℕ → Option ℕ

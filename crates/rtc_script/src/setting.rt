@@ -8,11 +8,11 @@ pub enum Setting {
     /// Its association may be started by session descriptions (draft-hancke-tsvwg-snap).
     Snap,
     /// How many bytes of its data channels may be buffered, at most 1000000000.
-    Buffer { size: u32 },
+    Buffer(u64),
     /// The longest message that it takes, in bytes, which its session descriptions carry (RFC 8841, section 6.1).
-    MaxMessage { size: u32 },
+    MaxMessage(u32),
     /// The time between two rounds of statistics in milliseconds, 1 to 1000000000.
-    Stats { millis: u32 },
+    Stats(u64),
     /// Whether it is the polite one on glare, or else the impolite one (RFC 3264, section 4).
     Polite(bool),
 }

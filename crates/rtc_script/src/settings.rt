@@ -50,7 +50,7 @@ fn read_buffer(number: &[u8]) -> Option<Setting>
     ensures none { IfNone result ((setting : Setting) → AreValueWords (codes "buffer" ∷ number.now ∷ []) setting → ⊥) }
 {
     let size = read_size(number)?;
-    Some(Setting::Buffer { size })
+    Some(Setting::Buffer(size as u64))
 }
 
 // The setting `maxmsg`, whose number is this.
@@ -60,7 +60,7 @@ fn read_max_message(number: &[u8]) -> Option<Setting>
     ensures none { IfNone result ((setting : Setting) → AreValueWords (codes "maxmsg" ∷ number.now ∷ []) setting → ⊥) }
 {
     let size = read_u32(number)?;
-    Some(Setting::MaxMessage { size })
+    Some(Setting::MaxMessage(size))
 }
 
 // The milliseconds between two rounds of statistics, 1 to 1000000000.
@@ -79,7 +79,7 @@ fn read_stats(number: &[u8]) -> Option<Setting>
     ensures none { IfNone result ((setting : Setting) → AreValueWords (codes "stats" ∷ number.now ∷ []) setting → ⊥) }
 {
     let millis = read_millis(number)?;
-    Some(Setting::Stats { millis })
+    Some(Setting::Stats(millis as u64))
 }
 
 // A setting of two words.

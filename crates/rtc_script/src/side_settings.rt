@@ -38,11 +38,9 @@ impl SideSettings {
         match setting {
             Setting::Lite => self.lite = true,
             Setting::Snap => self.snap = true,
-            Setting::Buffer { size } => self.max_buffered = size as usize,
-            Setting::MaxMessage { size } => self.max_message_size = size,
-            Setting::Stats { millis } => {
-                self.stats_interval = Some(Span::from_nanos(millis as u64 * 1_000_000));
-            }
+            Setting::Buffer(size) => self.max_buffered = size as usize,
+            Setting::MaxMessage(size) => self.max_message_size = size,
+            Setting::Stats(millis) => self.stats_interval = Some(Span::from_millis(millis)),
             Setting::Polite(polite) => self.polite = Some(polite),
         }
     }
