@@ -1,4 +1,5 @@
 pub mod PendingOffer
+pub mod EqualOffers
 pub mod Held
 pub mod TableAfter
 pub mod WrongLines

@@ -1,5 +1,7 @@
 //! Tokens of offers.
 ghost use Rattle.std.specs.Prelude.{◌≡◌};
+ghost use Rattle.std.specs.Cmp.{partial_equiv_from_equiv};
+ghost use Rattle.rtc_change.specs.EqualOffers.{same_pending, same_pending_equiv};
 
 use crate::Changes;
 use rtc_sdp_values::{Direction, Mid};
@@ -40,6 +42,24 @@ impl Model for SdpPendingOffer {
       says_init = token.sctp_init;
       undo = token.undo;
     } };
+}
+
+// Two tokens are equal if all that they keep is.
+impl PartialEq for SdpPendingOffer {
+    ghost eq = { same_pending };
+
+    ghost laws = { partial_equiv_from_equiv same_pending_equiv };
+
+    fn eq(&self, other: &SdpPendingOffer) -> bool {
+        self.change_id == other.change_id
+            && self.changes.0 == other.changes.0
+            && self.sctp_init == other.sctp_init
+            && self.undo == other.undo
+    }
+}
+
+impl Eq for SdpPendingOffer {
+    ghost laws = { same_pending_equiv };
 }
 
 impl SdpPendingOffer {
