@@ -47,7 +47,8 @@ same_held_equiv =
     (and_equiv (on_equiv (λ (h : Held). h.lite) bool_eq_equiv)
     (and_equiv (on_equiv (λ (h : Held). h.remote_creds) (options_equiv creds_laws.laws-law))
     (and_equiv (on_equiv (λ (h : Held). h.has_fingerprint) bool_eq_equiv)
-    (and_equiv (on_equiv (λ (h : Held). h.sctp_inited) bool_eq_equiv) (on_equiv (λ (h : Held). h.sctp_kept) (options_equiv nat_list_eq_equiv))))))
+    (and_equiv (on_equiv (λ (h : Held). h.sctp_inited) bool_eq_equiv)
+    (on_equiv (λ (h : Held). h.sctp_kept) (options_equiv nat_list_eq_equiv))))))
 
 -- what an answer is judged with: the rows that its offer added, whether its offer restarted ICE, and whether it had an `a=sctp-init`
 pub record Asked : Type 0 where
