@@ -42,7 +42,7 @@ impl<'a> Model for View<'a> {
 }
 
 fn have_same_creds(one: Option<&IceCreds>, other: Option<&IceCreds>) -> bool
-    ensures { result ≡ same_creds (option_copied one) (option_copied other) }
+    ensures { result ≡ same_creds (option_copied one.entry) (option_copied other.entry) }
 {
     match one {
         Some(creds) => match other {
@@ -54,7 +54,7 @@ fn have_same_creds(one: Option<&IceCreds>, other: Option<&IceCreds>) -> bool
 }
 
 fn have_same_text(one: Option<&str>, other: Option<&str>) -> bool
-    ensures { result ≡ same_text (option_map (λ text. text.now) one) (option_map (λ text. text.now) other) }
+    ensures { result ≡ same_text (option_map (λ text. text.now) one.entry) (option_map (λ text. text.now) other.entry) }
 {
     match one {
         Some(text) => match other {
