@@ -1,1 +1,2 @@
 pub mod HandleLoans
+mod NestedLoans

@@ -3,6 +3,7 @@ ghost use Rattle.std.specs.Prelude.{◌≡◌, ◌↔◌, [], IfOk, IfSome, IsNo
 ghost use mir.Syntax.{named};
 ghost use Rattle.std.specs.Borrow.{LendsSo, LendsSoOk, sem};
 ghost use Rattle.rtc_part_media.specs.NoStream.{StreamAnswers};
+ghost use Rattle.rtc_part_media.specs.StreamLends.{IfLent, LendsStream};
 ghost use Rattle.rtc_peer.specs.contracts.direct_api.DirectApi.{the_row};
 ghost use Rattle.rtc_peer_direct.specs.Streams.{gives_no_rx, gives_no_tx};
 ghost use Rattle.rtc_peer_direct.specs.Streams.{ExpectsRx, DeclaresTx, LendsRx, LendsTx, LendsNamedRx, LendsNamedTx, ResetsTx};
@@ -68,8 +69,7 @@ impl<'a, I: IceAgent, D: DtlsInstance, S: Association, M: MediaSession, N: Ids> 
         make_stream_tx(&mut rtc.polled, ssrc, rtx, mid, rid)
     }
 
-    /// `make_stream_rx` with None in place of the reason. Its contract says only when it lends nothing; that of
-    /// `make_stream_rx` also says what the peer is afterwards.
+    /// `make_stream_rx` with None in place of `Declined`.
     pub fn expect_stream_rx(
         &mut self,
         ssrc: Ssrc,
@@ -77,13 +77,18 @@ impl<'a, I: IceAgent, D: DtlsInstance, S: Association, M: MediaSession, N: Ids> 
         mid: Mid,
         rid: Option<Rid>,
     ) -> Result<Option<&mut M::Rx>, AllocError>
+        ensures* leaves { sem 𝓛 (LendsStream
+            (the_row (record { mir = named 1; lft = [] }) I.row D.row S.row M.row N.row)
+            M.Rx.row self.entry result
+            (λ n x. IfLent result (λ lent. (n.rtc.ghost_name ≡ self.old.rtc.ghost_name)
+            × ExpectsRx M.media ssrc rtx mid rid self.old.rtc.now lent.now x n.rtc.now))
+            (λ n. (n.rtc.ghost_name ≡ self.old.rtc.ghost_name) × (n.rtc.now ≡ self.old.rtc.now))) }
         ensures answer { IfOk result (λ lent. IsNone lent ↔ IsTrue (gives_no_rx M.media ssrc rtx mid rid self.old.rtc.now)) }
     {
         answer_of(self.make_stream_rx(ssrc, rtx, mid, rid))
     }
 
-    /// `make_stream_tx` with None in place of the reason. Its contract says only when it lends nothing; that of
-    /// `make_stream_tx` also says what the peer is afterwards.
+    /// `make_stream_tx` with None in place of `Declined`.
     pub fn declare_stream_tx(
         &mut self,
         ssrc: Ssrc,
@@ -91,6 +96,12 @@ impl<'a, I: IceAgent, D: DtlsInstance, S: Association, M: MediaSession, N: Ids> 
         mid: Mid,
         rid: Option<Rid>,
     ) -> Result<Option<&mut M::Tx>, AllocError>
+        ensures* leaves { sem 𝓛 (LendsStream
+            (the_row (record { mir = named 1; lft = [] }) I.row D.row S.row M.row N.row)
+            M.Tx.row self.entry result
+            (λ n x. IfLent result (λ lent. (n.rtc.ghost_name ≡ self.old.rtc.ghost_name)
+            × DeclaresTx M.media ssrc rtx mid rid self.old.rtc.now lent.now x n.rtc.now))
+            (λ n. (n.rtc.ghost_name ≡ self.old.rtc.ghost_name) × (n.rtc.now ≡ self.old.rtc.now))) }
         ensures answer { IfOk result (λ lent. IsNone lent ↔ IsTrue (gives_no_tx M.media ssrc rtx mid rid self.old.rtc.now)) }
     {
         answer_of(self.make_stream_tx(ssrc, rtx, mid, rid))

@@ -1,0 +1,131 @@
+-- A result that lends a stream, with None in place of `Declined`: its loan, the rows of both results, and the words of walks over them.
+pub use mathlib.Core.Path.{◌≡◌, refl}
+pub use mathlib.Core.List.{List, [], ◌∷◌}
+pub use seplogic.Ra.Ura.{Ura}
+pub use base.Fml.{Lft, Fml, ftrue, flft}
+pub use base.Logic.{SProp, ent, sep, emp, via, id⊢, ex_e, fst∗, snd∗}
+pub use contract.BorrowLft.{◌⊑◌}
+pub use contract.Fact.{fact_i, fact_use}
+pub use contract.Lifetimes.{Lfts}
+pub use contract.Monad.{Fun, fact}
+pub use contract.Running.{tables}
+pub use denote.Exit.{yes, no}
+pub use denote.Laws.{Is, shows}
+pub use denote.Param.{bounded, param}
+pub use denote.Param.Laws.{Laws, param_laws}
+pub use denote.RattleType.{RattleType}
+pub use denote.Ref.{MutBor, mut_vals, mut_Tells}
+pub use denote.Signature.{plain, mut_ref_to, named_lft}
+pub use denote.Steps.{nothing, heard, peeks}
+pub use denote.Triple.Call.{calls_at}
+pub use denote.Triple.Clauses.{Clauses, Ended, ensured, lasts}
+pub use denote.Triple.Entry.{on_entry}
+pub use denote.Triple.Spec.{triple_of}
+pub use denote.Triple.Statement.{Contract, Triple}
+pub use denote.Triple.Table.{framed}
+pub use denote.Triple.Walked.{Stays, stay_dropped, walk_of, ends_at, Goes-spent_ref, Goes-dropped}
+pub use mir.MapTy.{inst_fn}
+pub use mir.Syntax.{Args, Dict, a_type, dcons, dnil, named}
+pub use prog.Memory.{Memory}
+pub use prog.Routine.{Routine}
+pub use types.ByLocal.{alloc_all, pass_all, free_all, look_at, get, through, sets, lands_as}
+pub use types.Kit.{rewrite, ‵, raw, ◌⊛◌, some, later, ◌$◌, ◌∵◌, !, qed, move, keep, drop, use0, use1, split, split3, join, pick, fjoin, suffices, await, done}
+pub use types.Logic.{Logic, sem}
+pub use types.Run.{stop, addr, and_then, no_more, returns, enter}
+pub use Rattle.std.proofs.raw_atomic.Walks.{proved}
+pub use Rattle.std.specs.Borrow.{LendsSoOk}
+use base.Fml.{GName}
+use base.Logic.{ex_i}
+use denote.Builtin.{One}
+use denote.Follow.{such_by, follows_if, follows_so}
+use denote.Param.Laws.{Told, enum_told, row_shared, of_field}
+use denote.Param.Shared.{mut_ref_shared}
+use denote.Ref.{MutRef, NamedLft}
+use denote.Struct.Field.{mut_ref_field}
+use denote.Struct.Laws.{mut_ref_laws}
+use mathlib.Core.Option as maybe
+use Rattle.std.proofs.Common.{arith}
+use Rattle.std.proofs.lemmas.Grind.{common_steps}
+use Rattle.std.proofs.alloc.AllocError.TheLaws as alloc_errors
+use Rattle.std.proofs.option.Option.TheLaws as options
+use Rattle.std.proofs.result.Result.TheLaws as results
+use Rattle.std.specs.Prelude.{◌↔◌, Bool, Result, Ok, Err, IfOk, IsNone, IsTrue}
+use Rattle.std.specs.contracts.alloc.AllocError as A-type
+use Rattle.std.specs.contracts.option.Option as O-type
+use Rattle.std.specs.contracts.result.Result as R-type
+use Rattle.rtc_sdp_values.proofs.rid.Rid.TheLaws as rids
+use Rattle.rtc_sdp_values.proofs.ssrc.Ssrc.TheLaws as ssrcs
+use Rattle.rtc_sdp_values.specs.contracts.rid.Rid as I-type
+use Rattle.rtc_sdp_values.specs.contracts.ssrc.Ssrc as S-type
+use Rattle.rtc_part_media.proofs.no_stream.NoStream.TheLaws as reasons
+use Rattle.rtc_part_media.specs.NoStream.{StreamAnswers, none_where_declined}
+use Rattle.rtc_part_media.specs.StreamLends.{IfLent, LendsStream}
+use Rattle.rtc_part_media.specs.contracts.no_stream.NoStream as N-type
+use Rattle.rtc_part_media.specs.declared.no_stream.NoStream.{NoStream}
+use Rattle.rtc_part_media.specs.declared.no_stream.NoStream.TheVariants.{Declined, Alloc}
+
+-- what ends a loan may be replaced by what follows from it
+follows_weaker : {M : Type 1} {𝓤 : Ura M} (𝓛 : Logic 𝓤) (R T : RattleType) (of : GName) (lent : maybe.Option GName)
+    (P P' : T.Denot → R.Denot → Type 0) (Q Q' : R.Denot → Type 0)
+    → ((x : T.Denot) (n : R.Denot) → P x n → P' x n) → ((n : R.Denot) → Q n → Q' n)
+    → ent 𝓤 (sem 𝓛 (follows_so R T of lent P Q)) (sem 𝓛 (follows_so R T of lent P' Q'))
+unfolding such_by
+follows_weaker {𝓤 = 𝓤} 𝓛 R T of lent P P' Q Q' f g =
+    ex_e 𝓤 _ (λ y. ex_i 𝓤 (λ (z : (ends : (T.Denot → R.Denot) × R.Denot) × ((x : T.Denot) → P' x (ends.0 x)) × Q' ends.1). sem 𝓛 (follows_if R T of lent z.0.0 z.0.1))
+    (y.0, (λ x. f x (y.0.0 x) (y.1 x)), g y.0.1 y.2))
+
+-- the loan of a result is that of the result with None in place of `Declined`
+pub lent_without_reason : {M : Type 1} {𝓤 : Ura M} (𝓛 : Logic 𝓤) (R T : RattleType) (s : MutBor R.Denot) (r : Result (MutBor T.Denot) NoStream)
+    (P : MutBor T.Denot → R.Denot → T.Denot → Type 0) (Q : R.Denot → Type 0)
+    → ent 𝓤 (sem 𝓛 (LendsSoOk R T s r (λ n x. IfOk r (λ lent. P lent n x)) Q))
+    (sem 𝓛 (LendsStream R T s (none_where_declined r) (λ n x. IfLent (none_where_declined r) (λ lent. P lent n x)) Q))
+lent_without_reason 𝓛 R T s (Ok x) P Q = follows_weaker 𝓛 R T s.ghost_name (maybe.some x.ghost_name) _ _ _ _ (λ w n h. h refl) (λ n h. tt)
+lent_without_reason 𝓛 R T s (Err Declined) P Q = follows_weaker 𝓛 R T s.ghost_name maybe.none _ _ _ _ (λ w n h. tt) (λ n h. h)
+lent_without_reason 𝓛 R T s (Err Alloc) P Q = follows_weaker 𝓛 R T s.ghost_name maybe.none _ _ _ _ (λ w n h. tt) (λ n h. h)
+
+-- the result has None exactly if there was none to give
+pub none_without_reason : {X : Type 0} (none : Bool) (r : Result X NoStream) → StreamAnswers none r
+    → IfOk (none_where_declined r) (λ x. IsNone x ↔ IsTrue none)
+none_without_reason none (Ok x) h = grind (arith, common_steps)
+none_without_reason none (Err Declined) h = grind (arith, common_steps)
+none_without_reason none (Err Alloc) h = grind (arith, common_steps)
+
+-- a fact may be put behind what is held
+pub with_fact : {M : Type 1} {𝓤 : Ura M} (𝓛 : Logic 𝓤) (φ : Type 0) → φ → (P : SProp 𝓤) → ent 𝓤 P (sep 𝓤 P (sep 𝓤 (fact 𝓤 φ) (emp 𝓤)))
+with_fact {𝓤 = 𝓤} 𝓛 φ holds P =
+    qed 𝓛 (raw P ∷ []) ∵ nothing ! $ use0 𝓛 (raw (fact 𝓤 φ)) (fact_i 𝓤 φ (emp 𝓤) holds) $ join ! $ move ! (1 ∷ 0 ∷ []) $ join ! $ done !
+
+-- an RTX SSRC and a rid that may be missing, as rows and as what the machine stores
+abbrev pub Rtx : RattleType
+Rtx = O-type.the_row S-type.the_row
+
+abbrev pub Rid : RattleType
+Rid = O-type.the_row I-type.the_row
+
+abbrev pub rtx_told : Told Rtx
+rtx_told = enum_told (O-type.the_type S-type.the_row) (options.the_laws S-type.the_row ssrcs.the_row_laws ssrcs.the_told)
+
+abbrev pub rid_told : Told Rid
+rid_told = enum_told (O-type.the_type I-type.the_row) (options.the_laws I-type.the_row rids.the_row_laws rids.the_told)
+
+-- a stream that is lent, the result with the reason, and the one with None
+abbrev Lent : Lft → RattleType → RattleType
+Lent κ R = MutRef (named 0) κ R
+
+abbrev pub Reasoned : Lft → RattleType → RattleType
+Reasoned κ R = R-type.the_row (Lent κ R) N-type.the_row
+
+abbrev pub Nested : Lft → RattleType → RattleType
+Nested κ R = R-type.the_row (O-type.the_row (Lent κ R)) A-type.the_row
+
+module _ (κ : Lft) (R : RattleType) (one : One R.mir) (laws : Laws R) where
+  lent_laws : Laws (Lent κ R)
+  lent_laws =
+      let at : NamedLft = record { mir = named 0; lft = κ } in
+      of_field (mut_ref_field at R one) (mut_ref_laws at R one) refl (mut_ref_shared at R one (row_shared R laws))
+
+  pub reasoned_laws : Laws (Reasoned κ R)
+  reasoned_laws = results.the_row_laws (Lent κ R) N-type.the_row lent_laws reasons.the_row_laws
+
+  pub nested_laws : Laws (Nested κ R)
+  nested_laws = results.the_row_laws (O-type.the_row (Lent κ R)) A-type.the_row (options.the_row_laws (Lent κ R) lent_laws) alloc_errors.the_row_laws
