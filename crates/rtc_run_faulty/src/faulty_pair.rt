@@ -174,31 +174,23 @@ pub fn make_faulty_pair(
     ensures fresh { IfOk result (λ pair. IsFresh faulty_parts pair) }
     ensures formed { IfOk result (λ pair. ArePeersFormed faulty_parts pair) }
 {
-    let left_addr = Addr {
+    let left_at = Addr {
         ip: [1, 1, 1, 1],
         port: 1000,
     };
-    let right_addr = Addr {
+    let right_at = Addr {
         ip: [2, 2, 2, 2],
         port: 2000,
     };
-    let left = make_peer(
-        alloc,
-        left_settings,
-        "abc",
-        1,
-        left_addr,
-        left,
-        left_watches,
-    )?;
+    let left = make_peer(alloc, left_settings, "abc", 1, left_at, left, left_watches)?;
     let right = make_peer(
         alloc,
         right_settings,
         "def",
         1_000_001,
-        right_addr,
+        right_at,
         right,
         right_watches,
     )?;
-    Ok(Pair::new(alloc, left, right, left_addr, right_addr))
+    Ok(Pair::new(alloc, left, right, left_at, right_at))
 }
