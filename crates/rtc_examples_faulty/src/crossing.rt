@@ -4,9 +4,10 @@ use crate::part::Part;
 use crate::performing::perform;
 use crate::ran::Ran;
 use crate::refusals::{error_of, have_same_lines, is_fault_of};
-use rtc_peer::RtcError;
+use crate::table::number;
+use rtc_peer::{LineRow, RtcError};
 use rtc_plain::PlainMediaEvent;
-use rtc_run_history::{Outcome, Reply, Side};
+use rtc_run_history::{Outcome, Reply, Side, Table};
 use std::alloc::{AllocError, Global};
 
 // Numbers of calls are below.
@@ -101,11 +102,19 @@ fn is_due(act: Act, reply: &Reply<PlainMediaEvent>) -> bool {
     }
 }
 
-// Whether the last replies of the two sides have the one line of channels that was answered.
+// Whether a table has one line, of data channels.
+fn has_channels_alone(table: &Table) -> bool {
+    match table.lines.as_slice() {
+        [LineRow::App { .. }] => true,
+        _ => false,
+    }
+}
+
+// Whether the replies to the answer and to its acceptance have the one line of data channels.
 fn have_met(replies: &[Reply<PlainMediaEvent>], answered: usize, ended: usize) -> bool {
     match (replies.get(answered), replies.get(ended)) {
         (Some(answer), Some(end)) => match &end.table {
-            Some(table) => (table.lines.len() == 1)
+            Some(table) => has_channels_alone(table)
                 & have_same_lines(answer.table.as_ref(), Some(table)),
             None => false,
         },
@@ -125,35 +134,43 @@ fn answer_place(acts: &[Act]) -> usize {
     place
 }
 
+// Whether a fault of a part refused a step, which leaves the lines.
+fn is_refused(reply: &Reply<PlainMediaEvent>, part: Part, before: Option<&Table>) -> bool {
+    match error_of(reply) {
+        Some(error) => is_fault_of(error, part) & have_same_lines(before, reply.table.as_ref()),
+        None => false,
+    }
+}
+
 // Whether the steps behind the offers ended as they do, up to the first that a fault of the part of the left peer refused.
 fn holds(crossing: &Crossing, acts: &[Act], part: Part, ran: &Ran) -> bool {
     let replies = ran.replies.as_slice();
-    let failed = ran.faults.of(part) > 0;
+    let mut lines = None;
     let mut place = 2usize;
     for act in acts {
         let Some(reply) = replies.get(place) else {
             return false;
         };
         if !is_due(*act, reply) {
-            return match error_of(reply) {
-                Some(error) => failed & crossing.is_left(*act) & is_fault_of(error, part),
-                None => false,
-            };
+            return crossing.is_left(*act)
+                & is_refused(reply, part, lines)
+                & (ran.faults.of(part) == 1);
+        }
+        if crossing.is_left(*act) {
+            lines = reply.table.as_ref();
         }
         place = place.saturating_add(1);
     }
-    failed | have_met(replies, answer_place(acts), 5)
+    have_met(replies, answer_place(acts), 5)
 }
 
-// The runs of one order, with a fault at each number: whether all hold, and how many calls failed.
+// The runs of one order, with a fault at each number: whether all hold, and in how many a call failed.
 fn cross(
     alloc: Global,
-    left_polite: bool,
-    polite_first: bool,
+    crossing: &Crossing,
     acts: &[Act],
     part: Part,
 ) -> Result<(bool, u64), AllocError> {
-    let crossing = Crossing::new(left_polite, polite_first);
     let mut course = Course::new(alloc);
     crossing.offer(alloc, &mut course)?;
     for act in acts {
@@ -162,36 +179,35 @@ fn cross(
     let Some(steps) = course.front(course.len()) else {
         return Ok((false, 0));
     };
+    let polite = crossing.polite == Side::Left;
     let mut all = true;
     let mut failed = 0u64;
     for number in 0..NUMBERS {
         let numbers = [number];
-        let ran = perform(alloc, Some(left_polite), part, &numbers, steps)?;
+        let ran = perform(alloc, Some(polite), part, &numbers, steps)?;
         let own = ran.faults.are_of(part) & ran.others.are_none();
-        all = all & own & holds(&crossing, acts, part, &ran);
+        all = all & own & holds(crossing, acts, part, &ran);
         failed = failed.saturating_add(ran.faults.of(part));
     }
     Ok((all, failed))
 }
 
 /// Whether offers that cross end as they do if no part fails, in each order, with either offer first, and with a fault at
-/// each number of a call; or a fault refused a step. The line names the part, and the role of the left peer. A polite left
-/// peer answers, so that it begins the handshake of DTLS (RFC 8842, section 5.3), where its part may fail.
+/// each number of a call; or a fault refused a step. The line names the part, the role of the left peer, and how many calls
+/// of the part its steps make.
 pub fn does_meet(alloc: Global, line: &str) -> Result<bool, AllocError> {
     let mut words = line.split(' ');
     let part = words.next().and_then(Part::read);
     let left_polite = words.next() == Some("polite");
+    let calls = number(words.next());
     let Some(part) = part else {
         return Ok(false);
     };
     let mut all = true;
-    let mut failed = 0u64;
     for acts in &ORDERS {
-        let first = cross(alloc, left_polite, true, acts, part)?;
-        let second = cross(alloc, left_polite, false, acts, part)?;
-        all = all & first.0 & second.0;
-        failed = failed.saturating_add(first.1).saturating_add(second.1);
+        let first = cross(alloc, &Crossing::new(left_polite, true), acts, part)?;
+        let second = cross(alloc, &Crossing::new(left_polite, false), acts, part)?;
+        all = all & first.0 & (first.1 == calls) & second.0 & (second.1 == calls);
     }
-    let fails = left_polite & (part == Part::Dtls);
-    Ok(all & (!fails | (failed > 0)))
+    Ok(all)
 }

@@ -9,8 +9,8 @@ use std::alloc::{AllocError, Global};
 // Numbers of calls are below.
 const NUMBERS: u64 = 64;
 
-// A number of digits; 0 if it is none.
-fn number(word: Option<&str>) -> u64 {
+/// A number of digits; 0 if it is none.
+pub fn number(word: Option<&str>) -> u64 {
     match word {
         Some(word) => word.parse().unwrap_or(0),
         None => 0,
