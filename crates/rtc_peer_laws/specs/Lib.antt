@@ -11,3 +11,4 @@ pub mod Exchanging
 pub mod MediaRows
 pub mod Weight
 pub mod PeerCalls
+pub mod EventEquality

@@ -7,6 +7,7 @@ mod changes;
 mod closed;
 mod direct;
 mod drained;
+mod events;
 mod exchanging;
 mod joined;
 mod kept;
@@ -21,6 +22,7 @@ pub use changes::changes_act;
 pub use closed::closed_peers_stay_closed;
 pub use direct::{direct_calls_act, direct_media_acts, loans_act};
 pub use drained::{drained_peers_have_heard, drained_peers_rest, wakes_are_not_past};
+pub use events::equals_itself;
 pub use exchanging::exchanges_keep_peers_joined;
 pub use joined::{
     calls_keep_peers_joined, calls_without_datagrams_carry_no_data,
