@@ -17,10 +17,11 @@ class Unwritten(Exception):
 
 
 # What a side is set to: how many bytes may be buffered, the longest message that it takes, where 0 stands for any length, whether its
-# association may be started by descriptions, and whether it is the polite one where two offers cross, if it has a role.
+# association may be started by descriptions, whether it is the polite one where two offers cross, if it has a role, and whether its agent
+# is lite.
 class Sizes:
-    def __init__(self, buffered=131072, longest=262144, snap=False, polite=None):
-        self.buffered, self.longest, self.snap, self.polite = buffered, longest, snap, polite
+    def __init__(self, buffered=131072, longest=262144, snap=False, polite=None, lite=False):
+        self.buffered, self.longest, self.snap, self.polite, self.lite = buffered, longest, snap, polite, lite
 
 
 # A packet of the association: what it says, and how many bytes it has.

@@ -4,8 +4,8 @@
 usage: tests/random_scripts.py crates/rtc_pair/out/rtc_pair [SEED [COUNT]]
 
 It is no part of the gate. The model below is written from the rules of docs/FORMATS.md and not from the program: lists of
-rows, what an offer and an answer say, by which cause a text is refused, and which numbers are drawn; tests/connections.py has what
-moments, datagrams and polls do. A random script goes round by round for the most part, with steps in
+rows, what an offer and an answer say, by which cause a text is refused, and which numbers are drawn; tests/descriptions.py has how texts
+are read, and tests/connections.py what moments, datagrams and polls do. A random script goes round by round for the most part, with steps in
 between that cross, repeat or lose texts and datagrams.
 """
 import random
@@ -15,6 +15,7 @@ import sys
 from associations import Sizes, Unwritten, open_message
 from connections import FAR_FUTURE, SECOND, Connection
 from datagram_bytes import NoDatagram, data_bytes, datagram_bytes, read_datagram
+from descriptions import NO_CHUNK, Line, Refused, Said, judge_group, read
 from foreign_texts import foreign_text
 
 INVERSE = {"sendrecv": "sendrecv", "sendonly": "recvonly", "recvonly": "sendonly", "inactive": "inactive"}
@@ -23,28 +24,47 @@ OTHER = {"L": "R", "R": "L"}
 NAMES = {"audio": "Audio", "video": "Video", "app": "Application"}
 
 
-class Refused(Exception):
-    pass
+def remote(told):
+    return Refused(f"1 remote sdp: {told}")
 
 
 def moved(mid):
-    return Refused(f"1 remote sdp: Changed order for m-line with mid: {mid}")
+    return remote(f"Changed order for m-line with mid: {mid}")
+
+
+# What a fragment is drawn with.
+def credentials_of(ufrag):
+    return ufrag.encode(), (ufrag[1:] * 2).encode()
 
 
 # The chunks by which the association of a side is started, where descriptions tell both (draft-hancke-tsvwg-snap): its own and the other
-# side's, where they are there. A chunk is known by its two draws.
+# side's, where they are there.
 class Halves:
     def __init__(self):
         self.own, self.other = None, None
 
+    def are_told(self):
+        return self.own is not None and self.other is not None
 
-# The row of the data channels has the kind "app" and no direction; it is never stopped.
+
+# The row of the data channels has the kind "app" and no direction; it is never stopped. `layers` are how many layers the side sends and
+# receives, if they are named.
 class Row:
-    def __init__(self, mid, kind, direction, stopped=False, remote=False):
-        self.mid, self.kind, self.direction, self.stopped, self.remote = mid, kind, direction, stopped, remote
+    def __init__(self, mid, kind, direction, stopped=False, remote=False, layers=None):
+        self.mid, self.kind, self.direction, self.stopped, self.remote, self.layers = mid, kind, direction, stopped, remote, layers
 
     def copy(self):
-        return Row(self.mid, self.kind, self.direction, self.stopped, self.remote)
+        return Row(self.mid, self.kind, self.direction, self.stopped, self.remote, self.layers)
+
+    def line(self):
+        return Line(self.mid, self.kind, self.direction, not self.stopped, self.layers)
+
+
+# What an offer has to be answered with: the number of the counter, the new rows with their SSRCs, the new channels, whether it carries a
+# chunk, the rows as they were before its step, and the fragment of its restart, if it restarts ICE.
+class Token:
+    def __init__(self, number, added, channels, carries_chunk, undo, restart):
+        self.number, self.added, self.channels, self.carries_chunk, self.undo, self.restart = number, added, channels, carries_chunk, undo, restart
 
 
 class Peer:
@@ -53,13 +73,21 @@ class Peer:
         self.next, self.rows, self.staged, self.counter, self.sources = first, [], [], 0, {}
         self.undo, self.awaits = [], False  # rows as they were before ops changed them; whether an offer awaits its answer
         self.draw()  # the number of the session
-        self.ufrag = f"u{self.draw():016x}"
+        self.ufrag = self.draw_ufrag()
+        self.known, self.fingerprint = None, False  # the credentials of the other side; whether its fingerprint is known
         self.connection = Connection(self.ufrag, sizes)
         self.pending, self.begun = None, None
 
     def draw(self):
         self.next += 1
         return self.next - 1
+
+    def draw_ufrag(self):
+        return f"u{self.draw():016x}"
+
+    def draw_chunk(self):
+        tag, window, first = self.draw() % 2**32 or 1, max(1048576, self.sizes.longest or 2**32 - 1), self.draw() % 2**32
+        return b"\1\0\0\x14" + tag.to_bytes(4, "big") + window.to_bytes(4, "big") + b"\xff" * 4 + first.to_bytes(4, "big")
 
     def draw_source(self, earlier):
         number = self.draw() % 2**32
@@ -68,10 +96,10 @@ class Peer:
             number = (number + 1) % 2**32
         return number
 
-    # For video the source of the retransmissions is drawn first.
-    def draw_sources(self, kind, earlier):
+    # For each layer that is sent, or for a line without layers. For video the source of the retransmissions is drawn first.
+    def draw_sources(self, row, earlier):
         drawn = []
-        for _ in range(2 if kind == "video" else 1):
+        for _ in range((2 if row.kind == "video" else 1) * (row.layers[0] if row.layers else 1)):
             drawn.append(self.draw_source(earlier + drawn))
         return drawn
 
@@ -88,7 +116,8 @@ class Peer:
     def add(self, kind, direction):
         mid = self.draw_mid()
         self.draw(), self.draw()  # the names of the stream and of the track
-        self.staged.append(("line", Row(mid, kind, direction), self.draw_sources(kind, [])))
+        row = Row(mid, kind, direction)
+        self.staged.append(("line", row, self.draw_sources(row, [])))
         return mid
 
     def add_channel(self, label):
@@ -99,6 +128,12 @@ class Peer:
             self.staged.append(("line", Row(self.draw_mid(), "app", None), []))
         self.staged.append(("channel", number, label))
         return f"c{number}"
+
+    # A restart of ICE takes the place of one that is staged.
+    def restart(self):
+        ufrag = self.draw_ufrag()
+        self.staged = [entry for entry in self.staged if entry[0] != "restart"] + [("restart", ufrag, None)]
+        return ufrag
 
     def change(self, place, direction, stop):
         if place >= len(self.rows) or self.rows[place].kind == "app":
@@ -118,33 +153,42 @@ class Peer:
     # This side's chunk, which is drawn where it is not there, and pending with that of the other side, if one is told.
     def tell_chunk(self, other=None):
         self.pending = self.pending or Halves()
-        self.pending.own = self.pending.own or (self.draw(), self.draw())
-        self.pending.other = other or self.pending.other
+        self.pending.own = self.draw_chunk() if self.pending.own is None else self.pending.own
+        self.pending.other = self.pending.other if other is None else other
         return self.pending.own
 
-    # The chunk that an offer of these lines tells.
-    def offered_chunk(self, text):
-        if self.sizes.snap and not self.is_started() and any(row.kind == "app" for row in text):
+    # The chunk that an offer of these rows tells.
+    def offered_chunk(self, rows):
+        if self.sizes.snap and not self.is_started() and any(row.kind == "app" for row in rows):
             return self.tell_chunk()
         return self.begun.own if self.begun else None
 
     # Once the association was started by the chunks of both sides, the other side tells the same one.
     def judge_chunk(self, chunk):
         if self.begun and chunk is None:
-            raise Refused("1 remote sdp: Missing a=sctp-init for established SNAP SCTP association")
+            raise remote("Missing a=sctp-init for established SNAP SCTP association")
         if self.begun and chunk != self.begun.other:
-            raise Refused("1 remote sdp: Changed a=sctp-init for existing SCTP association")
+            raise remote("Changed a=sctp-init for existing SCTP association")
 
-    # Follows a description of the other side, with the chunk of a start that is taken from it: the first line of data channels starts the
-    # association, and what is pending goes.
-    def follow(self, other, active, chunk):
+    # Follows a description of the other side. The chunk that is taken from it is pending; what is no chunk drops what is pending. The first
+    # line of data channels starts the association, and what is pending goes.
+    def follow(self, said, chunk):
         started = self.is_started()
-        if chunk and not started:
+        if chunk is NO_CHUNK:
+            self.pending = None
+        elif chunk is not None and not started:
             self.tell_chunk(chunk)
-        told = bool(self.pending and self.pending.own and self.pending.other)
-        self.connection.follow(other.ufrag, active, self.has_channels(), other.sizes.longest, told)
+        told, ufrag = bool(self.pending and self.pending.are_told()), said.credentials[0].decode("latin-1")
+        self.known, self.fingerprint = said.credentials, True
+        self.connection.follow(ufrag, said.setup == "passive", self.has_channels(), said.longest, told)
         if self.is_started() and not started:
             self.begun, self.pending = self.pending if told else None, None
+
+    # What a description of these rows says. Credentials and the fingerprint stand in its lines.
+    def describe(self, rows, ufrag, setup, chunk):
+        lines = [row.line() for row in rows]
+        groups, credentials = [[line.mid for line in lines if line.port]], credentials_of(ufrag) if rows else None
+        return Said(lines, groups, self.sizes.lite, credentials, bool(rows), setup, chunk, self.sizes.longest)
 
     # Channels alone make no offer, and supersede the token that is outstanding all the same.
     def apply(self):
@@ -157,21 +201,22 @@ class Peer:
             self.confirm(channels)
             return None
         added = [(row, sources) for what, row, sources in staged if what == "line"]
-        text = [row.copy() for row in self.rows] + [row.copy() for row, _ in added]
-        chunk, self.awaits = self.offered_chunk(text), True
-        return text, chunk, (counter, added, channels, chunk is not None, undo)
+        restart = next((ufrag for what, ufrag, _ in staged if what == "restart"), None)
+        rows = self.rows + [row for row, _ in added]
+        chunk, self.awaits = self.offered_chunk(rows), True
+        said = self.describe(rows, restart or self.ufrag, "actpass", chunk)
+        return said, Token(counter, added, channels, chunk is not None, undo, restart)
 
     # The rows that were set or stopped for an offer are as they were, and the channels that were added with it and never confirmed go.
     def roll_back(self, token):
         self.staged, self.undo = [], []
-        if self.counter != token[0] + 1:
-            raise Refused("7 Changes made out of order")
+        self.judge_token(token)
         self.counter, self.awaits = self.counter + 1, False
-        for mid, direction, stopped in token[4]:
+        for mid, direction, stopped in token.undo:
             for row in self.rows:
                 if row.mid == mid:
                     row.direction, row.stopped = direction, stopped
-        for number, _ in token[2]:
+        for number, _ in token.channels:
             self.connection.channels.cancel(number)
 
     def confirm(self, channels):
@@ -181,15 +226,13 @@ class Peer:
     def has_channels(self):
         return any(row.kind == "app" for row in self.rows)
 
-    # The places of the new lines, where no cause refuses the text.
+    # The places of the new lines, where no cause refuses one.
     def judge(self, text, offer):
-        if all(line.stopped for line in text):
-            raise Refused("2 BUNDLE group is empty")
-        if len({line.mid for line in text}) < len(text):
-            raise Refused("2 mid is repeated")
         new, apps = [], [place for place, row in enumerate(self.rows) if row.kind == "app"]
         for place, line in enumerate(text):
             found = [i for i, row in enumerate(self.rows) if row.mid == line.mid]
+            if line.kind == "unknown":
+                raise moved(line.mid)
             if line.kind == "app":
                 if any(earlier.kind == "app" for earlier in text[:place]) or (apps and apps[0] != place):
                     raise moved(line.mid)
@@ -204,8 +247,7 @@ class Peer:
             if place in apps:
                 raise moved(line.mid)
             if place < len(self.rows) and not offer:
-                told = "Answer recycles stopped m-line (not permitted per RFC 8829 §5.2.2)"
-                raise Refused(f"1 remote sdp: {told}: {line.mid}")
+                raise remote(f"Answer recycles stopped m-line (not permitted per RFC 8829 §5.2.2): {line.mid}")
             if place < len(self.rows) and not self.rows[place].stopped:
                 raise moved(line.mid)
             new.append(place)
@@ -213,18 +255,18 @@ class Peer:
 
     def judge_new(self, text, new, added):
         if len(new) != len(added):
-            raise Refused(f"1 remote sdp: Differing m-line count in offer vs answer: {len(added)} != {len(new)}")
+            raise remote(f"Differing m-line count in offer vs answer: {len(added)} != {len(new)}")
         places = {row.mid: len(self.rows) + i for i, (row, _) in enumerate(added)}
         kinds = {row.mid: row.kind for row, _ in added}
         for place in new:
             line = text[place]
             if line.mid not in places:
-                raise Refused(f"1 remote sdp: Mid in answer is not in offer: {line.mid}")
+                raise remote(f"Mid in answer is not in offer: {line.mid}")
             if kinds[line.mid] != line.kind and "app" in (kinds[line.mid], line.kind):
                 told = "a data channel" if kinds[line.mid] == "app" else "of media type"
-                raise Refused(f"1 remote sdp: Answer m-line for mid ({line.mid}) is not {told}: {NAMES[line.kind]}")
+                raise remote(f"Answer m-line for mid ({line.mid}) is not {told}: {NAMES[line.kind]}")
             if kinds[line.mid] != line.kind:
-                raise Refused(f"1 remote sdp: Answer m-line for mid ({line.mid}) is of another kind")
+                raise remote(f"Answer m-line for mid ({line.mid}) is of another kind")
             if places[line.mid] != place:
                 raise moved(line.mid)
 
@@ -232,12 +274,13 @@ class Peer:
         if line.kind == "app":
             own = [row for row in self.rows if row.kind == "app"]
             return own[0] if own else Row(line.mid, "app", None)
-        if line.stopped or (before and before.stopped):
-            return Row(line.mid, line.kind, "inactive", True, before.remote if before else offer)
+        created, layers = before.remote if before else offer, before and before.layers
+        if line.rejected or (before and before.stopped):
+            return Row(line.mid, line.kind, "inactive", True, created, layers)
         direction = INVERSE[line.direction]
         if before and not before.remote and before.direction == "inactive" and direction == "sendonly":
             direction = "inactive"
-        return Row(line.mid, line.kind, direction, False, before.remote if before else offer)
+        return Row(line.mid, line.kind, direction, False, created, layers or (line.layers and line.layers[::-1]))
 
     def take(self, text, offer, new, added):
         known = {row.mid: row for row in self.rows}
@@ -247,7 +290,7 @@ class Peer:
         drawn, earlier = {}, []
         for row in after:
             if row.direction in ("sendrecv", "sendonly") and row.mid not in sourced:
-                drawn[row.mid] = self.draw_sources(row.kind, earlier)
+                drawn[row.mid] = self.draw_sources(row, earlier)
                 earlier += drawn[row.mid]
         for mid in gone:
             self.sources.pop(mid, None)
@@ -262,53 +305,73 @@ class Peer:
         if self.sizes.polite is False and self.awaits:
             raise Refused("10 offer collides with a pending offer")
 
-    # Credentials stand in the lines of a text.
-    def judge_lines(self, text, offer):
-        if not text:
-            raise Refused(f"1 remote sdp: {'No m-lines in offer' if offer else 'missing a=ice-ufrag/pwd'}")
+    # A token is right until this side applies something, rolls it back or is given an offer.
+    def judge_token(self, token):
+        if self.counter != token.number + 1:
+            raise Refused("7 Changes made out of order")
 
-    # An offer of the other side leaves the choice of the role, and this side then waits for the handshake. The answer, and the chunk that
-    # it tells.
-    def accept_offer(self, text, chunk, other, active=False):
+    # What a text says of its side. Without a fingerprint the peer is closed.
+    def judge_side(self, said, restarts):
+        if self.sizes.lite and said.lite:
+            raise remote("Both peers being ICE-Lite not supported")
+        if said.credentials is None:
+            raise remote("missing a=ice-ufrag/pwd")
+        if self.known and self.known != said.credentials and not restarts:
+            raise remote("Ice restart in answer without one in the preceeding offer")
+        if not self.fingerprint and not said.fingerprint:
+            self.connection.phase = "closed"
+            raise remote("missing a=fingerprint")
+        self.judge_chunk(said.chunk)
+        judge_group(said)
+
+    # An offer of the other side leaves the choice of the role, and this side then waits for the handshake. Other credentials restart ICE
+    # here too. What the answer says.
+    def accept_offer(self, said):
         self.staged, self.undo = [], []
         self.judge_collision()
         self.counter, self.awaits = self.counter + 1, False
-        self.judge_lines(text, True)
-        self.judge_chunk(chunk)
-        new = self.judge(text, True)
-        self.take(text, True, new, [])
-        self.follow(other, active, chunk)
-        return [row.copy() for row in self.rows], self.begun.own if self.begun else None
+        if not said.lines:
+            raise remote("No m-lines in offer")
+        self.judge_side(said, True)
+        new = self.judge(said.lines, True)
+        if self.known and self.known != said.credentials:
+            self.ufrag = self.draw_ufrag()
+        self.take(said.lines, True, new, [])
+        self.follow(said, said.chunk)
+        setup = "active" if self.connection.dtls.active else "passive"
+        return self.describe(self.rows, self.ufrag, setup, self.begun.own if self.begun else None)
 
-    # A chunk is taken from an answer where its offer told one too; an answer that tells none lets what is pending go.
-    def accept_answer(self, token, text, chunk, other, active):
+    # A chunk is taken from an answer where its offer carried one; an answer that tells none lets what is pending go.
+    def accept_answer(self, token, said):
         self.staged, self.undo = [], []
-        if self.counter != token[0] + 1:
-            raise Refused("7 Changes made out of order")
+        self.judge_token(token)
         self.awaits = False
-        self.judge_lines(text, False)
-        self.judge_chunk(chunk)
-        new = self.judge(text, False)
-        self.judge_new(text, new, token[1])
-        self.take(text, False, new, token[1])
-        chunk = chunk if token[3] else None
-        if not chunk:
+        self.judge_side(said, token.restart)
+        new = self.judge(said.lines, False)
+        self.judge_new(said.lines, new, token.added)
+        self.ufrag = token.restart or self.ufrag
+        self.take(said.lines, False, new, token.added)
+        if said.chunk is None or said.chunk is NO_CHUNK:
             self.pending = None
-        self.follow(other, active, chunk)
-        self.confirm(token[2])
+        self.follow(said, said.chunk if token.carries_chunk else None)
+        self.confirm(token.channels)
+
+
+# The bytes that a word tells.
+def content_of(word):
+    return b"" if word == "-" else bytes.fromhex(word)
 
 
 class Pair:
-    # `settings` are words behind a side, of which the last one counts; `snap` and the roles have no number.
+    # `settings` are words behind a side, of which the last one counts; `lite`, `snap` and the roles have no number.
     def __init__(self, settings=()):
         sizes = {"L": Sizes(), "R": Sizes()}
         for at, name, *number in settings:
-            kept = {"buffer": "buffered", "maxmsg": "longest", "snap": "snap", "polite": "polite", "impolite": "polite"}[name]
+            kept = {"buffer": "buffered", "maxmsg": "longest", "impolite": "polite"}.get(name, name)
             setattr(sizes[at], kept, number[0] if number else name != "impolite")
         self.settings = [" ".join(["set", at, name, *map(str, number)]) for at, name, *number in settings]
         self.peers = {"L": Peer(1, sizes["L"]), "R": Peer(1000001, sizes["R"])}
         self.texts, self.tokens, self.lines, self.report = [], {}, [], ""
-        self.foreign = {}  # by the words of foreign texts: their rows, their setup, or the line that refuses them
         self.datagrams = []
 
     def perform_ops(self, at, verb, words):
@@ -321,75 +384,64 @@ class Pair:
             elif parts[0] == "stop":
                 answers.append(peer.change(int(parts[1]), "inactive", True))
             elif parts[0] == "channel":
-                answers.append(peer.add_channel(b"" if parts[1] == "-" else bytes.fromhex(parts[1])))
+                answers.append(peer.add_channel(content_of(parts[1])))
+            elif parts[0] == "restart":
+                answers.append(peer.restart())
             else:
                 answers.append(peer.add(parts[0], parts[1]))
         made = peer.apply() if verb == "offer" else None
         number = "-"
         if made:
             number = len(self.texts)
-            text, chunk, self.tokens[number] = made[0], made[1], (at, made[2])
-            self.texts.append((at, True, text, chunk, None))
+            self.tokens[number] = (at, made[1])
+            self.texts.append((at, True, made[0]))
         return f"ops {','.join(answers) or '-'} text {number}"
 
     def text_for(self, at, offer, number):
         if number < len(self.texts) and self.texts[number][:2] == (OTHER[at], offer):
-            return self.texts[number][2:]
+            return self.texts[number][2]
         return None
 
-    def hand_offer(self, at, number):
-        text = self.text_for(at, True, number)
-        if text is None:
-            return "nosuch"
-        peer = self.peers[at]
-        answer, chunk = peer.accept_offer(text[0], text[1], self.peers[OTHER[at]])
-        self.texts.append((at, False, answer, chunk, peer.connection.dtls.active))
+    def accept(self, at, said):
+        self.texts.append((at, False, self.peers[at].accept_offer(said)))
         return f"answered {len(self.texts) - 1}"
 
-    # A text in the name of the other side, which did not make it, or one that is damaged at this line, or before it where the line parts
-    # would be others without it.
+    def finish(self, at, token, said):
+        self.peers[at].accept_answer(self.tokens.pop(token)[1], said)
+        return "finished"
+
+    # The rows that a text says.
+    def rows_of(self, number):
+        return [Row(line.mid, line.kind, line.direction, not line.port) for line in self.texts[number][2].lines]
+
+    def has_token(self, at, token):
+        return self.tokens.get(token, (None,))[0] == at
+
+    def hand_offer(self, at, number):
+        said = self.text_for(at, True, number)
+        return self.accept(at, said) if said else "nosuch"
+
+    def hand_answer(self, at, token, number):
+        said = self.text_for(at, False, number)
+        return self.finish(at, token, said) if said and self.has_token(at, token) else "nosuch"
+
+    # A text in the name of the other side, which did not make it, or one that is damaged at this line.
     def write_foreign(self, at, rows, setup, damaged=None):
         other = self.peers[OTHER[at]]
         lines = foreign_text(OTHER[at], other.ufrag, other.sizes.longest, rows, setup)
         if damaged is not None:
             damaged = min(damaged, len(lines) - 1)
-            while lines[damaged].startswith(("m=", "a=mid:")):
-                damaged -= 1
             lines[damaged] = "?" + lines[damaged]
-        word = "".join(f"{line}\r\n" for line in lines).encode().hex()
-        self.foreign[word] = rows, setup, None if damaged is None else damaged + 1
-        return word
-
-    def read_foreign(self, word):
-        rows, setup, refused = self.foreign[word]
-        if refused is not None:
-            raise Refused(f"2 SDP parse error at line {refused}")
-        return [row.copy() for row in rows], setup == "passive"
+        return "".join(f"{line}\r\n" for line in lines).encode().hex()
 
     def hand_foreign_offer(self, at, word):
-        rows, active = self.read_foreign(word)
-        peer = self.peers[at]
-        answer, chunk = peer.accept_offer(rows, None, self.peers[OTHER[at]], active)
-        self.texts.append((at, False, answer, chunk, peer.connection.dtls.active))
-        return f"answered {len(self.texts) - 1}"
+        return self.accept(at, read(content_of(word)))
 
     def hand_foreign_answer(self, at, token, word):
-        if self.tokens.get(token, (None,))[0] != at:
-            return "nosuch"
-        rows, active = self.read_foreign(word)
-        self.peers[at].accept_answer(self.tokens.pop(token)[1], rows, None, self.peers[OTHER[at]], active)
-        return "finished"
-
-    def hand_answer(self, at, token, number):
-        text = self.text_for(at, False, number)
-        if text is None or self.tokens.get(token, (None,))[0] != at:
-            return "nosuch"
-        rows, chunk, active = text
-        self.peers[at].accept_answer(self.tokens.pop(token)[1], rows, chunk, self.peers[OTHER[at]], not active)
-        return "finished"
+        return self.finish(at, token, read(content_of(word))) if self.has_token(at, token) else "nosuch"
 
     def roll_back(self, at, number):
-        if self.tokens.get(number, (None,))[0] != at:
+        if not self.has_token(at, number):
             return "nosuch"
         self.peers[at].roll_back(self.tokens.pop(number)[1])
         return "done"
@@ -403,7 +455,7 @@ class Pair:
     # Bytes of anybody, which come from the address of the other side.
     def hand_raw(self, at, now, word):
         try:
-            datagram = read_datagram(b"" if word == "-" else bytes.fromhex(word))
+            datagram = read_datagram(content_of(word))
         except NoDatagram as cause:
             return f"refused 3 {cause}"
         self.peers[at].connection.take(datagram, now)
@@ -414,7 +466,7 @@ class Pair:
         stream = connection.open_stream(number)
         if stream is None:
             return "nosuch"
-        message = bytes.fromhex("" if word == "-" else word)
+        message = content_of(word)
         try:
             taken = connection.streams.write(stream, kind == "binary", message)
         except Unwritten as cause:
@@ -615,9 +667,9 @@ def connect(chance, pair, at):
     pair.perform(f"{at} {chance.choices(steps, [3, 3, 4, 3, 2])[0]}")
 
 
-# The rows of a side as a text might say them: as they are, or with a row that is new, gone, moved, changed or stopped.
-def foreign_rows(chance, pair, at):
-    rows = [row.copy() for row in pair.peers[at].rows]
+# Rows as a text might say them: as they are, or with a row that is new, gone, moved, changed or stopped.
+def foreign_rows(chance, rows):
+    rows = [row.copy() for row in rows]
     for _ in range(chance.choice([0, 1, 1, 2])):
         place, kind = chance.randrange(len(rows) + 1), chance.choice(["audio", "video", "app"])
         change = chance.choice(["new", "new", "gone", "moved", "direction", "stopped"])
@@ -636,11 +688,11 @@ def foreign_rows(chance, pair, at):
 def random_foreign(chance, pair, at):
     damaged = chance.randrange(40) if chance.random() < 0.1 else None
     offer = chance.random() < 0.6
-    rows = foreign_rows(chance, pair, chance.choice([at, OTHER[at]]))
+    rows = foreign_rows(chance, pair.peers[chance.choice([at, OTHER[at]])].rows)
     if not offer and chance.random() < 0.7 and pair.tokens:
         token = chance.choice(list(pair.tokens))
         at = pair.tokens[token][0]
-        rows = [row.copy() for row in pair.texts[token][2]] if chance.random() < 0.7 else rows
+        rows = pair.rows_of(token) if chance.random() < 0.7 else rows
     word = pair.write_foreign(at, rows, chance.choice(["actpass", "active", "passive"]) if offer else chance.choice(["active", "passive"]), damaged)
     if offer:
         pair.perform(f"{at} foreignoffer {word}")
