@@ -153,12 +153,13 @@ def count_peers(how, channels, messages, size):
 # Channels that two peers open at once, a moment that is given to both and at which nothing is due, and channels that are given streams. The
 # answer of the latter is the stream of the last channel.
 def streams():
-    print("| Open channels | Opening them at once | A moment with nothing due, at both | A channel |\n|---|---|---|---|")
+    print("| Open channels | Opening them at once | A channel | A moment with nothing due, at both |\n|---|---|---|---|")
     start = count_peers("one", 0, 0, 0)
-    for channels in (1, 10, 100):
+    for channels in (1, 10, 100, 1_000, 10_000):
         opened = count_peers("idle", channels, 1, 0)
         idle = (count_peers("idle", channels, 11, 0) - opened) // 10
-        print(f"| {channels:,} | {opened - idle - start:,} | {idle:,} | {idle // channels:,} |")
+        more = opened - idle - start
+        print(f"| {channels:,} | {more:,} | {more // channels:,} | {idle:,} |")
     print("\n| Channels given streams at once | Instructions | A channel |\n|---|---|---|")
     for channels in (100, 1_000, 10_000, 30_000):
         more = count_work(2 * (channels - 1), "channels", "allocate", channels, 1) - count_work(0, "channels", "allocate", channels, 0)
@@ -166,18 +167,22 @@ def streams():
 
 
 # A message through two peers over parts in memory, by the last of so many open channels, until it is read and acknowledged; the longest
-# one is as long as what a peer buffers. Opening a thousand channels takes most of the time. What the program itself takes to make the
-# message is not in the figures. A packet has at most 1034 bytes of it.
+# one is as long as what a peer buffers. What the program itself takes to make the message is not in the figures. A packet has at most
+# 1034 bytes of it. Then a message over each of so many channels, in turn.
 def channels():
     def cost(open_channels, messages, size):
         return count_peers("one", open_channels, messages, size)
 
     print("| Open channels | Bytes | Instructions | A byte | A packet |\n|---|---|---|---|---|")
-    for open_channels in (1, 10, 100, 1_000):
+    for open_channels in (1, 10, 100, 1_000, 10_000):
         start = cost(open_channels, 0, 0)
         for size in (1_024, 131_072, 262_144):
             more = cost(open_channels, 1, size) - start - (cost(1, 0, size) - cost(1, 0, 0))
             print(f"| {open_channels:,} | {size:,} | {more:,} | {more / size:.1f} | {more // -(-size // 1034):,} |")
+    print("\n| Open channels | A message of 1,024 bytes over each, in turn | A message |\n|---|---|---|")
+    for open_channels in (10, 100, 1_000):
+        more = count_peers("turn", open_channels, open_channels, 1_024) - count_peers("turn", open_channels, 0, 1_024)
+        print(f"| {open_channels:,} | {more:,} | {more // open_channels:,} |")
 
 
 # The greatest memory of a program, in KiB. Its parent is small, since the memory of a parent before the program starts counts too.

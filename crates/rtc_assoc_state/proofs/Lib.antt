@@ -12,8 +12,10 @@ pub mod SettlingLemmas
 pub mod RaiseLemmas
 pub mod BufferedLemmas
 pub mod ReadableLemmas
+pub mod SilentLemmas
 pub mod KeepLemmas
 pub mod WorkLemmas
 pub mod DoesLemmas
 pub mod StartLemmas
+pub mod CourseLemmas
 pub mod PlainLaws

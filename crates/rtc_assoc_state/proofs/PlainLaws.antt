@@ -17,44 +17,20 @@ use Rattle.rtc_assoc_state.specs.Outbox.{buffered}
 use Rattle.rtc_assoc_state.specs.Contents.{Contents, is_started, generation_of, is_finished, has_unread, has_stream, closed_here, buffered_of, work, held_outputs}
 use Rattle.rtc_assoc_state.specs.Calls.{connected, accepted, snapped, opened, sent, message_written, next_message, stream_ended, thresholded, shut_down, event_given, packet_given}
 use Rattle.rtc_assoc_state.specs.PlainMeaning.{plain_meaning, Does, Leaves, Sends, Reads, Polls, Transmits, ending_cause, open_cause, write_cause, end_cause, stream_cause}
-use Rattle.rtc_assoc_state.proofs.RaiseLemmas.{raises_none, generation-put, own_generation, finished-put, own_close}
+use Rattle.rtc_assoc_state.proofs.RaiseLemmas.{raises_none}
+use Rattle.rtc_assoc_state.proofs.SilentLemmas.{SilentRows}
 use Rattle.rtc_assoc_state.proofs.ReadableLemmas.{some-unread, none-unread}
 use Rattle.rtc_part_association.specs.AssociationEvents.{AddsEvents}
 use Rattle.rtc_assoc_state.specs.Inbox.{Inbox, is_message_of}
 use Rattle.std.specs.List.{list_any}
 use Rattle.rtc_assoc_state.specs.declared.stream_row.StreamRow.{StreamRow}
-use Rattle.rtc_assoc_state.proofs.KeepLemmas.{KeepsContents, keeps_none, keeps_limited, keeps_opened, keeps_sent, keeps_taken_out, keeps_ended, keeps_shut_down, keeps_half, keeps_input, keeps_timed}
+use Rattle.rtc_assoc_state.proofs.KeepLemmas.{KeepsContents, Silent, keeps_none, keeps_limited, keeps_opened, keeps_sent, keeps_taken_out, keeps_ended, keeps_shut_down, keeps_half, keeps_input, keeps_timed}
+use Rattle.rtc_assoc_state.proofs.CourseLemmas.{courses_set}
 use Rattle.rtc_assoc_state.proofs.WorkLemmas.{work-opened, work-thresholded, work-written, work-ended, work-shut_down, work-taken_out, work-half, work-input}
 use Rattle.rtc_assoc_state.proofs.StartLemmas.{started-connected, started-accepted, started-snapped, leaves_started, raised_starts, inbox_starts}
-use Rattle.rtc_assoc_state.proofs.StartLemmas.{streams-connected, streams-accepted, streams-snapped, same_generation}
+use Rattle.rtc_assoc_state.proofs.StartLemmas.{streams-connected, streams-accepted, streams-snapped, streams_start, same_generation}
 use Rattle.rtc_assoc_state.proofs.BufferedLemmas.{buffered-append, buffered-pieces}
 use Rattle.rtc_assoc_state.proofs.DoesLemmas.{does_answered, refused_changes_nothing, refused_again, unrefused, does_leaves, does_sends, does_writes, gives, times, Popped, polls_some, polls_none, transmits_some, transmits_none, reads_some, reads_none}
-
--- a threshold that is set keeps the start and the course of generations
-pub record Courses (p q : Contents) : Type 0 where
-  pub started : is_started q ≡ is_started p
-  pub max_send : q.limits.max_send ≡ p.limits.max_send
-  pub generations : (id : ℕ) → generation_of q id ≡ generation_of p id
-  pub finishes : (id : ℕ) → is_finished q id ≡ is_finished p id
-  pub events : q.events ≡ p.events
-  pub inbox : q.inbox ≡ p.inbox
-
-courses_none : (p : Contents) → Courses p p
-courses_none p = record { started = refl; max_send = refl; generations = λ id. refl; finishes = λ id. refl; events = refl; inbox = refl }
-
-courses_thresholded : (id n : ℕ) (p : Contents) → Courses p (thresholded id n p)
-unfolding thresholded
-courses_thresholded id n p = record {
-  started = refl;
-  max_send = refl;
-  generations = generation-put (record (stream_of id p.streams) { threshold = Some n }) p.streams (own_generation id p.streams);
-  finishes = finished-put (record (stream_of id p.streams) { threshold = Some n }) p.streams (own_close id p.streams);
-  events = refl;
-  inbox = refl;
-}
-
-courses_set : (p q : Contents) (id n : ℕ) (r : Result (Unit {0}) AssocError) → Does (stream_cause p id) p (Leaves (thresholded id n p)) r q → Courses p q
-courses_set p q id n r h = does_leaves (Courses p) (stream_cause p id) p (thresholded id n p) q r (courses_none p) (courses_thresholded id n p) h
 
 -- every act but a start, an event and a threshold keeps; each of these is told apart
 pub data Kept (p : Contents) (act : AssociationAct) (brings : Bool) (q : Contents) : Type 0 where
@@ -67,7 +43,7 @@ keeps_same : (p q : Contents) → q ≡ p → KeepsContents p q
 keeps_same p q e = subst (KeepsContents p) (sym e) (keeps_none p)
 
 packet_keeps : (packets : List (List ℕ)) (p : Contents) → KeepsContents p (packet_given packets p)
-packet_keeps packets p = record { started = refl; max_send = refl; raises = raises_none p.streams p.events; readable = λ id g u. inl u }
+packet_keeps packets p = record { started = refl; max_send = refl; raises = raises_none p.streams p.events; readable = λ id g u. inl u; silent = λ h. h }
 
 keeps_stirs : (p q : Contents) (h : Stirs plain_meaning p q) → Kept p (Stirred Other) (is_threshold_set plain_meaning p q h) q
 keeps_stirs p q (LimitsSet n m h) = Keeping refl (subst (KeepsContents p) (sym h) (keeps_limited n m p))
@@ -111,6 +87,7 @@ adds p q act b (Keeping t k) = record {
   rises = k.raises.rises;
   in_order = k.raises.in_order;
   readable = k.readable;
+  gone = k.raises.gone;
 }
 adds p q act b (Starting a k) =
     let r = raised_starts p q k in
@@ -120,6 +97,7 @@ adds p q act b (Starting a k) =
       rises = r.rises;
       in_order = r.in_order;
       readable = λ id g u. inl (ap (λ (i : Inbox). list_any (is_message_of id g) i.unread) (sym (inbox_starts p q k)) ∙ u);
+      gone = r.gone;
     }
 adds p q act b (Telling e w a k) = record {
   more = [];
@@ -127,6 +105,7 @@ adds p q act b (Telling e w a k) = record {
   rises = λ id. omega (arith, ap (λ (c : Contents). generation_of c id) k);
   in_order = λ id. ap (λ (c : Contents). is_finished c id) k;
   readable = λ id g u. inl (ap (λ (c : Contents). has_unread c id g) (sym k) ∙ u);
+  gone = λ id t. inl (ap (λ (c : Contents). has_stream c id) k ∙ t);
 }
 adds p q act b (Setting i n t o k) =
     let c = courses_set p q i n (Ok tt) k in
@@ -136,7 +115,21 @@ adds p q act b (Setting i n t o k) =
       rises = λ id. omega (arith, c.generations id);
       in_order = c.finishes;
       readable = λ id g u. inl (ap (λ (b : Inbox). list_any (is_message_of id g) b.unread) (sym c.inbox) ∙ u);
+      gone = λ id t. inl (c.stays id t);
     }
+
+silent_by : (p q : Contents) → q.streams ≡ p.streams → q.inbox ≡ p.inbox → Silent p → Silent q
+silent_by p q s i h =
+    let P : List StreamRow → Type 0 = λ rows. SilentRows rows q.inbox.unread in
+    let Q : Inbox → Type 0 = λ b. SilentRows p.streams b.unread in
+    subst P (sym s) (subst Q (sym i) h)
+
+-- no act gives a stream that this end closed a message of its generation
+silent_act : (p q : Contents) (act : AssociationAct) (b : Bool) → Kept p act b q → Silent p → Silent q
+silent_act p q act b (Keeping t k) = k.silent
+silent_act p q act b (Starting a k) = silent_by p q (streams_start p q k) (inbox_starts p q k)
+silent_act p q act b (Telling e w a k) = silent_by p q (ap (λ (c : Contents). c.streams) k) (ap (λ (c : Contents). c.inbox) k)
+silent_act p q act b (Setting id n t o k) = (courses_set p q id n (Ok tt) k).silent
 
 no_threshold : (p q : Contents) (act : AssociationAct) (b : Bool) → Kept p act b q → b ≡ false → any_threshold p.streams ≡ false → any_threshold q.streams ≡ false
 no_threshold p q act b (Keeping o k) e f = k.raises.thresholds f
@@ -216,6 +209,10 @@ both_hold : (a b : Bool) → (a && b) ≡ true → a ≡ true
 both_hold true b e = refl
 both_hold false b e = absurd cc
 
+both_held : (a b : Bool) → (a && b) ≡ true → b ≡ true
+both_held true b e = e
+both_held false b e = absurd cc
+
 abbrev AtMost : Contents → ℕ → Contents → Type 0
 AtMost p n q = work q ≤ work p + n
 
@@ -253,8 +250,10 @@ plain_laws = record {
   read_unread = λ p q id m h. let w = reads_some (next_message id p) id p q m h.1 in some-unread id (generation_of p id) p.inbox.unread w.0 w.1.0;
   none_unread = λ p q id h. none-unread id (generation_of p id) p.inbox.unread (reads_none (next_message id p) id p q h.1).0;
   stale_there = λ p id h. both_hold (has_stream p id) (closed_here p id) h;
+  stale_closed = λ p id h. both_held (has_stream p id) (closed_here p id) h;
   none_buffered = λ p id h. ap (λ b. cond b (buffered id p.outbox.items) 0) h;
   adds = λ p q act h. adds p q act (brings_threshold plain_meaning p q act h) (keeps_act p q act h);
+  closed_silent = λ p q act h. silent_act p q act (brings_threshold plain_meaning p q act h) (keeps_act p q act h);
   poll_head = λ p q e h. let w = polls_some p.events p q e h in w.0.is ∙ ap (λ (c : Contents). e ∷ c.events) (sym w.1);
   poll_none = λ p q h. (polls_none p.events p q h).0;
   faults_rise = λ p q act h. omega arith;

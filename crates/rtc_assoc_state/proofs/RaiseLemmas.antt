@@ -1,11 +1,13 @@
 -- What every call does to generations, completed resets and thresholds.
-use Rattle.std.proofs.Common.{ℕ, zero, suc, ◌≡◌, ◌+◌, ◌==◌, ◌&&◌, ◌||◌, not, inl, inr, Bool, true, false, cond, List, [], ◌∷◌, ◌++◌, refl, sym, ap, ◌∙◌, arith, append-nil, append_assoc}
+use Rattle.std.proofs.Common.{ℕ, zero, suc, ◌≡◌, ◌+◌, ◌==◌, ◌&&◌, ◌||◌, not, inl, inr, Bool, true, false, cond, ◌⊎◌, List, [], ◌∷◌, ◌++◌, refl, sym, ap, ◌∙◌, arith, append-nil, append_assoc}
 use Rattle.std.specs.Prelude.{is_some}
 use Rattle.std.proofs.lemmas.Bool.Decides.{eqb_tells}
 use Rattle.rtc_part_association.specs.declared.assoc_event.AssocEvent.{AssocEvent}
 use Rattle.rtc_part_association.specs.declared.assoc_event.AssocEvent.TheVariants.{Finished, ResetComplete, BufferedAmountLow}
 use Rattle.rtc_part_association.specs.AssociationWords.{completions}
+use Rattle.rtc_part_values.specs.Among.{Member}
 use Rattle.rtc_part_association.specs.AssociationEvents.{InOrder}
+use Rattle.rtc_part_association.proofs.AmongLemmas.{member-left, member-right}
 use Rattle.rtc_part_association.proofs.AssociationLemmas.{completions-append, in_order-append}
 use Rattle.rtc_assoc_packets.specs.declared.item.Item.{Item}
 use Rattle.rtc_assoc_packets.specs.declared.item_part.ItemPart.{ItemPart}
@@ -76,9 +78,10 @@ pub record Raises (streams now : List StreamRow) (events told : List AssocEvent)
   pub rises : (id : ℕ) → (stream_of id now).generation ≡ (stream_of id streams).generation + completions id more
   pub in_order : (id : ℕ) → InOrder id (stream_of id streams).finished more (stream_of id now).finished
   pub thresholds : any_threshold streams ≡ false → any_threshold now ≡ false
+  pub gone : (id : ℕ) → (stream_of id streams).there ≡ true → ((stream_of id now).there ≡ true) ⊎ Member (ResetComplete id) more
 
 pub raises_none : (streams : List StreamRow) (events : List AssocEvent) → Raises streams streams events events
-raises_none s e = record { more = []; told_is = sym (append-nil e); rises = λ id. omega arith; in_order = λ id. refl; thresholds = λ h. h }
+raises_none s e = record { more = []; told_is = sym (append-nil e); rises = λ id. omega arith; in_order = λ id. refl; thresholds = λ h. h; gone = λ id t. inl t }
 
 unfoldable pub raises_join : (a b c : List StreamRow) (x y z : List AssocEvent) → Raises a b x y → Raises b c y z → Raises a c x z
 raises_join a b c x y z h k = record {
@@ -87,6 +90,10 @@ raises_join a b c x y z h k = record {
   rises = λ id. omega (arith, h.rises id, k.rises id, completions-append id h.more k.more);
   in_order = λ id. in_order-append id (stream_of id a).finished (stream_of id b).finished (stream_of id c).finished h.more k.more (h.in_order id) (k.in_order id);
   thresholds = λ t. k.thresholds (h.thresholds t);
+  gone = λ id t. elim (h.gone id t) [
+    | inl x ↦ elim (k.gone id x) [ inl y ↦ inl y | inr y ↦ inr (member-right (ResetComplete id) h.more k.more y) ]
+    | inr x ↦ inr (member-left (ResetComplete id) h.more k.more x)
+  ];
 }
 
 -- events of no close and no reset
@@ -101,6 +108,7 @@ raises_told s e more h = record {
   rises = λ id. omega (arith, h.completes id);
   in_order = λ id. h.in_order id (stream_of id s).finished;
   thresholds = λ t. t;
+  gone = λ id t. inl t;
 }
 
 -- a row that keeps its generation
@@ -119,13 +127,30 @@ finished-put row s f id =
       | inr h ↦ ap (λ (r : StreamRow). r.finished) (stream_of-put_other id row s h.0)
     ]
 
-pub raises_put : (row : StreamRow) (streams : List StreamRow) (events : List AssocEvent) → row.generation ≡ (stream_of row.stream streams).generation → row.finished ≡ (stream_of row.stream streams).finished → (any_threshold streams ≡ false → is_some row.threshold ≡ false) → Raises streams (put row streams) events events
-raises_put row s e g f t = record {
+-- a row of a stream that is there where it was
+pub there-put : (row : StreamRow) (streams : List StreamRow) → ((stream_of row.stream streams).there ≡ true → row.there ≡ true) → (id : ℕ) → (stream_of id streams).there ≡ true → (stream_of id (put row streams)).there ≡ true
+there-put row s f id t =
+    elim (eqb_tells row.stream id) [
+      | inl h ↦ ap (λ (r : StreamRow). r.there) (stream_of-put_by id row s) ∙ rw h.0 (f (ap (λ k. (stream_of k s).there) h.1 ∙ t))
+      | inr h ↦ ap (λ (r : StreamRow). r.there) (stream_of-put_other id row s h.0) ∙ t
+    ]
+
+-- a stream whose reset is complete is gone, and each other one stays
+gone-reset : (row : StreamRow) (streams : List StreamRow) (id : ℕ) → (stream_of id streams).there ≡ true → ((stream_of id (put (reset_row row) streams)).there ≡ true) ⊎ (ResetComplete id ≡ ResetComplete row.stream)
+gone-reset row s id t =
+    elim (eqb_tells row.stream id) [
+      | inl h ↦ inr (ap ResetComplete (sym h.1))
+      | inr h ↦ inl (ap (λ (r : StreamRow). r.there) (stream_of-put_other id (reset_row row) s h.0) ∙ t)
+    ]
+
+pub raises_put : (row : StreamRow) (streams : List StreamRow) (events : List AssocEvent) → row.generation ≡ (stream_of row.stream streams).generation → row.finished ≡ (stream_of row.stream streams).finished → (any_threshold streams ≡ false → is_some row.threshold ≡ false) → ((stream_of row.stream streams).there ≡ true → row.there ≡ true) → Raises streams (put row streams) events events
+raises_put row s e g f t there = record {
   more = [];
   told_is = sym (append-nil e);
   rises = λ id. omega (arith, generation-put row s g id);
   in_order = λ id. finished-put row s f id;
   thresholds = λ h. any_threshold-put row s h (t h);
+  gone = λ id k. inl (there-put row s there id k);
 }
 
 told_once : (s id : ℕ) → completions id (ResetComplete s ∷ []) ≡ cond (s == id) 1 0
@@ -146,23 +171,25 @@ raises_reset row s e g f = record {
   more = ResetComplete row.stream ∷ [];
   told_is = refl;
   rises = generation-reset row s g;
-  in_order = λ id. (λ k. ap (λ j. (stream_of j s).finished) (sym k) ∙ f, gone id);
+  in_order = λ id. (λ k. ap (λ j. (stream_of j s).finished) (sym k) ∙ f, taken_up id);
   thresholds = λ h. any_threshold-put (reset_row row) s h refl;
+  gone = λ id t. elim (gone-reset row s id t) [ inl k ↦ inl k | inr k ↦ inr (inl k) ];
 }
   where
-    gone : (id : ℕ) → (stream_of id (put (reset_row row) s)).finished ≡ (not (row.stream == id) && (stream_of id s).finished)
-    gone id =
+    taken_up : (id : ℕ) → (stream_of id (put (reset_row row) s)).finished ≡ (not (row.stream == id) && (stream_of id s).finished)
+    taken_up id =
         let there = ap (λ (r : StreamRow). r.finished) (stream_of-put_by id (reset_row row) s) in
         elim (eqb_tells row.stream id) [ inl h ↦ rw h.0 (rw h.0 at there) | inr h ↦ rw h.0 (rw h.0 at there) ]
 
 -- the close of the other end
-pub raises_finished : (new : StreamRow) (streams : List StreamRow) (events : List AssocEvent) → new.generation ≡ (stream_of new.stream streams).generation → new.finished ≡ true → (any_threshold streams ≡ false → is_some new.threshold ≡ false) → Raises streams (put new streams) events (events ++ Finished new.stream ∷ [])
-raises_finished new s e g f t = record {
+pub raises_finished : (new : StreamRow) (streams : List StreamRow) (events : List AssocEvent) → new.generation ≡ (stream_of new.stream streams).generation → new.finished ≡ true → (any_threshold streams ≡ false → is_some new.threshold ≡ false) → new.there ≡ true → Raises streams (put new streams) events (events ++ Finished new.stream ∷ [])
+raises_finished new s e g f t there = record {
   more = Finished new.stream ∷ [];
   told_is = refl;
   rises = λ id. omega (arith, generation-put new s g id);
   in_order = closes;
   thresholds = λ h. any_threshold-put new s h (t h);
+  gone = λ id k. inl (there-put new s (λ o. there) id k);
 }
   where
     closes : (id : ℕ) → (stream_of id (put new s)).finished ≡ ((new.stream == id) || (stream_of id s).finished)
@@ -176,15 +203,16 @@ raises_finished_reset row s e g = record {
   more = Finished row.stream ∷ ResetComplete row.stream ∷ [];
   told_is = append_assoc e (Finished row.stream ∷ []) (ResetComplete row.stream ∷ []);
   rises = generation-reset row s g;
-  in_order = λ id. (was id, gone id);
+  in_order = λ id. (was id, taken_up id);
   thresholds = λ h. any_threshold-put (reset_row row) s h refl;
+  gone = λ id t. elim (gone-reset row s id t) [ inl k ↦ inl k | inr k ↦ inr (inr (inl k)) ];
 }
   where
     was : (id : ℕ) → row.stream ≡ id → ((row.stream == id) || (stream_of id s).finished) ≡ true
     was id k = elim (eqb_tells row.stream id) [ inl h ↦ rw h.0 refl | inr h ↦ absurd (h.1 k) ]
 
-    gone : (id : ℕ) → (stream_of id (put (reset_row row) s)).finished ≡ (not (row.stream == id) && ((row.stream == id) || (stream_of id s).finished))
-    gone id =
+    taken_up : (id : ℕ) → (stream_of id (put (reset_row row) s)).finished ≡ (not (row.stream == id) && ((row.stream == id) || (stream_of id s).finished))
+    taken_up id =
         let there = ap (λ (r : StreamRow). r.finished) (stream_of-put_by id (reset_row row) s) in
         elim (eqb_tells row.stream id) [ inl h ↦ rw h.0 (rw h.0 at there) | inr h ↦ rw h.0 (rw h.0 at there) ]
 
@@ -194,10 +222,13 @@ own_generation id s = ap (λ k. (stream_of k s).generation) (sym (stream_of-stre
 pub own_close : (id : ℕ) (streams : List StreamRow) → (stream_of id streams).finished ≡ (stream_of (stream_of id streams).stream streams).finished
 own_close id s = ap (λ k. (stream_of k s).finished) (sym (stream_of-stream id s))
 
+pub own_there : (id : ℕ) (streams : List StreamRow) → (stream_of (stream_of id streams).stream streams).there ≡ true → (stream_of id streams).there ≡ true
+own_there id s t = ap (λ k. (stream_of k s).there) (sym (stream_of-stream id s)) ∙ t
+
 queued_settled : (done can : Bool) (id : ℕ) (t : Told) → done ≡ (stream_of id t.streams).finished → let row = stream_of id t.streams in let r = cond (done && can) (told_of (put (reset_row row) t.streams) (t.events ++ ResetComplete row.stream ∷ [])) (told_of (put (record row { close = Acknowledged }) t.streams) t.events) in Raises t.streams r.streams t.events r.events
 queued_settled true true id t e = raises_reset (stream_of id t.streams) t.streams t.events (own_generation id t.streams) (sym (own_close id t.streams) ∙ sym e)
-queued_settled true false id t e = raises_put (record (stream_of id t.streams) { close = Acknowledged }) t.streams t.events (own_generation id t.streams) (own_close id t.streams) (λ h. threshold-stream_of id t.streams h)
-queued_settled false can id t e = raises_put (record (stream_of id t.streams) { close = Acknowledged }) t.streams t.events (own_generation id t.streams) (own_close id t.streams) (λ h. threshold-stream_of id t.streams h)
+queued_settled true false id t e = raises_put (record (stream_of id t.streams) { close = Acknowledged }) t.streams t.events (own_generation id t.streams) (own_close id t.streams) (λ h. threshold-stream_of id t.streams h) (λ k. own_there id t.streams k)
+queued_settled false can id t e = raises_put (record (stream_of id t.streams) { close = Acknowledged }) t.streams t.events (own_generation id t.streams) (own_close id t.streams) (λ h. threshold-stream_of id t.streams h) (λ k. own_there id t.streams k)
 
 raises_close : (close : CloseState) (id : ℕ) (t : Told) → let r = close_settled close (stream_of id t.streams) t in Raises t.streams r.streams t.events r.events
 raises_close Unclosed id t = raises_none t.streams t.events

@@ -77,6 +77,11 @@ pub streams-snapped : (now max_send : ℕ) (p : Contents) → (snapped now max_s
 unfolding snapped started_as
 streams-snapped now max_send p = refl
 
+pub streams_start : (p q : Contents) → Starts plain_meaning p q → q.streams ≡ p.streams
+streams_start p q (ByConnect now m h) = ap (λ (c : Contents). c.streams) h.1 ∙ streams-connected now m p
+streams_start p q (ByAccept now m h) = ap (λ (c : Contents). c.streams) h.1 ∙ streams-accepted now m p
+streams_start p q (BySnap now m l o h) = ap (λ (c : Contents). c.streams) h.1 ∙ streams-snapped now m p
+
 -- a call that leaves the streams, or is refused, leaves each generation
 pub same_generation : (p t q : Contents) (r : Result (Unit {0}) AssocError) (id : ℕ) → t.streams ≡ p.streams → Does None p (Leaves t) r q → generation_of q id ≡ generation_of p id
 same_generation p t q r id same h = does_leaves (λ (c : Contents). generation_of c id ≡ generation_of p id) None p t q r refl (ap (λ (l : List StreamRow). (stream_of id l).generation) same) h

@@ -3,7 +3,7 @@ use Rattle.std.proofs.Common.{◌≡◌, ◌+◌, ◌<◌, ◌≤◌, ◌==◌, 
 use Rattle.std.specs.Prelude.{slice_get, slice_set, is_some, is_err, nat_lt, IfSome, Result, Ok, Err, OnOk, OnErr}
 use Rattle.std.specs.List.{list_any}
 use Rattle.std.specs.BTreeMap.{BTreeMap}
-use Rattle.rtc_channels.specs.Ids.{all_ids, ids_without}
+use Rattle.rtc_channels.specs.Ids.{all_ids}
 use Rattle.rtc_channels.specs.declared.kept.Kept.{Kept}
 use Rattle.rtc_channels.specs.declared.grants.Grant.{Grant}
 use Rattle.rtc_channels.specs.Channels.{Channel, Channels, channel_of_stream}
@@ -14,10 +14,10 @@ use Rattle.rtc_channels.specs.Allocation.{is_given, is_taken, free_streams, stre
 use Rattle.rtc_channels.proofs.GrantLemmas.{holds_same}
 use Rattle.rtc_channels.proofs.PlaceLemmas.{handled_ascending, place_own}
 use Rattle.rtc_channels.proofs.HoldLemmas.{handler_view}
-use Rattle.rtc_channels.proofs.RowLemmas.{is_given-owner, owner_given}
+use Rattle.rtc_channels.proofs.RowLemmas.{is_given-owner}
 use Rattle.rtc_channels.proofs.GivenLemmas.{channel_of, given_at}
 use Rattle.rtc_channels.proofs.HandledLemmas.{handled_given}
-use Rattle.rtc_channels.proofs.AllocationLemmas.{taken_granted, first_passes, filter_twice, filter_alike}
+use Rattle.rtc_channels.proofs.AllocationLemmas.{taken_granted, first_passes}
 
 -- ---- channels by their places
 
@@ -61,7 +61,7 @@ length-put (y ∷ xs) (suc i) x = ap suc (length-put xs i x)
 
 -- ---- the stream that is sought
 
-sought_has : (stream negotiated : Option ℕ) (parity : ℕ) (held : Channels) → is_some stream ≡ true → stream_sought stream negotiated parity held ≡ None
+pub sought_has : (stream negotiated : Option ℕ) (parity : ℕ) (held : Channels) → is_some stream ≡ true → stream_sought stream negotiated parity held ≡ None
 sought_has None negotiated parity held has = absurd cc
 sought_has (Some own) negotiated parity held has = refl
 
@@ -168,27 +168,6 @@ module _ (given parity : ℕ) (rows : List (ℕ × Option ℕ)) (kept : List Kep
         rw (given_rows, holds_same grants grants' times)
         (rw (← is, channel_at rows kept i row own handled.paired.same (bare_within i bare)) (ap (λ (r : ℕ × Option ℕ). record { given = given; rows = rows_given r.0 s (channels_of rows kept); holds = holds_of grants }) at))
 
-    either : (e h : Bool) (id : ℕ) (found : Option ℕ) → (is_some (cond e (Some id) found) || h) ≡ ((is_some found || h) || e)
-    either true h id None = by h
-      where
-        by : (h : Bool) → true ≡ (h || true)
-        by true = refl
-        by false = refl
-    either true h id (Some own) = refl
-    either false true id None = refl
-    either false false id None = refl
-    either false h id (Some own) = refl
-
-    pub give_taken : ((q : ℕ) → holds_at grants' q ≡ holds_at grants q)
-        → (q : ℕ) → is_taken q (handler_view given (slice_set rows i (row.0, Some s)) kept (holds_of grants')) ≡ (is_taken q held || (q == s))
-    give_taken times q =
-        rw (
-          holds_same grants grants' times,
-          is_given-owner q (slice_set rows i (row.0, Some s)) kept (length-put rows i (row.0, Some s) ∙ handled.paired.same),
-          owner_given q s row.0 rows i row (bare_within i bare) bare_is (unowned_of s free),
-        )
-        (rw (← is, is_given-owner q rows kept handled.paired.same) (either (q == s) (nat_lt 0 (hold_count q (holds_of grants))) row.0 (channel_of_stream q rows)))
-
     pub give_count : length (channels_of (slice_set rows i (row.0, Some s)) kept) ≡ length held.rows
     give_count =
         length-channels_of (slice_set rows i (row.0, Some s)) kept (length-put rows i (row.0, Some s) ∙ handled.paired.same)
@@ -228,18 +207,6 @@ module _ (parity i : ℕ) (old now : Channels) (done : now ≡ all_allocated par
       let some : sought_by parity now there.0 ≡ Some s = sym (found ∙ ap (λ (channel : Option Channel). sought_at channel parity now) (rest ∙ there.1)) in
       gives ∙ (ap (λ (channel : Option Channel). given_to channel s now) (rest ∙ there.1)
       ∙ sym (next there.0 there.1 ∙ ap (λ (stream : Option ℕ). stream_given there.0.id stream now) some))
-
--- the free ids after one of them was given
-pub free_less : (parity s : ℕ) (now new : Channels) (free : List ℕ) → free ≡ free_streams parity now → ((q : ℕ) → is_taken q new ≡ (is_taken q now || (q == s)))
-    → ids_without s free ≡ free_streams parity new
-free_less parity s now new free is taken =
-    ap (ids_without s) is
-    ∙ (filter_twice (λ stream. not (is_taken stream now)) (λ own. not (own == s)) (all_ids parity)
-    ∙ filter_alike (λ q. not (is_taken q now) && not (q == s)) (λ stream. not (is_taken stream new)) (all_ids parity) (λ q. sym (ap not (taken q) ∙ by (is_taken q now) (q == s))))
-  where
-    by : (a b : Bool) → not (a || b) ≡ (not a && not b)
-    by true b = refl
-    by false b = refl
 
 pub none_waiting : (parity : ℕ) (channels : List Channel) (held : Channels) → is_waiting channels ≡ false → all_allocated parity channels held ≡ held
 none_waiting parity [] held none = refl

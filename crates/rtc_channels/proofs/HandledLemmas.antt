@@ -1,6 +1,6 @@
 -- What a handler keeps fits together after each of its calls.
-use Rattle.std.proofs.Common.{◌≡◌, ◌+◌, ◌<◌, ◌≤◌, ◌==◌, ℕ, suc, zero, cond, List, [], ◌∷◌, ◌++◌, length, get_or, refl, ap, sym, ◌∙◌, arith, Option, Some, None}
-use Rattle.std.specs.Prelude.{slice_set, remove}
+use Rattle.std.proofs.Common.{◌≡◌, ◌+◌, ◌<◌, ◌≤◌, ◌==◌, ℕ, Bool, false, suc, zero, cond, List, [], ◌∷◌, ◌++◌, length, get_or, refl, ap, sym, ◌∙◌, arith, Option, Some, None}
+use Rattle.std.specs.Prelude.{slice_set, remove, is_some, nat_lt, ◌||◌}
 use Rattle.std.specs.BTreeMap.{BTreeMap, is_at}
 use Rattle.std.specs.Map.{lookup}
 use Rattle.std.specs.Ordering.{nat_cmp}
@@ -9,7 +9,7 @@ use Rattle.rtc_channels.specs.declared.kept.Kept.{Kept}
 use Rattle.rtc_channels.specs.declared.grants.Grant.{Grant}
 use Rattle.rtc_channels.specs.Channels.{channel_of_stream}
 use Rattle.rtc_channels.specs.Kept.{place_of_channel, kept_config}
-use Rattle.rtc_channels.specs.Granted.{grant_owner, grant_holds, owner_at, holds_at, holds_of, FitOpenMessages, AreHandled}
+use Rattle.rtc_channels.specs.Granted.{grant_owner, grant_holds, owner_at, holds_at, holds_of, FitOpenMessages, AreHandled, is_granted}
 use Rattle.rtc_channels.proofs.KeptLemmas.{paired_more, IsConfirmed}
 use Rattle.rtc_channels.proofs.GrantLemmas.{holds_none, holds_same}
 use Rattle.rtc_channels.proofs.RowLemmas.{owner_more, owner_pushed, unshared_more, unshared_pushed, owner_given, unshared_given, owner_gone, owner_released, unshared_fewer, short_more, short_set, short_fewer}
@@ -28,6 +28,9 @@ same_list old new same = holds_same old new (λ q. same_times old new q same)
 -- an empty map
 empty_owner : (grants : BTreeMap ℕ Grant) (q : ℕ) → grants.entries ≡ [] → owner_at grants q ≡ None
 empty_owner grants q empty = ap (λ (es : List (ℕ × Grant)). grant_owner (lookup (is_at (nat_cmp q)) es)) empty
+
+pub empty_granted : (grants : BTreeMap ℕ Grant) (q : ℕ) → grants.entries ≡ [] → is_granted grants q ≡ false
+empty_granted grants q empty = ap (λ (es : List (ℕ × Grant)). is_some (grant_owner (lookup (is_at (nat_cmp q)) es)) || nat_lt 0 (grant_holds (lookup (is_at (nat_cmp q)) es))) empty
 
 pub empty_list : (grants : BTreeMap ℕ Grant) → grants.entries ≡ [] → holds_of grants ≡ []
 empty_list grants empty = holds_none grants (λ q. ap (λ (es : List (ℕ × Grant)). grant_holds (lookup (is_at (nat_cmp q)) es)) empty)

@@ -7,7 +7,8 @@ use Rattle.std.proofs.lemmas.Bool.{cases_eq, lt-ltb, le-ltb, eq-eqb, ne_eqb}
 use Rattle.std.proofs.lemmas.List.Elements.{All-filter}
 use Rattle.std.proofs.lemmas.List.Kept.{IsStrictlyIncreasing-filter}
 use Rattle.rtc_channels.specs.Ids.{IdPool, every_second, all_ids, is_of_parity, parity_of, full_pool, contains_id, ids_with, ids_without, is_free, without_id, with_id, pool_marked, IsIdOf}
-use Rattle.rtc_channels.specs.Words.{has_bit, ids_of, IsFirstBit}
+use Rattle.rtc_sctp_values.specs.Words.{has_bit, IsFirstBit}
+use Rattle.rtc_channels.specs.Words.{ids_of}
 
 and_false : (a : Bool) → (a && false) ≡ false
 and_false true = refl

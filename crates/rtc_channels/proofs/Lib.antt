@@ -9,7 +9,8 @@ pub mod AllocationLemmas
 pub mod GivingLemmas
 pub mod OpeningLemmas
 pub mod UnheldLemmas
+pub mod SettledLemmas
+pub mod PoolLemmas
 pub mod WorkedHolds
 pub mod WorkedSettled
-pub mod WordLemmas
 pub mod IdLemmas

@@ -124,7 +124,7 @@ module _ {S : Type 0} (m : AssociationMeaning S) (held : Channels) (p : SctpStre
   opens_bare None config is = (refl, refl, refl)
   opens_bare (Some s) config is = absurd cc
 
-  opens_unconfirmed : (stream : Option ℕ) (config : Option ChannelConfig) (held' : Channels) → config ≡ None → held' ≡ held → OpensChannel m stream config id held p (Ok tt) held' p
+  pub opens_unconfirmed : (stream : Option ℕ) (config : Option ChannelConfig) (held' : Channels) → config ≡ None → held' ≡ held → OpensChannel m stream config id held p (Ok tt) held' p
   opens_unconfirmed None config held' is same = (refl, same, refl)
   opens_unconfirmed (Some s) None held' is same = (refl, same, refl)
   opens_unconfirmed (Some s) (Some own) held' is same = absurd cc

@@ -4,5 +4,7 @@ pub mod Granted
 pub mod Holds
 pub mod Kept
 pub mod Openings
+pub mod Pools
+pub mod Settled
 pub mod Ids
 pub mod Words

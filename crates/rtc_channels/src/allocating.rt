@@ -1,16 +1,15 @@
 //! The streams that channels are given (RFC 8832, section 6).
-ghost use Rattle.std.specs.Prelude.{◌≡◌, ◌<◌, ◌==◌, ◌||◌, true, false, not, is_some, filter, length, map, slice_get, IfSome, OnOk, OnErr};
+ghost use Rattle.std.specs.Prelude.{◌≡◌, ◌<◌, ◌==◌, ◌||◌, true, false, not, is_some, filter, drop, length, map, slice_get, IfSome, OnOk, OnErr};
 ghost use Rattle.std.specs.List.{list_any};
 ghost use Rattle.rtc_channels.specs.Ids.{parity_of as ParityOf, all_ids};
 ghost use Rattle.rtc_channels.specs.Granted.{is_granted as IsGranted, stream_of_free};
+ghost use Rattle.rtc_channels.specs.Pools.{ArePools};
 ghost use Rattle.rtc_channels.specs.Holds.{is_stream_held as IsHeld};
 ghost use Rattle.rtc_channels.specs.Channels.{numbered_stream};
 ghost use Rattle.rtc_channels.specs.Allocation.{
   AreUnshared,
   is_given as IsGiven,
-  is_taken as IsTaken,
   is_waiting as IsWaiting,
-  free_streams,
   sought_at,
   given_to,
   IsBare,
@@ -19,37 +18,19 @@ ghost use Rattle.rtc_channels.specs.Allocation.{
   channel_ensured,
 };
 
+use crate::ChannelHandler;
 use crate::channel_handler::next_channel;
-use crate::grants::{Grants, count_holds, give, owner_of};
+use crate::grants::{Grants, give, owner_of};
 use crate::kept::Kept;
-use crate::{ChannelHandler, FreeIds};
+use crate::pools::{Pools, is_granted};
 use rtc_wire::ChannelId;
 use std::alloc::AllocError;
 
-// Whether a stream cannot be given.
-fn is_granted(grants: &Grants, stream: u16) -> bool
-    ensures { result ≡ IsGranted grants.now stream }
-{
-    owner_of(grants, stream).is_some() || count_holds(grants, stream) > 0
-}
-
-// The streams of one side that can be given.
-fn collect_free(grants: &Grants, client: bool) -> FreeIds
-    ensures parity { result.parity ≡ ParityOf client }
-    ensures free { result.free ≡ filter (λ stream. not (IsGranted grants.now stream)) (all_ids (ParityOf client)) }
-{
-    let mut ids = FreeIds::new(client);
-    'streams: for stream in grants.keys() {
-        if is_granted(grants, *stream) {
-            ids.take(*stream);
-        }
-    }
-    ids
-}
-
 // The stream for a channel, by the one that it was negotiated for, if it was.
-fn stream_for(negotiated: Option<u16>, grants: &Grants, ids: &FreeIds) -> Option<u16>
-    ensures sought { result ≡ stream_of_free negotiated grants.now ids.now.free }
+fn stream_for(negotiated: Option<u16>, grants: &Grants, pools: &Pools, client: bool) -> Option<u16>
+    requires { ArePools grants.now pools.now }
+    ensures sought { result
+        ≡ stream_of_free negotiated grants.now (filter (λ stream. not (IsGranted grants.now stream)) (all_ids (ParityOf client))) }
     ensures fits { IfSome negotiated (λ stream. stream < 65536) }
 {
     match negotiated {
@@ -59,31 +40,30 @@ fn stream_for(negotiated: Option<u16>, grants: &Grants, ids: &FreeIds) -> Option
             }
             Some(stream)
         }
-        None => ids.least(),
+        None => pools.least(client),
     }
 }
 
-// Whether a row has no stream.
-fn any_bare(rows: &[(ChannelId, Option<u16>)]) -> bool
-    ensures { result ≡ list_any (λ row. not (is_some row.1)) rows.now }
+// Whether a row from a place on has no stream.
+fn any_bare(rows: &[(ChannelId, Option<u16>)], from: usize) -> bool
+    ensures { result ≡ list_any (λ row. not (is_some row.1)) (drop from rows.now) }
 {
-    rows.iter().any(|row| row.1.is_none())
+    let mut place = from;
+    'places: while place < rows.len() {
+        if rows[place].1.is_none() {
+            return true;
+        }
+        place += 1;
+    }
+    false
 }
 
 impl ChannelHandler {
-    // The streams of one side that can be given.
-    pub(crate) fn free_ids(&self, client: bool) -> FreeIds
-        ensures parity { result.parity ≡ ParityOf client }
-        ensures free { result.free ≡ free_streams (ParityOf client) self.now }
-    {
-        collect_free(&self.grants, client)
-    }
-
-    // Whether a channel waits for a stream.
+    // Whether a channel waits for a stream. No settled one does.
     pub(crate) fn is_waiting(&self) -> bool
         ensures { result ≡ IsWaiting self.now.rows }
     {
-        any_bare(self.rows.as_slice())
+        any_bare(self.rows.as_slice(), self.settled)
     }
 
     // How many channels there are.
@@ -94,15 +74,19 @@ impl ChannelHandler {
     }
 
     // The stream that the channel at a place is to be given, if there is one.
-    pub(crate) fn seek(&self, place: usize, ids: &FreeIds) -> Option<u16>
-        requires place { place < length self.now.rows }
-        requires free { ids.now.free ≡ free_streams ids.now.parity self.now }
-        ensures { result ≡ sought_at (slice_get self.now.rows place) ids.now.parity self.now }
+    pub(crate) fn seek(&self, place: usize, client: bool) -> Option<u16>
+        requires { place < length self.now.rows }
+        ensures { result ≡ sought_at (slice_get self.now.rows place) (ParityOf client) self.now }
     {
         if self.rows[place].1.is_some() {
             return None;
         }
-        stream_for(self.kept[place].negotiated, &self.grants, ids)
+        stream_for(
+            self.kept[place].negotiated,
+            &self.grants,
+            &self.pools,
+            client,
+        )
     }
 
     // Gives a stream that no channel has to the channel at a place, which has none.
@@ -110,12 +94,12 @@ impl ChannelHandler {
         requires bare { IsBare (slice_get self.old.rows place) }
         requires free { IsGiven stream self.old.rows ≡ false }
         ensures given { OnOk result (self.new ≡ given_to (slice_get self.old.rows place) stream self.old) }
-        ensures taken { OnOk result ((q : _) → IsTaken q self.new ≡ (IsTaken q self.old || (q == stream))) }
         ensures behind { (k : _) → place < k → slice_get self.new.rows k ≡ slice_get self.old.rows k }
         ensures count { length self.new.rows ≡ length self.old.rows }
         ensures refused { OnErr result (self.new ≡ self.old) }
     {
         give(&mut self.grants, stream, self.rows[place].0)?;
+        self.pools.note(&self.grants, stream);
         self.rows[place].1 = Some(stream);
         Ok(())
     }
@@ -130,15 +114,13 @@ impl ChannelHandler {
         if !self.is_waiting() {
             return Ok(());
         }
-        let mut ids = self.free_ids(client);
         let count = self.count();
-        let mut place = 0usize;
+        let mut place = self.first_unsettled();
         'places: while place < count {
-            if let Some(stream) = self.seek(place, &ids) {
+            if let Some(stream) = self.seek(place, client) {
                 if self.give_at(place, stream).is_err() {
                     return Err(AllocError);
                 }
-                ids.take(stream);
             }
             place += 1;
         }
@@ -171,6 +153,7 @@ impl ChannelHandler {
         self.kept.reserve(1)?;
         let id = next_channel(self.given);
         give(&mut self.grants, s, id)?;
+        self.pools.note(&self.grants, s);
         self.rows.push_reserved((id, Some(s)));
         self.kept.push_reserved(Kept {
             negotiated: None,

@@ -15,6 +15,8 @@ ghost use Rattle.rtc_channels.specs.Channels.{
 use crate::ChannelError;
 use crate::grants::{Grants, owner_of};
 use crate::kept::{Kept, find_place, find_stream, is_claimed};
+use crate::pools::Pools;
+use crate::settled::settled_before;
 use rtc_wire::{ChannelConfig, ChannelId, DCEP_MAX_TEXT_SIZE, Text};
 use std::alloc::Global;
 use std::collections::BTreeMap;
@@ -40,13 +42,17 @@ pub struct ChannelHandler {
     pub(crate) given: u64,
     pub(crate) rows: Vec<(ChannelId, Option<u16>)>,
     pub(crate) kept: Vec<Kept>,
+    // So many channels from the first on have a stream, and nothing more to be opened with.
+    pub(crate) settled: usize,
     pub(crate) grants: Grants,
+    pub(crate) pools: Pools,
 }
 
 impl Model for ChannelHandler {
     ghost use Rattle.rtc_channels.specs.Channels.{Channels};
     ghost use Rattle.rtc_channels.specs.Kept.{channels_of};
-    ghost use Rattle.rtc_channels.specs.Granted.{holds_of, AreHandled};
+    ghost use Rattle.rtc_channels.specs.Granted.{holds_of};
+    ghost use Rattle.rtc_channels.specs.Settled.{AreKept};
 
     ghost Value = { Channels };
 
@@ -56,7 +62,7 @@ impl Model for ChannelHandler {
       holds = holds_of handler.grants;
     } };
 
-    ghost invariant = { λ handler. AreHandled handler.given handler.rows.items handler.kept.items handler.grants };
+    ghost invariant = { λ handler. AreKept handler.given handler.settled handler.rows.items handler.kept.items handler.grants handler.pools };
 }
 
 // Written out, so that the proof of what owns the channels sees one call and not the drop of each field.
@@ -66,7 +72,9 @@ impl Drop for ChannelHandler {
             given: _given,
             rows: _rows,
             kept: _kept,
+            settled: _settled,
             grants: _grants,
+            pools: _pools,
         } = self;
     }
 }
@@ -80,7 +88,9 @@ impl ChannelHandler {
             given: 0,
             rows: Vec::new(alloc),
             kept: Vec::new(alloc),
+            settled: 0,
             grants: BTreeMap::new(alloc),
+            pools: Pools::new(),
         }
     }
 
@@ -155,6 +165,7 @@ impl ChannelHandler {
         let Some(place) = find_place(self.rows.as_slice(), id) else {
             return;
         };
+        self.settled = settled_before(self.settled, place);
         self.kept[place].keep_config(config);
     }
 }

@@ -13,7 +13,7 @@ ghost use Rattle.rtc_channels.specs.Ids.{
   IsIdOf,
 };
 
-use crate::words::{first_bit, full_words, has_bit, put_bit, summarize};
+use rtc_sctp_values::words::{first_bit, full_words, has_bit, put_bit, summarize};
 use std::marker::Model;
 
 // A client takes even ids, a server odd ones (RFC 8832, section 6).

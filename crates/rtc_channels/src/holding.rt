@@ -6,6 +6,8 @@ ghost use Rattle.rtc_channels.specs.Holds.{is_unconfirmed as IsUnconfirmed};
 use crate::ChannelHandler;
 use crate::grants::{count_holds, drop_hold, drop_holds, release};
 use crate::kept::find_place;
+use crate::pools::Pools;
+use crate::settled::settled_without;
 use rtc_wire::ChannelId;
 
 impl ChannelHandler {
@@ -21,6 +23,7 @@ impl ChannelHandler {
         ensures { self.new ≡ reset_completed s self.old }
     {
         drop_hold(&mut self.grants, s);
+        self.pools.note(&self.grants, s);
     }
 
     /// The association is lost, and with it every hold. Nothing is allocated.
@@ -28,6 +31,7 @@ impl ChannelHandler {
         ensures { self.new ≡ holds_lost self.old }
     {
         drop_holds(&mut self.grants);
+        self.pools = Pools::collect(&self.grants);
     }
 
     /// Removes a channel, if it is there. If a reset of its stream is pending, the stream is held once more. Nothing is allocated.
@@ -37,10 +41,14 @@ impl ChannelHandler {
         let Some(place) = find_place(self.rows.as_slice(), id) else {
             return;
         };
+        self.settled = settled_without(self.settled, place);
         let row = self.rows.remove(place);
         self.kept.remove(place);
         match row.1 {
-            Some(stream) => release(&mut self.grants, stream, reset_pending),
+            Some(stream) => {
+                release(&mut self.grants, stream, reset_pending);
+                self.pools.note(&self.grants, stream);
+            }
             None => {}
         }
     }

@@ -10,8 +10,9 @@ mod grants;
 mod holding;
 mod kept;
 mod opening;
+mod pools;
 mod progress;
-mod words;
+mod settled;
 
 pub use channel_error::ChannelError;
 pub use channel_handler::{ChannelHandler, is_overlong};

@@ -44,12 +44,12 @@ impl ChannelHandler {
         sctp.open_stream(stream, config)
     }
 
-    // Opens the streams of the channels that are confirmed.
+    // Opens the streams of the channels that are confirmed, of which no settled one is.
     fn open_channels<S: Association>(&mut self, sctp: &mut RtcSctp<S>) -> Result<(), AllocError>
         ensures { OpensAll S.association self.old.rows self.old sctp.old result self.new sctp.new }
     {
         let count = self.count();
-        let mut place = 0usize;
+        let mut place = self.first_unsettled();
         'places: while place < count {
             match self.open_at(place, sctp) {
                 Ok(()) => {}
@@ -67,11 +67,8 @@ impl ChannelHandler {
         sctp.is_inited() && self.can_progress(sctp.is_client())
     }
 
-    /// Gives streams to channels, and opens the streams of confirmed ones, if the association was started. If nothing
-    /// of this can be done, both marks of the wake are cleared.
-    pub fn handle_timeout<S: Association>(
+    fn progress<S: Association>(
         &mut self,
-        _now: Moment,
         sctp: &mut RtcSctp<S>,
         wake: &mut Wake,
     ) -> Result<(), AllocError>
@@ -87,6 +84,21 @@ impl ChannelHandler {
             Ok(()) => self.open_channels(sctp),
             Err(error) => Err(error),
         }
+    }
+
+    /// Gives streams to channels, and opens the streams of confirmed ones, if the association was started. If nothing
+    /// of this can be done, both marks of the wake are cleared.
+    pub fn handle_timeout<S: Association>(
+        &mut self,
+        _now: Moment,
+        sctp: &mut RtcSctp<S>,
+        wake: &mut Wake,
+    ) -> Result<(), AllocError>
+        ensures { MeetsMoment S.association (IsDue S.association self.old sctp.old) self.old sctp.old wake.old
+            result self.new sctp.new wake.new }
+    {
+        self.settle();
+        self.progress(sctp, wake)
     }
 
     /// When `handle_timeout` is wanted: at once if it can give a stream to a channel or open one.

@@ -1,5 +1,5 @@
 //! Whether a channel can be given a stream or opened.
-ghost use Rattle.std.specs.Prelude.{◌≡◌, ◌&&◌, is_some, length};
+ghost use Rattle.std.specs.Prelude.{◌≡◌, ◌&&◌, is_some, drop, length};
 ghost use Rattle.rtc_channels.specs.Ids.{parity_of as ParityOf};
 ghost use Rattle.rtc_channels.specs.Kept.{channels_of};
 ghost use Rattle.rtc_channels.specs.Allocation.{can_allocate as CanAllocate};
@@ -16,29 +16,30 @@ fn is_ready(row: &(ChannelId, Option<u16>), own: &Kept) -> bool
     row.1.is_some() && own.config.is_some()
 }
 
-// Whether a channel has a stream and is confirmed.
-fn any_ready(rows: &[(ChannelId, Option<u16>)], kept: &[Kept]) -> bool
+// Whether a channel from a place on has a stream and is confirmed.
+fn any_ready(rows: &[(ChannelId, Option<u16>)], kept: &[Kept], from: usize) -> bool
     requires { length rows.now ≡ length kept.now }
-    ensures { result ≡ CanOpen (channels_of rows.now kept.now) }
+    ensures { result ≡ CanOpen (drop from (channels_of rows.now kept.now)) }
 {
-    for (place, row) in rows.iter().enumerate() {
-        if is_ready(row, &kept[place]) {
+    let mut place = from;
+    'places: while place < rows.len() {
+        if is_ready(&rows[place], &kept[place]) {
             return true;
         }
+        place += 1;
     }
     false
 }
 
 impl ChannelHandler {
-    // Whether a channel can be given a stream, by a look at each. The free ids are set up here, and not if no channel waits.
+    // Whether a channel can be given a stream, by a look at each that is not settled.
     fn can_give(&self, client: bool) -> bool
         ensures { result ≡ CanAllocate (ParityOf client) self.now }
     {
-        let ids = self.free_ids(client);
         let count = self.count();
-        let mut place = 0usize;
+        let mut place = self.first_unsettled();
         'places: while place < count {
-            if self.seek(place, &ids).is_some() {
+            if self.seek(place, client).is_some() {
                 return true;
             }
             place += 1;
@@ -56,11 +57,11 @@ impl ChannelHandler {
         self.can_give(client)
     }
 
-    // Whether a channel can be opened.
+    // Whether a channel can be opened. No settled one can.
     fn can_open(&self) -> bool
         ensures { result ≡ CanOpen self.now.rows }
     {
-        any_ready(self.rows.as_slice(), self.kept.as_slice())
+        any_ready(self.rows.as_slice(), self.kept.as_slice(), self.settled)
     }
 
     /// Whether a channel can be given a stream or opened.

@@ -5,6 +5,7 @@
 //! amounts. It is printed again behind `agrees` or `differs`.
 #![tactic(auto)]
 
+mod calls;
 mod channels;
 mod chunks;
 mod closes;
@@ -45,6 +46,7 @@ impl Examples for Parts {
     fn does_agree<R: Files + AllocGlobal>(rt: &R, subject: &str, name: &str) -> bool {
         let alloc = rt.alloc();
         match subject {
+            "calls" => calls::does_agree(alloc, name),
             "channels" => channels::does_agree(alloc, name),
             "chunks" => chunks::does_agree(alloc, name),
             "closes" => closes::does_agree(alloc, name),

@@ -46,7 +46,7 @@ use Rattle.rtc_part_association.specs.AssociationNeeds.{Answered, closing_need, 
 use Rattle.rtc_part_association.specs.AssociationActs.{AssociationAct, Acted, starts, brings_threshold}
 use Rattle.rtc_part_association.specs.AssociationWords.{told}
 use Rattle.rtc_part_association.specs.AssociationEvents.{AddsEvents}
-use Rattle.rtc_part_association.specs.AssociationLaws.{AssociationLaws, LeavesStarted, Buffers}
+use Rattle.rtc_part_association.specs.AssociationLaws.{AssociationLaws, LeavesStarted, Buffers, IsSilent}
 use Rattle.rtc_faulty.specs.declared.faulty.Faulty.{Faulty}
 use Rattle.rtc_faulty.specs.Numbering.{is_failing, number_used}
 use Rattle.rtc_faulty.specs.FaultyCalls.{CanFail}
@@ -165,6 +165,7 @@ module _ {S : Type 0} (m : AssociationMeaning S) (w : AssociationLaws m) where
     rises = λ id. omega (arith, ap (λ (i : S). m.generation i id) same);
     in_order = λ id. ap (λ (i : S). m.finished i id) same;
     readable = λ id g u. inl (ap (λ (i : S). m.has_unread i id g) (sym same) ∙ u);
+    gone = λ id there. inl (ap (λ (i : S). m.has_stream i id) same ∙ there);
   }
 
   adds_inside : (p q : Faulty S) (acts : List AssociationAct) → AddsEvents m p.inner acts q.inner → AddsEvents Whole p acts q
@@ -174,12 +175,19 @@ module _ {S : Type 0} (m : AssociationMeaning S) (w : AssociationLaws m) where
     rises = a.rises;
     in_order = a.in_order;
     readable = a.readable;
+    gone = a.gone;
   }
 
   adds_events : (p q : Faulty S) (act : AssociationAct) → Acted Whole p act q → AddsEvents Whole p (act ∷ []) q
   adds_events p q act h = elim (association_act_inside m p q act h) [
     | inl f ↦ adds_none p q act f.0 f.1.0
     | inr k ↦ adds_inside p q (act ∷ []) (w.adds p.inner q.inner act k.0)
+  ]
+
+  silences : (p q : Faulty S) (act : AssociationAct) → Acted Whole p act q → IsSilent Whole p → IsSilent Whole q
+  silences p q act h quiet = elim (association_act_inside m p q act h) [
+    | inl f ↦ subst (λ (i : S). IsSilent m i) (sym f.1.0) quiet
+    | inr k ↦ w.closed_silent p.inner q.inner act k.0 quiet
   ]
 
   never_falls : (p q : Faulty S) (act : AssociationAct) → Acted Whole p act q → Whole.faults p ≤ Whole.faults q
@@ -268,10 +276,12 @@ module _ {S : Type 0} (m : AssociationMeaning S) (w : AssociationLaws m) where
     read_unread = λ p q id message h. w.read_unread p.inner q.inner id message (read_inside m p q id (Some message) h).did;
     none_unread = λ p q id h. w.none_unread p.inner q.inner id (read_inside m p q id None h).did;
     stale_there = λ p id h. w.stale_there p.inner id h;
+    stale_closed = λ p id h. w.stale_closed p.inner id h;
     none_buffered = λ p id h. w.none_buffered p.inner id h;
     adds = adds_events;
     poll_head = λ p q event h. w.poll_head p.inner q.inner event h.0;
     poll_none = λ p q h. w.poll_none p.inner q.inner h.0;
+    closed_silent = silences;
     faults_rise = never_falls;
     event_none = λ p q h. reaches_same p q (w.event_none p.inner q.inner h.0) h.1;
     packet_none = λ p q h. reaches_same p q (w.packet_none p.inner q.inner h.0) h.1;

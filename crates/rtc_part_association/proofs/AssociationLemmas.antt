@@ -7,7 +7,7 @@ use Rattle.rtc_part_association.specs.AssociationWords.{given, taken, written, r
 use Rattle.rtc_part_association.specs.AssociationEvents.{InOrder, AddsEvents}
 use Rattle.rtc_part_association.proofs.AmongLemmas.{member-left, member-right}
 use Rattle.rtc_part_association.specs.AssociationMeaning.{AssociationMeaning}
-use Rattle.rtc_part_association.specs.AssociationLaws.{AssociationLaws}
+use Rattle.rtc_part_association.specs.AssociationLaws.{AssociationLaws, IsSilent}
 
 pub given-append : (xs ys : List AssociationAct) → given (xs ++ ys) ≡ given xs ++ given ys
 given-append [] ys = refl
@@ -67,6 +67,7 @@ adds_all {S} m w p q [] h = let P : S → Type 0 = λ x. AddsEvents m p [] x in 
   rises = λ id. omega arith;
   in_order = λ id. refl;
   readable = λ id g u. inl u;
+  gone = λ id t. inl t;
 })
 adds_all m w p q (act ∷ acts) h =
     let one = w.adds p h.0 act h.1.0 in
@@ -85,7 +86,16 @@ adds_all m w p q (act ∷ acts) h =
         | inl k ↦ elim (one.readable id g k) [ inl j ↦ inl j | inr j ↦ inr (member-left (Readable id) one.more rest.more j) ]
         | inr k ↦ inr (member-right (Readable id) one.more rest.more k)
       ];
+      gone = λ id t. elim (one.gone id t) [
+        | inl k ↦ elim (rest.gone id k) [ inl j ↦ inl j | inr j ↦ inr (member-right (ResetComplete id) one.more rest.more j) ]
+        | inr k ↦ inr (member-left (ResetComplete id) one.more rest.more k)
+      ];
     }
+
+-- no act of a list gives a closed stream a message of its generation
+pub silent_all : {S : Type 0} (m : AssociationMeaning S) → AssociationLaws m → (p q : S) (acts : List AssociationAct) → Moved m p acts q → IsSilent m p → IsSilent m q
+silent_all {S} m w p q [] h k = subst (λ (x : S). IsSilent m x) (sym h) k
+silent_all m w p q (act ∷ acts) h k = silent_all m w h.0 q acts h.1.1 (w.closed_silent p h.0 act h.1.0 k)
 
 -- a generation never falls
 pub generation_rises : {S : Type 0} (m : AssociationMeaning S) → AssociationLaws m → (p q : S) (act : AssociationAct) (id : ℕ) → Acted m p act q → m.generation p id ≤ m.generation q id

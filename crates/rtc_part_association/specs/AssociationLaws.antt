@@ -21,6 +21,10 @@ pub record Buffers {S : Type 0} (m : AssociationMeaning S) (p : S) (id count : �
   pub bound : m.buffered q id ≤ m.buffered p id + count
   pub others : (other : ℕ) → other ≢ id → m.buffered q other ≡ m.buffered p other
 
+-- no message of the generation of a stream that this end closed is unread
+abbrev pub IsSilent : {S : Type 0} → AssociationMeaning S → S → Type 0
+IsSilent m p = (id : ℕ) → m.closed_here p id ≡ true → m.has_unread p id (m.generation p id) ≡ false
+
 pub record AssociationLaws {S : Type 0} (m : AssociationMeaning S) : Type 0 where
   -- a fresh part is not started and has no threshold, its streams are at generation 0 and not closed, and it has no
   -- event that is due and no message
@@ -75,13 +79,16 @@ pub record AssociationLaws {S : Type 0} (m : AssociationMeaning S) : Type 0 wher
   pub read_unread : (p q : S) (id : ℕ) (message : Ppi × List ℕ) → m.read p id (Ok (Some message)) q
       → m.has_unread p id (m.generation p id) ≡ true
   pub none_unread : (p q : S) (id : ℕ) → m.read p id (Ok None) q → m.has_unread p id (m.generation p id) ≡ false
-  -- a stream that is stale is there, and one that is not there has no unacknowledged bytes
+  -- a stream that is stale is there and was closed by this end, and one that is not there has no unacknowledged bytes
   pub stale_there : (p : S) (id : ℕ) → m.stale p id ≡ true → m.has_stream p id ≡ true
+  pub stale_closed : (p : S) (id : ℕ) → m.stale p id ≡ true → m.closed_here p id ≡ true
   pub none_buffered : (p : S) (id : ℕ) → m.has_stream p id ≡ false → m.buffered p id ≡ 0
   -- an act adds events behind those that are due, and a poll takes the first of these and adds none
   pub adds : (p q : S) (act : AssociationAct) → Acted m p act q → AddsEvents m p (act ∷ []) q
   pub poll_head : (p q : S) (event : AssocEvent) → m.polled p (Some event) q → m.due p ≡ event ∷ m.due q
   pub poll_none : (p q : S) → m.polled p None q → m.due p ≡ []
+  -- if no stream that this end closed has a message of its generation unread, none has after an act
+  pub closed_silent : (p q : S) (act : AssociationAct) → Acted m p act q → IsSilent m p → IsSilent m q
   -- the count of faults never falls
   pub faults_rise : (p q : S) (act : AssociationAct) → Acted m p act q → m.faults p ≤ m.faults q
   -- a poll that gives nothing changes nothing, and the polls all give nothing exactly if nothing is held

@@ -14,12 +14,12 @@ use rtc_peer_core::RtcError;
 use rtc_wire::ChannelConfig;
 
 /// A data channel that is open (RFC 8831, section 6.4).
-pub struct Channel<'a, I, D, S, M, N> {
+pub struct Channel<'a, I, D, S: Association, M, N> {
     pub(crate) rtc: &'a mut Rtc<I, D, S, M, N>,
     pub(crate) stream: u16,
 }
 
-impl<I, D, S, M, N> Drop for Channel<'_, I, D, S, M, N> {
+impl<I, D, S: Association, M, N> Drop for Channel<'_, I, D, S, M, N> {
     fn drop(self)
         ensures { self.exit.0.now ≡ self.entry.rtc.now }
     {

@@ -27,11 +27,11 @@ use std::alloc::AllocError;
 /// A handle to drive a peer without session descriptions, if both sides agree out-of-band.
 ///
 /// Its calls act at once, also on a peer that is closing or closed.
-pub struct DirectApi<'a, I, D, S, M, N> {
+pub struct DirectApi<'a, I, D, S: Association, M, N> {
     pub(crate) rtc: &'a mut Rtc<I, D, S, M, N>,
 }
 
-impl<I, D, S, M, N> Drop for DirectApi<'_, I, D, S, M, N> {
+impl<I, D, S: Association, M, N> Drop for DirectApi<'_, I, D, S, M, N> {
     fn drop(self)
         ensures { self.exit.0.now ≡ self.entry.rtc.now }
     {

@@ -44,18 +44,18 @@ fn media_row(lines: &Lines, mid: Mid) -> Option<&LineRow>
 /// A WebRTC peer over its five parts: an ICE agent, a DTLS part, an SCTP association, a media part and a source of numbers.
 ///
 /// It reads no clock and no socket: moments, offers and answers are arguments of its calls.
-pub struct Rtc<I, D, S, M, N> {
+pub struct Rtc<I, D, S: Association, M, N> {
     pub(crate) polled: PolledPeer<I, D, S, M, N>,
 }
 
 // Written out, so that the proof of what owns a peer sees one call and not the drop of each part.
-impl<I: Drop, D: Drop, S: Drop, M: Drop, N: Drop> Drop for Rtc<I, D, S, M, N> {
+impl<I: Drop, D: Drop, S: Association + Drop, M: Drop, N: Drop> Drop for Rtc<I, D, S, M, N> {
     fn drop(self) {
         let Rtc { polled: _polled } = self;
     }
 }
 
-impl<I, D, S, M, N> Model for Rtc<I, D, S, M, N> {
+impl<I, D, S: Association, M, N> Model for Rtc<I, D, S, M, N> {
     ghost use Rattle.rtc_peer_transport.specs.declared.polled_peer.PolledPeer.{PolledPeer};
 
     ghost Value = { PolledPeer I D S M N };

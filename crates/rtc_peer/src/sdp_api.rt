@@ -26,7 +26,7 @@ use std::alloc::AllocError;
 ///
 /// Changes are staged on it, and offered together by `apply`. A handle that is dropped offers nothing; what it set or stopped is kept.
 #[derive(Drop)]
-pub struct SdpApi<'a, I, D, S, M, N> {
+pub struct SdpApi<'a, I, D, S: Association, M, N> {
     pub(crate) rtc: &'a mut Rtc<I, D, S, M, N>,
 }
 

@@ -2,6 +2,7 @@
 use crate::{Formats, Phase, Staged, Undo};
 use rtc_change::Lines;
 use rtc_channels::ChannelHandler;
+use rtc_part_association::Association;
 use rtc_part_dtls::Dtls;
 use rtc_sctp::RtcSctp;
 use rtc_sdp_values::Fingerprint;
@@ -9,7 +10,7 @@ use rtc_wire::Moment;
 use std::alloc::Global;
 
 /// The state of a peer. Its fields are public for the crates that work on it; callers hold an `Rtc`.
-pub struct Peer<I, D, S, M, N> {
+pub struct Peer<I, D, S: Association, M, N> {
     pub alloc: Global,
     /// The codecs and header extensions that it was built with.
     pub formats: Formats,
@@ -41,7 +42,7 @@ pub struct Peer<I, D, S, M, N> {
 }
 
 // Written out, so that the proof of what owns a peer sees one call and not the drop of each field.
-impl<I: Drop, D: Drop, S: Drop, M: Drop, N: Drop> Drop for Peer<I, D, S, M, N> {
+impl<I: Drop, D: Drop, S: Association + Drop, M: Drop, N: Drop> Drop for Peer<I, D, S, M, N> {
     fn drop(self) {
         let Peer {
             alloc: _alloc,

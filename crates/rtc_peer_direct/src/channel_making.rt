@@ -60,7 +60,7 @@ pub fn start_sctp_with_snap<I, D, S: Association, M, N>(
 }
 
 /// Makes a confirmed channel, and returns its number. It is opened once it has a stream.
-pub fn create_data_channel<I, D, S, M, N>(
+pub fn create_data_channel<I, D, S: Association, M, N>(
     peer: &mut PolledPeer<I, D, S, M, N>,
     config: ChannelConfig,
 ) -> Result<ChannelId, RtcError>

@@ -2,13 +2,14 @@
 ghost use Rattle.std.specs.Prelude.{◌≡◌};
 ghost use Rattle.rtc_peer_direct.specs.DtlsCalls.{with_fingerprint, role_answer, TakesDtlsRole};
 
+use rtc_part_association::Association;
 use rtc_part_dtls::{DtlsError, DtlsInstance};
 use rtc_peer_core::RtcError;
 use rtc_peer_transport::PolledPeer;
 use rtc_sdp_values::Fingerprint;
 
 /// Sets the fingerprint that the certificate of the other side has to match (RFC 8122, section 5).
-pub fn set_remote_fingerprint<I, D, S, M, N>(
+pub fn set_remote_fingerprint<I, D, S: Association, M, N>(
     peer: &mut PolledPeer<I, D, S, M, N>,
     fingerprint: Fingerprint,
 )
@@ -28,7 +29,7 @@ fn answer_role(answer: Result<(), DtlsError>) -> Result<(), RtcError>
 }
 
 /// Takes a DTLS role, if there is none; an active side begins the handshake.
-pub fn start_dtls<I, D: DtlsInstance, S, M, N>(
+pub fn start_dtls<I, D: DtlsInstance, S: Association, M, N>(
     peer: &mut PolledPeer<I, D, S, M, N>,
     active: bool,
 ) -> Result<(), RtcError>

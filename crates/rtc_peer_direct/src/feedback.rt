@@ -1,6 +1,7 @@
 //! SSRCs that are drawn, and what is sent to the media of the other side.
 ghost use Rattle.rtc_peer_direct.specs.SourcesAndFeedback.{DrawsSource, SetsRed, EnablesTwcc, SendsAppFeedback, SendsPli};
 
+use rtc_part_association::Association;
 use rtc_part_media::MediaSession;
 use rtc_part_values::Ids;
 use rtc_peer_draws::{EarlierNumbers, draw_source};
@@ -9,7 +10,9 @@ use rtc_sdp_values::{Mid, Ssrc};
 use std::alloc::AllocError;
 
 /// Returns an unused SSRC (if all 2^32 are in use, the one drawn).
-pub fn draw_ssrc<I, D, S, M: MediaSession, N: Ids>(peer: &mut PolledPeer<I, D, S, M, N>) -> Ssrc
+pub fn draw_ssrc<I, D, S: Association, M: MediaSession, N: Ids>(
+    peer: &mut PolledPeer<I, D, S, M, N>,
+) -> Ssrc
     ensures { DrawsSource M.media N.ids peer.old result peer.new }
 {
     let earlier = EarlierNumbers::new(peer.core.alloc);
@@ -17,7 +20,7 @@ pub fn draw_ssrc<I, D, S, M: MediaSession, N: Ids>(peer: &mut PolledPeer<I, D, S
 }
 
 /// Switches redundancy (RFC 2198) of what a line sends on or off. False if the line has no redundancy.
-pub fn set_red_send<I, D, S, M: MediaSession, N>(
+pub fn set_red_send<I, D, S: Association, M: MediaSession, N>(
     peer: &mut PolledPeer<I, D, S, M, N>,
     mid: Mid,
     on: bool,
@@ -28,14 +31,16 @@ pub fn set_red_send<I, D, S, M: MediaSession, N>(
 }
 
 /// Switches on feedback on the congestion of the whole transport.
-pub fn enable_twcc_feedback<I, D, S, M: MediaSession, N>(peer: &mut PolledPeer<I, D, S, M, N>)
+pub fn enable_twcc_feedback<I, D, S: Association, M: MediaSession, N>(
+    peer: &mut PolledPeer<I, D, S, M, N>,
+)
     ensures { EnablesTwcc M.media peer.old peer.new }
 {
     peer.core.media.enable_twcc_feedback();
 }
 
 /// Sends feedback that the application defines (RFC 4585, section 6.4).
-pub fn send_app_specific_feedback<I, D, S, M: MediaSession, N>(
+pub fn send_app_specific_feedback<I, D, S: Association, M: MediaSession, N>(
     peer: &mut PolledPeer<I, D, S, M, N>,
     sender: Ssrc,
     media_source: Ssrc,
@@ -49,7 +54,7 @@ pub fn send_app_specific_feedback<I, D, S, M: MediaSession, N>(
 }
 
 /// Asks for a new picture (RFC 4585, section 6.3.1).
-pub fn send_pli_feedback<I, D, S, M: MediaSession, N>(
+pub fn send_pli_feedback<I, D, S: Association, M: MediaSession, N>(
     peer: &mut PolledPeer<I, D, S, M, N>,
     sender: Ssrc,
     media_source: Ssrc,

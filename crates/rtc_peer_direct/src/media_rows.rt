@@ -3,6 +3,7 @@ ghost use Rattle.std.specs.Prelude.{◌≡◌};
 ghost use Rattle.rtc_peer_direct.specs.DeclaredRows.{has_media_row, DeclaresMedia, RemovesMedia};
 
 use rtc_change::Lines;
+use rtc_part_association::Association;
 use rtc_part_media::MediaSession;
 use rtc_peer_core::count_lines;
 use rtc_peer_transport::PolledPeer;
@@ -23,7 +24,7 @@ pub(crate) fn has_media(lines: &Lines, mid: Mid) -> bool
 }
 
 /// Declares a media line behind the others, sendrecv and created here. False if a row has the mid.
-pub fn declare_media<I, D, S, M, N>(
+pub fn declare_media<I, D, S: Association, M, N>(
     peer: &mut PolledPeer<I, D, S, M, N>,
     mid: Mid,
     kind: MediaKind,
@@ -35,7 +36,7 @@ pub fn declare_media<I, D, S, M, N>(
 }
 
 /// Removes a media line with its streams: the last row is removed, another one is stopped for good. False if no media row has the mid.
-pub fn remove_media<I, D, S, M: MediaSession, N>(
+pub fn remove_media<I, D, S: Association, M: MediaSession, N>(
     peer: &mut PolledPeer<I, D, S, M, N>,
     mid: Mid,
 ) -> bool

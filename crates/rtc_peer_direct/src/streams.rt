@@ -8,6 +8,7 @@ ghost use Rattle.rtc_peer_direct.specs.Streams.{RemovesRx, RemovesTx, gives_no_r
 ghost use Rattle.rtc_peer_direct.specs.Streams.{ExpectsRx, DeclaresTx, LendsRx, LendsTx, LendsNamedRx, LendsNamedTx, ResetsTx, LendsWriter};
 
 use crate::media_rows::has_media;
+use rtc_part_association::Association;
 use rtc_part_media::{MediaSession, NoStream};
 use rtc_peer_core::Phase;
 use rtc_peer_transport::PolledPeer;
@@ -23,7 +24,7 @@ fn is_open_phase(phase: Phase) -> bool
 }
 
 /// Makes or replaces the received stream of an SSRC, and lends it. The error says why there is none.
-pub fn make_stream_rx<I, D, S, M: MediaSession, N>(
+pub fn make_stream_rx<I, D, S: Association, M: MediaSession, N>(
     peer: &mut PolledPeer<I, D, S, M, N>,
     ssrc: Ssrc,
     rtx: Option<Ssrc>,
@@ -42,7 +43,7 @@ pub fn make_stream_rx<I, D, S, M: MediaSession, N>(
 }
 
 /// Makes or replaces the sent stream of an SSRC, and lends it. The error says why there is none.
-pub fn make_stream_tx<I, D, S, M: MediaSession, N>(
+pub fn make_stream_tx<I, D, S: Association, M: MediaSession, N>(
     peer: &mut PolledPeer<I, D, S, M, N>,
     ssrc: Ssrc,
     rtx: Option<Ssrc>,
@@ -61,7 +62,7 @@ pub fn make_stream_tx<I, D, S, M: MediaSession, N>(
 }
 
 /// Drops the received stream of an SSRC. False if there is none.
-pub fn remove_stream_rx<I, D, S, M: MediaSession, N>(
+pub fn remove_stream_rx<I, D, S: Association, M: MediaSession, N>(
     peer: &mut PolledPeer<I, D, S, M, N>,
     ssrc: Ssrc,
 ) -> bool
@@ -71,7 +72,7 @@ pub fn remove_stream_rx<I, D, S, M: MediaSession, N>(
 }
 
 /// Drops the sent stream of an SSRC. False if there is none.
-pub fn remove_stream_tx<I, D, S, M: MediaSession, N>(
+pub fn remove_stream_tx<I, D, S: Association, M: MediaSession, N>(
     peer: &mut PolledPeer<I, D, S, M, N>,
     ssrc: Ssrc,
 ) -> bool
@@ -81,7 +82,7 @@ pub fn remove_stream_tx<I, D, S, M: MediaSession, N>(
 }
 
 /// The received stream of an SSRC.
-pub fn lend_stream_rx<I, D, S, M: MediaSession, N>(
+pub fn lend_stream_rx<I, D, S: Association, M: MediaSession, N>(
     peer: &mut PolledPeer<I, D, S, M, N>,
     ssrc: Ssrc,
 ) -> Option<&mut M::Rx>
@@ -94,7 +95,7 @@ pub fn lend_stream_rx<I, D, S, M: MediaSession, N>(
 }
 
 /// The sent stream of an SSRC.
-pub fn lend_stream_tx<I, D, S, M: MediaSession, N>(
+pub fn lend_stream_tx<I, D, S: Association, M: MediaSession, N>(
     peer: &mut PolledPeer<I, D, S, M, N>,
     ssrc: Ssrc,
 ) -> Option<&mut M::Tx>
@@ -107,7 +108,7 @@ pub fn lend_stream_tx<I, D, S, M: MediaSession, N>(
 }
 
 /// The stream of a line and a layer that is received.
-pub fn lend_stream_rx_by_mid<I, D, S, M: MediaSession, N>(
+pub fn lend_stream_rx_by_mid<I, D, S: Association, M: MediaSession, N>(
     peer: &mut PolledPeer<I, D, S, M, N>,
     mid: Mid,
     rid: Option<Rid>,
@@ -121,7 +122,7 @@ pub fn lend_stream_rx_by_mid<I, D, S, M: MediaSession, N>(
 }
 
 /// The stream of a line and a layer that is sent.
-pub fn lend_stream_tx_by_mid<I, D, S, M: MediaSession, N>(
+pub fn lend_stream_tx_by_mid<I, D, S: Association, M: MediaSession, N>(
     peer: &mut PolledPeer<I, D, S, M, N>,
     mid: Mid,
     rid: Option<Rid>,
@@ -136,7 +137,7 @@ pub fn lend_stream_tx_by_mid<I, D, S, M: MediaSession, N>(
 
 /// Gives the sent stream of a line and a layer a new SSRC. None if there is no such stream, or if it has this SSRC, or
 /// this RTX SSRC, already.
-pub fn reset_stream_tx<I, D, S, M: MediaSession, N>(
+pub fn reset_stream_tx<I, D, S: Association, M: MediaSession, N>(
     peer: &mut PolledPeer<I, D, S, M, N>,
     mid: Mid,
     rid: Option<Rid>,
@@ -152,7 +153,7 @@ pub fn reset_stream_tx<I, D, S, M: MediaSession, N>(
 }
 
 /// What sends on a line. None in RTP mode, if the peer is closing or closed, and if no media row has the mid.
-pub fn lend_writer<I, D, S, M: MediaSession, N>(
+pub fn lend_writer<I, D, S: Association, M: MediaSession, N>(
     peer: &mut PolledPeer<I, D, S, M, N>,
     mid: Mid,
 ) -> Option<&mut M::Writer>

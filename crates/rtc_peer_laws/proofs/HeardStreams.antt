@@ -17,14 +17,17 @@ use Rattle.rtc_sctp_entries.specs.declared.met.Met.{Met}
 use Rattle.rtc_sctp_entries.specs.declared.met.Met.TheVariants.{Nothing, Again, Output, OutOfMemory}
 use Rattle.rtc_sctp_entries.specs.Answers.{opening_of}
 use Rattle.rtc_sctp_entries.specs.Entries.{is_closed_state, is_open_awaited}
-use Rattle.rtc_sctp_entries.specs.Visits.{Turn, turn, is_opening_over, opening_ends, RetriedIf, RetriedAt, is_adopted, is_entry_there, AdoptedIf, OpenedBy, AttendsBy, AttendsIf, VisitsIn, Visits}
+use Rattle.rtc_sctp_entries.specs.Visits.{Turn, turn, is_opening_over, opening_ends, RetriedIf, RetriedAt, is_adopted, is_entry_there, AdoptedIf, OpenedBy, VisitsIn, Visits}
 use Rattle.rtc_sctp.specs.Streams.{SctpStreams, is_established}
-use Rattle.rtc_sctp.specs.Polls.{Else, unclosed_streams, GivesCompletion, GivesTransmit, HandlesEvent, VisitedThen, VisitsAll, VisitsIf, VisitsEntries, MakesPass, PollsStreams}
+use Rattle.rtc_sctp.specs.Polls.{Else, unclosed_streams, GivesTransmit, HandlesEvent, VisitedThen, VisitsAll, VisitsIf, VisitsEntries, TakesFirstSteps, AreResting, PollsStreams}
 use Rattle.rtc_peer_laws.specs.Drained.{IsHeard, AreHeard, AllHeard, AreTriedAgain, IsTriedAgain, is_opening_refused}
-use Rattle.rtc_peer_laws.proofs.MeetingEntries.{closes_meet, begins_meet, threshold_handed}
-use Rattle.rtc_peer_laws.proofs.RestingEntries.{exists_is, pending_is, read_first}
-use Rattle.rtc_peer_laws.proofs.RestingTours.{AllUnclosed, unclosed_left}
-use Rattle.rtc_peer_laws.proofs.RestingStreams.{else_nothing, completion_nothing, GaveNoEvent, transmit_nothing, event_nothing}
+use Rattle.rtc_sctp_entries.proofs.MeetingEntries.{closes_meet, begins_meet}
+use Rattle.rtc_sctp_entries.proofs.AnswerLemmas.{exists_is, pending_is}
+use Rattle.rtc_sctp_entries.proofs.StillVisits.{Idle, attends_still}
+use Rattle.rtc_sctp.specs.Rest.{AreUnclosed}
+use Rattle.rtc_sctp.proofs.CallsTended.{unclosed_left}
+use Rattle.rtc_sctp.proofs.RestingLemmas.{else_nothing, poll_rests}
+use Rattle.rtc_peer_laws.proofs.RestingStreams.{GaveNoEvent, transmit_nothing, event_nothing}
 
 first_of_and : (x y : Bool) → (x && y) ≡ true → x ≡ true
 first_of_and true y h = refl
@@ -131,39 +134,29 @@ module _ {S : Type 0} (m : AssociationMeaning S) (w : AssociationLaws m) where
       (retried_waits now t.entry.refused (record t { association = q }) t' refl h)
 
   -- a stream that was attended
-  attended_by : (threshold : BufferedThresholdConfig) (t t' : Turn S) → AttendsBy m threshold t Nothing t'
-      → (t' ≡ t) × (m.has_unread t.association t.entry.id (m.generation t.association t.entry.id) ≡ false)
-  attended_by (Desired n) t t' h = absurd (threshold_handed m h.answer n (record t { association = h.between }) t' h.then)
-  attended_by Unconfigured t t' h =
-      let first = read_first m w h.answer t t' h.between h.asks.result h.asks.called h.asks.is h.then in
-      (first.1, w.none_unread t.association h.between t.entry.id first.0)
-  attended_by (Configured n) t t' h =
-      let first = read_first m w h.answer t t' h.between h.asks.result h.asks.called h.asks.is h.then in
-      (first.1, w.none_unread t.association h.between t.entry.id first.0)
-
-  attended_if : (now : ℕ) (marked there : Bool) (t t' : Turn S) → t.entry.marked ≡ marked → is_entry_there m t.association t.entry ≡ there
-      → is_open_awaited t.entry.state ≡ false → AttendsIf m marked there t Nothing t' → Heard now t t'
-  attended_if now true there t t' e f past h = absurd (closes_meet m t t' h)
-  attended_if now false false t t' e f past h = cc (h.0)
-  attended_if now false true t t' e f past h =
-      let by = attended_by t.entry.threshold t t' h in
-      record {
-        association = ap (λ (x : Turn S). x.association) by.0;
-        heard = subst (λ (x : Turn S). IsHeard m t.association x.entry) (sym by.0) (inr (e, first_of_and (m.has_stream t.association t.entry.id) _ f, by.1, second_of_and (m.has_stream t.association t.entry.id) _ f, past));
-        tried = λ opening.
-            absurd
-            (true≢false
-            (sym (ap is_open_awaited opening) ∙ ap (λ (x : Turn S). is_open_awaited x.entry.state) by.0 ∙ past));
-      }
+  attended : (now : ℕ) (t t' : Turn S) → is_open_awaited t.entry.state ≡ false → (t' ≡ t) × Idle m t → Heard now t t'
+  attended now t t' past h = record {
+    association = ap (λ (x : Turn S). x.association) h.0;
+    heard =
+        subst (λ (x : Turn S). IsHeard m t.association x.entry) (sym h.0)
+        (inr (
+          h.1.unmarked,
+          first_of_and (m.has_stream t.association t.entry.id) _ h.1.there,
+          h.1.unread,
+          second_of_and (m.has_stream t.association t.entry.id) _ h.1.there,
+          past,
+        ));
+    tried = λ opening.
+        absurd
+        (true≢false
+        (sym (ap is_open_awaited opening) ∙ ap (λ (x : Turn S). is_open_awaited x.entry.state) h.0 ∙ past));
+  }
 
   heard_in : (st : StreamEntryState) (now : ℕ) (t t' : Turn S) → t.entry.state ≡ st → is_closed_state st ≡ false → VisitsIn m st now t Nothing t' → Heard now t t'
   heard_in AwaitOpen now t t' state unclosed h = opened_waits h.answer now t t' h.between h.asks.result state h.asks.called h.asks.is h.then
-  heard_in AwaitConfig now t t' state unclosed h =
-      attended_if now t.entry.marked (is_entry_there m t.association t.entry) t t' refl refl (ap is_open_awaited state) h
-  heard_in AwaitDcepAck now t t' state unclosed h =
-      attended_if now t.entry.marked (is_entry_there m t.association t.entry) t t' refl refl (ap is_open_awaited state) h
-  heard_in Open now t t' state unclosed h =
-      attended_if now t.entry.marked (is_entry_there m t.association t.entry) t t' refl refl (ap is_open_awaited state) h
+  heard_in AwaitConfig now t t' state unclosed h = attended now t t' (ap is_open_awaited state) (attends_still m w t t' h)
+  heard_in AwaitDcepAck now t t' state unclosed h = attended now t t' (ap is_open_awaited state) (attends_still m w t t' h)
+  heard_in Open now t t' state unclosed h = attended now t t' (ap is_open_awaited state) (attends_still m w t t' h)
   heard_in Closed now t t' state unclosed h = cc (unclosed)
 
   -- a visit of all entries
@@ -190,7 +183,7 @@ module _ {S : Type 0} (m : AssociationMeaning S) (w : AssociationLaws m) where
   heard_then now e es a resets unclosed rest (Output o) t visit a' resets' es' k = cc (k.0)
   heard_then now e es a resets unclosed rest OutOfMemory t visit a' resets' es' k = cc (k.0)
 
-  heard_all : (now : ℕ) (es : List StreamEntry) → AllUnclosed es → (a : S) (resets : List ℕ) (a' : S) (resets' : List ℕ) (es' : List StreamEntry)
+  heard_all : (now : ℕ) (es : List StreamEntry) → AreUnclosed es → (a : S) (resets : List ℕ) (a' : S) (resets' : List ℕ) (es' : List StreamEntry)
       → VisitsAll m now es a resets Nothing a' resets' es' → AllOf now a a' es'
   heard_all now [] all a resets a' resets' es' h =
       record {
@@ -208,7 +201,7 @@ module _ {S : Type 0} (m : AssociationMeaning S) (w : AssociationLaws m) where
     heard : (is_established p.state && m.started p.association) ≡ true → AreHeard m p.association q.entries
     tried : (is_established p.state && m.started p.association) ≡ true → AreTriedAgain p.last q.entries
 
-  visits_heard : (b : Bool) (p q : SctpStreams S) → (is_established p.state && m.started p.association) ≡ b → AllUnclosed p.entries
+  visits_heard : (b : Bool) (p q : SctpStreams S) → (is_established p.state && m.started p.association) ≡ b → AreUnclosed p.entries
       → VisitsIf m b p Nothing q → Passed p q
   visits_heard false p q is all h = record {
     association = ap (λ (x : SctpStreams S). x.association) h.1;
@@ -231,35 +224,47 @@ module _ {S : Type 0} (m : AssociationMeaning S) (w : AssociationLaws m) where
   held_none a (inl fresh) started gave = let clash : true ≡ false = sym started ∙ fresh in cc
   held_none a (inr polled) started gave = w.silent a a a polled gave
 
-  pass_hears : (p q : SctpStreams S) → MakesPass m p Nothing q → AllHeard m q
-  unfolding MakesPass
-  pass_hears p q h =
-      let one = else_nothing (GivesTransmit m) (Else (HandlesEvent m) (Else (VisitsEntries m) GivesCompletion)) (unclosed_streams p) q h in
-      let two = else_nothing (HandlesEvent m) (Else (VisitsEntries m) GivesCompletion) one.0 q one.1.1 in
-      let three = else_nothing (VisitsEntries m) GivesCompletion two.0 q two.1.1 in
+  hears_by : (u y q : SctpStreams S) → y ≡ u → AreUnclosed u.entries → (m.started u.association ≡ true → m.gave u.association None u.association)
+      → GaveNoEvent m w u → VisitsEntries m y Nothing q → AllHeard m q
+  hears_by u y q is all sent told visits =
+      let visits_u = subst (λ (x : SctpStreams S). VisitsEntries m x Nothing q) is visits in
+      let left = visits_heard (is_established u.state && m.started u.association) u q refl all visits_u in
+      record {
+        quiet =
+            subst (λ (a : S). m.started a ≡ true → m.held a ≡ 0) (sym left.association)
+            (λ started. held_none u.association told started (sent started));
+        streams =
+            subst (λ (a : S). (is_established q.state && m.started a) ≡ true → AreHeard m a q.entries) (sym left.association)
+            (subst (λ (st : _). (is_established st && m.started u.association) ≡ true → AreHeard m u.association q.entries) (sym left.state) left.heard);
+        tried =
+            subst (λ (n : ℕ). (is_established q.state && m.started q.association) ≡ true → AreTriedAgain n q.entries) (sym left.last)
+            (subst (λ (a : S). (is_established q.state && m.started a) ≡ true → AreTriedAgain u.last q.entries) (sym left.association)
+            (subst (λ (st : _). (is_established st && m.started u.association) ≡ true → AreTriedAgain u.last q.entries) (sym left.state) left.tried));
+      }
+
+  -- steps that met nothing
+  steps_hear : (p q : SctpStreams S) → TakesFirstSteps m p Nothing q → AllHeard m q
+  unfolding TakesFirstSteps
+  steps_hear p q h =
+      let one = else_nothing (GivesTransmit m) (Else (HandlesEvent m) (VisitsEntries m)) (unclosed_streams p) q h in
+      let two = else_nothing (HandlesEvent m) (VisitsEntries m) one.0 q one.1.1 in
       let sent = transmit_nothing m w p.pushed (unclosed_streams p) one.0 refl one.1.0 in
       let told = event_nothing m w one.0 two.0 two.1.0 in
-      hears_by (unclosed_streams p) two.0 three.0 q (told.0 ∙ sent.0) (unclosed_left p.entries) sent.2
-      (subst (λ (x : SctpStreams S). GaveNoEvent m w x) sent.0 told.1) three.1.0 (completion_nothing three.0.completed three.0 q refl three.1.1).0
-    where
-      hears_by : (u y z q : SctpStreams S) → y ≡ u → AllUnclosed u.entries → (m.started u.association ≡ true → m.gave u.association None u.association)
-          → GaveNoEvent m w u → VisitsEntries m y Nothing z → q ≡ z → AllHeard m q
-      hears_by u y z q is all sent told visits done =
-          let visits_u = subst (λ (x : SctpStreams S). VisitsEntries m x Nothing z) is visits in
-          let left = visits_heard (is_established u.state && m.started u.association) u z refl all visits_u in
-          subst (λ (x : SctpStreams S). AllHeard m x) (sym done) (record {
-            quiet =
-                subst (λ (a : S). m.started a ≡ true → m.held a ≡ 0) (sym left.association)
-                (λ started. held_none u.association told started (sent started));
-            streams =
-                subst (λ (a : S). (is_established z.state && m.started a) ≡ true → AreHeard m a z.entries) (sym left.association)
-                (subst (λ (st : _). (is_established st && m.started u.association) ≡ true → AreHeard m u.association z.entries) (sym left.state) left.heard);
-            tried =
-                subst (λ (n : ℕ). (is_established z.state && m.started z.association) ≡ true → AreTriedAgain n z.entries) (sym left.last)
-                (subst (λ (a : S). (is_established z.state && m.started a) ≡ true → AreTriedAgain u.last z.entries) (sym left.association)
-                (subst (λ (st : _). (is_established st && m.started u.association) ≡ true → AreTriedAgain u.last z.entries) (sym left.state) left.tried));
-          })
+      hears_by (unclosed_streams p) two.0 q (told.0 ∙ sent.0) (unclosed_left p.entries) sent.2
+      (subst (λ (x : SctpStreams S). GaveNoEvent m w x) sent.0 told.1) two.1.1
+
+  heard_as : (p q : SctpStreams S) → q.association ≡ p.association → q.state ≡ p.state → q.last ≡ p.last → q.entries ≡ p.entries
+      → AllHeard m p → AllHeard m q
+  heard_as p q a st last es h = record {
+    quiet = rw a h.quiet;
+    streams = rw (st, a, es) h.streams;
+    tried = rw (st, a, last, es) h.tried;
+  }
+
+  -- streams at rest
+  resting_hear : (q : SctpStreams S) → AreResting m q.association q.state q.last q.entries → AllHeard m q
+  resting_hear q h = heard_as h.after q h.association_left h.state_left h.last_left h.entries_left (steps_hear h.before h.after h.steps)
 
   -- a poll of the streams that gave nothing
   pub poll_hears : (p q : SctpStreams S) → PollsStreams m p (Ok None) q → AllHeard m q
-  poll_hears p q h = pass_hears h.between q (subst (λ (x : Met). MakesPass m h.between x q) h.answers h.last)
+  poll_hears p q h = resting_hear q (poll_rests m p q h).2

@@ -1,6 +1,3 @@
-pub mod MeetingEntries
-pub mod RestingEntries
-pub mod RestingTours
 pub mod RestingStreams
 pub mod PushedAgain
 pub mod RestingConnection

@@ -17,7 +17,7 @@ use Rattle.rtc_sctp_entries.specs.declared.met.Met.TheVariants.{Nothing, Again, 
 use Rattle.rtc_sctp_entries.specs.Entries.{entry_place, new_entry, new_place, entry_credit, is_open_awaited, marked_entry, unclosed, is_closed_state}
 use Rattle.rtc_sctp_entries.specs.Visits.{Turn, turn}
 use Rattle.rtc_sctp.specs.Streams.{SctpStreams, is_established}
-use Rattle.rtc_sctp.specs.Polls.{finished_entry, FinishesAt, Book, book_of, AfterEvent, event_met, Else, ThenBy, unclosed_streams, CompletionOf, TakesPacket, TransmitIf, TransmitOf, TakesEvent, HandlesEvent, NotStarted, NoRoom, NoEvent, Event, VisitedThen, VisitsAll, VisitsIf, MakesPass, Over, PollsStreams, credits}
+use Rattle.rtc_sctp.specs.Polls.{finished_entry, FinishesAt, Book, book_of, AfterEvent, event_met, Else, ThenBy, unclosed_streams, CompletionOf, TakesPacket, TransmitIf, TransmitOf, TakesEvent, HandlesEvent, NotStarted, NoRoom, NoEvent, Event, VisitedThen, VisitsAll, VisitsIf, TakesSteps, RestsBy, PassIf, MakesPass, Over, PollsStreams, credits}
 use Rattle.rtc_sctp_entries.proofs.GainLemmas.{Gains, gains_from, visits_gain}
 use Rattle.rtc_sctp_laws.specs.StreamMessages.{packets_met, packets_event}
 use Rattle.rtc_sctp_laws.proofs.PollActs.{tour_did}
@@ -132,7 +132,7 @@ module _ {S : Type 0} (m : AssociationMeaning S) (w : AssociationLaws m) where
   dropped_credits es = let both = sum_by-filter_both (λ e. not (is_closed_state e.state)) (λ e. not (not (is_closed_state e.state))) (λ e. refl) entry_credit es in omega (arith, both)
 
   completion_of : (l : List ℕ) (p : SctpStreams S) (met : Met) (q : SctpStreams S) → CompletionOf l p met q → Falls met (streams_held p) (streams_held q)
-  completion_of [] p met q h = met_is Nothing _ p met q h.0 h.1 (omega arith)
+  completion_of [] p met q h = met_is Nothing _ (record p { rests = true }) met q h.0 h.1 (omega arith)
   completion_of (id ∷ rest) p met q h = met_is (Output (event.StreamResetComplete id)) _ _ met q h.0 h.1 (omega arith)
 
   abbrev TakesAway : (SctpStreams S → Met → SctpStreams S → Type 0) → Type 0
@@ -230,9 +230,9 @@ module _ {S : Type 0} (m : AssociationMeaning S) (w : AssociationLaws m) where
   lesser (Output e) old mid new le h = omega (arith, le, h)
   lesser OutOfMemory old mid new le h = tt
 
-  pub passes_fall : (p : SctpStreams S) (met : Met) (q : SctpStreams S) → MakesPass m p met q → Falls met (streams_live p) (streams_live q)
-  unfolding MakesPass
-  passes_fall p met q h =
+  steps_fall : (p : SctpStreams S) (met : Met) (q : SctpStreams S) → TakesSteps m p met q → Falls met (streams_live p) (streams_live q)
+  unfolding TakesSteps
+  steps_fall p met q h =
       let left = dropped_credits q.entries in
       lesser met (streams_live p) (streams_held q) (streams_live q) (omega (arith, left))
       (else_falls _ _ (λ p met q k. transmit_of p.pushed p met q refl k)
@@ -240,6 +240,18 @@ module _ {S : Type 0} (m : AssociationMeaning S) (w : AssociationLaws m) where
       (else_falls _ _ (λ p met q k. visits_if (is_established p.state && m.started p.association) p met q k)
       (λ p met q k. completion_of p.completed p met q k)))
       (unclosed_streams p) met q h)
+
+  pub passes_fall : (p : SctpStreams S) (met : Met) (q : SctpStreams S) → MakesPass m p met q → Falls met (streams_live p) (streams_live q)
+  unfolding MakesPass
+  passes_fall p met q h = by p.rests h
+    where
+      rests : (o : Option (List (List ℕ))) → p.pushed ≡ o → RestsBy o p met q → Falls met (streams_live p) (streams_live q)
+      rests None e t = met_is Nothing _ (unclosed_streams p) met (unclosed_streams q) t.0 (ap unclosed_streams t.1) (omega arith)
+      rests (Some packets) e t = transmit_of (Some packets) (unclosed_streams p) met (unclosed_streams q) e (t.0, ap unclosed_streams t.1)
+
+      by : (b : Bool) → PassIf m b p met q → Falls met (streams_live p) (streams_live q)
+      by true t = rests p.pushed refl t.0
+      by false t = steps_fall p met q t
 
   -- the cost of what a poll answers
   abbrev pub poll_cost : Option SctpEvent → ℕ

@@ -19,7 +19,7 @@ use Rattle.rtc_sctp_entries.specs.declared.met.Met.TheVariants.{Nothing, Again, 
 use Rattle.rtc_sctp_entries.specs.Entries.{entry_place, new_entry, new_place, threshold_credit, is_open_awaited, marked_entry, unclosed, is_closed_state}
 use Rattle.rtc_sctp_entries.specs.Visits.{Turn, turn}
 use Rattle.rtc_sctp.specs.Streams.{SctpStreams, is_established}
-use Rattle.rtc_sctp.specs.Polls.{finished_entry, FinishesAt, Book, book_of, AfterEvent, Else, ThenBy, unclosed_streams, CompletionOf, TakesPacket, TransmitIf, TransmitOf, TakesEvent, HandlesEvent, NotStarted, NoRoom, NoEvent, Event, VisitedThen, VisitsAll, VisitsIf, MakesPass, Over, PollsStreams}
+use Rattle.rtc_sctp.specs.Polls.{finished_entry, FinishesAt, Book, book_of, AfterEvent, Else, ThenBy, unclosed_streams, CompletionOf, TakesPacket, TransmitIf, TransmitOf, TakesEvent, HandlesEvent, NotStarted, NoRoom, NoEvent, Event, VisitedThen, VisitsAll, VisitsIf, TakesSteps, RestsBy, PassIf, MakesPass, Over, PollsStreams}
 use Rattle.rtc_peer_laws.proofs.UnsetThresholds.{IsUnset, packet_unset, event_unset, visits_unset}
 
 -- the threshold that an entry asks for
@@ -103,7 +103,7 @@ module _ {S : Type 0} (m : AssociationMeaning S) (w : AssociationLaws m) where
   handled_unset p met q h k = taken_unset p.association (book_of p) met q.association (book_of q) h.0 k
 
   completion_of : (l : List ℕ) (p : SctpStreams S) (met : Met) (q : SctpStreams S) → CompletionOf l p met q → AreUnset p → AreUnset q
-  completion_of [] p met q h k = unset_is p q h.1 k
+  completion_of [] p met q h k = unset_is _ q h.1 (k.0, k.1)
   completion_of (id ∷ rest) p met q h k = unset_is _ q h.1 (k.0, k.1)
 
   abbrev pub IsSet : S → List StreamEntry → Type 0
@@ -146,14 +146,26 @@ module _ {S : Type 0} (m : AssociationMeaning S) (w : AssociationLaws m) where
   else_unset : (first rest : SctpStreams S → Met → SctpStreams S → Type 0) → StaysUnset first → StaysUnset rest → StaysUnset (Else first rest)
   else_unset first rest f g p met q h k = then_unset rest g h.0 h.1.0 met q (f p h.0 h.1.0 h.1.1.0 k) h.1.1.1
 
-  pass_unset : (p : SctpStreams S) (met : Met) (q : SctpStreams S) → MakesPass m p met q → AreUnset p → AreUnset q
-  unfolding MakesPass
-  pass_unset p met q h k =
+  steps_unset : (p : SctpStreams S) (met : Met) (q : SctpStreams S) → TakesSteps m p met q → AreUnset p → AreUnset q
+  unfolding TakesSteps
+  steps_unset p met q h k =
       else_unset _ _ (λ p met q h k. transmit_of p.pushed p met q h k)
       (else_unset _ _ handled_unset
       (else_unset _ _ (λ p met q h k. visits_if (is_established p.state && m.started p.association) p met q h k)
       (λ p met q h k. completion_of p.completed p met q h k)))
       (unclosed_streams p) met q h (k.0, dropped_unset p.entries k.1)
+
+  pass_unset : (p : SctpStreams S) (met : Met) (q : SctpStreams S) → MakesPass m p met q → AreUnset p → AreUnset q
+  unfolding MakesPass
+  pass_unset p met q h k = by p.rests h k
+    where
+      rests : (o : Option (List (List ℕ))) → RestsBy o p met q → AreUnset p → AreUnset q
+      rests None t k = unset_is p q t.1 k
+      rests (Some packets) t k = transmit_of (Some packets) p met q t k
+
+      by : (b : Bool) → PassIf m b p met q → AreUnset p → AreUnset q
+      by true t k = rests p.pushed t.0 k
+      by false t k = steps_unset p met q t k
 
   over_unset : (n : ℕ) (p q : SctpStreams S) → Over m n p q → AreUnset p → AreUnset q
   over_unset zero p q h k = unset_is p q h k

@@ -1,5 +1,5 @@
 -- A poll of the streams that gave packets, which then came back, is followed by one that gives them again and changes nothing else.
-use Rattle.std.proofs.Common.{◌≡◌, ℕ, Bool, true, false, List, [], ◌∷◌, Option, Some, None, Result, Ok, Err, refl, sym, ap, subst, ◌∙◌}
+use Rattle.std.proofs.Common.{◌≡◌, ◌⊎◌, inl, inr, ℕ, Bool, true, false, true≢false, List, [], ◌∷◌, Option, Some, None, Result, Ok, Err, refl, sym, ap, subst, ◌∙◌}
 use Rattle.std.specs.Prelude.{◌&&◌}
 use Rattle.std.specs.declared.alloc.AllocError.{AllocError}
 use Rattle.rtc_part_association.specs.AssociationMeaning.{AssociationMeaning}
@@ -11,9 +11,11 @@ use Rattle.rtc_sctp_entries.specs.declared.met.Met.{Met}
 use Rattle.rtc_sctp_entries.specs.declared.met.Met.TheVariants.{Nothing, Again, Output, OutOfMemory}
 use Rattle.rtc_sctp.specs.Streams.{SctpStreams, is_established}
 use Rattle.rtc_sctp.specs.Polls.{Else, ThenBy, unclosed_streams, CompletionOf, GivesCompletion, TransmitIf, TransmitOf}
-use Rattle.rtc_sctp.specs.Polls.{HandlesEvent, NotStarted, NoRoom, NoEvent, Event, VisitsIf, VisitsEntries, MakesPass, PollsStreams, Answers}
+use Rattle.rtc_sctp.specs.Polls.{HandlesEvent, NotStarted, NoRoom, NoEvent, Event, VisitsIf, VisitsEntries, TakesSteps, RestsBy, PassIf, MakesPass, PollsStreams, Answers}
 use Rattle.rtc_sctp_laws.proofs.PollActs.{tour_did}
-use Rattle.rtc_peer_laws.proofs.RestingTours.{AllUnclosed, unclosed_left, unclosed_same}
+use Rattle.rtc_sctp.specs.Rest.{AreUnclosed}
+use Rattle.rtc_sctp.proofs.CallsTended.{unclosed_left}
+use Rattle.rtc_sctp.proofs.TendedLemmas.{unclosed_same}
 use Rattle.rtc_peer_laws.proofs.RestingStreams.{not_sent, over_rests}
 
 module _ {S : Type 0} (m : AssociationMeaning S) where
@@ -25,11 +27,11 @@ module _ {S : Type 0} (m : AssociationMeaning S) where
   transmit_keeps None p met q h = transmit_if_keeps (m.started p.association) p met q h
   transmit_keeps (Some packets) p met q h = ap (λ (x : SctpStreams S). x.entries) h.1
 
-  -- packets that came back are what the pass gives
-  pass_gives : (packets : List (List ℕ)) (p : SctpStreams S) (met : Met) (q : SctpStreams S) → p.pushed ≡ Some packets → AllUnclosed p.entries
-      → MakesPass m p met q → (met ≡ Output (event.Transmit packets)) × (q ≡ record p { pushed = None })
-  unfolding MakesPass
-  pass_gives packets p met q back all h =
+  -- packets that were pushed back are what the steps give
+  steps_give : (packets : List (List ℕ)) (p : SctpStreams S) (met : Met) (q : SctpStreams S) → p.pushed ≡ Some packets → AreUnclosed p.entries
+      → TakesSteps m p met q → (met ≡ Output (event.Transmit packets)) × (q ≡ record p { pushed = None })
+  unfolding TakesSteps
+  steps_give packets p met q back all h =
       let same : unclosed_streams p ≡ p = ap (λ (l : List StreamEntry). record p { entries = l }) (unclosed_same p.entries all) in
       let given = subst (λ (o : Option (List (List ℕ))). TransmitOf m o (unclosed_streams p) h.0 h.1.0) back h.1.1.0 in
       by h.0 h.1.0 given.0 (given.1 ∙ ap (λ (x : SctpStreams S). record x { pushed = None }) same) h.1.1.1
@@ -41,6 +43,21 @@ module _ {S : Type 0} (m : AssociationMeaning S) where
       by Again b is left k = cc (is)
       by (Output o) b is left k = (k.0 ∙ is, k.1 ∙ left)
       by OutOfMemory b is left k = cc (is)
+
+  -- streams at rest, or without a closed entry
+  abbrev pub KeepsAll : SctpStreams S → Type 0
+  KeepsAll p = (p.rests ≡ true) ⊎ AreUnclosed p.entries
+
+  -- and a pass gives them
+  pass_gives : (packets : List (List ℕ)) (p : SctpStreams S) (met : Met) (q : SctpStreams S) → p.pushed ≡ Some packets → KeepsAll p
+      → MakesPass m p met q → (met ≡ Output (event.Transmit packets)) × (q ≡ record p { pushed = None })
+  unfolding MakesPass
+  pass_gives packets p met q back keeps h = by p.rests refl keeps h
+    where
+      by : (b : Bool) → p.rests ≡ b → KeepsAll p → PassIf m b p met q → (met ≡ Output (event.Transmit packets)) × (q ≡ record p { pushed = None })
+      by true is all k = subst (λ (o : Option (List (List ℕ))). RestsBy o p met q) back k.0
+      by false is (inl rests) k = absurd (true≢false (sym rests ∙ is))
+      by false is (inr all) k = steps_give packets p met q back all k
 
   -- polls of these streams give these packets
   abbrev pub StreamsGive : List (List ℕ) → SctpStreams S → Type 0
@@ -56,7 +73,7 @@ module _ {S : Type 0} (m : AssociationMeaning S) where
       ap (λ x. Ok (Some x)) same
   given_answer packets (Err x) met h is = let clash : OutOfMemory ≡ Output (event.Transmit packets) = sym h ∙ is in cc
 
-  gives_again : (packets : List (List ℕ)) (p : SctpStreams S) → p.pushed ≡ Some packets → AllUnclosed p.entries → StreamsGive packets p
+  gives_again : (packets : List (List ℕ)) (p : SctpStreams S) → p.pushed ≡ Some packets → KeepsAll p → StreamsGive packets p
   gives_again packets p back all r q h =
       let never = λ (s : SctpStreams S) (k : MakesPass m p Again s). clash (pass_gives packets p Again s back all k).0 in
       let same = over_rests m p never h.passes h.between h.over in
@@ -109,19 +126,31 @@ module _ {S : Type 0} (m : AssociationMeaning S) (w : AssociationLaws m) where
       (λ p q h. visited_not (is_established p.state && m.started p.association) packet rest p q h)
       (λ p q h. completed_not p.completed (packet ∷ rest) p q h))
 
-  given_left : (packet : List ℕ) (rest : List (List ℕ)) (p q : SctpStreams S) → MakesPass m p (Output (event.Transmit (packet ∷ rest))) q
-      → AllUnclosed q.entries
-  unfolding MakesPass
-  given_left packet rest p q h =
+  steps_left : (packet : List ℕ) (rest : List (List ℕ)) (p q : SctpStreams S) → TakesSteps m p (Output (event.Transmit (packet ∷ rest))) q
+      → AreUnclosed q.entries
+  unfolding TakesSteps
+  steps_left packet rest p q h =
       by h.0 h.1.0 (transmit_keeps m p.pushed (unclosed_streams p) h.0 h.1.0 h.1.1.0) h.1.1.1
     where
       by : (own : Met) (b : SctpStreams S) → b.entries ≡ (unclosed_streams p).entries
-          → ThenBy (Else (HandlesEvent m) (Else (VisitsEntries m) GivesCompletion)) own b (Output (event.Transmit (packet ∷ rest))) q → AllUnclosed q.entries
+          → ThenBy (Else (HandlesEvent m) (Else (VisitsEntries m) GivesCompletion)) own b (Output (event.Transmit (packet ∷ rest))) q → AreUnclosed q.entries
       by Nothing b same k = absurd (later_not packet rest b q k)
       by Again b same k = cc (k.0)
       by (Output o) b same k =
-          subst (λ (l : List StreamEntry). AllUnclosed l) (sym (ap (λ (x : SctpStreams S). x.entries) k.1 ∙ same)) (unclosed_left p.entries)
+          subst (λ (l : List StreamEntry). AreUnclosed l) (sym (ap (λ (x : SctpStreams S). x.entries) k.1 ∙ same)) (unclosed_left p.entries)
       by OutOfMemory b same k = cc (k.0)
+
+  given_left : (packet : List ℕ) (rest : List (List ℕ)) (p q : SctpStreams S) → MakesPass m p (Output (event.Transmit (packet ∷ rest))) q → KeepsAll m q
+  unfolding MakesPass
+  given_left packet rest p q h = by p.rests refl h
+    where
+      rests : (o : Option (List (List ℕ))) → p.rests ≡ true → RestsBy o p (Output (event.Transmit (packet ∷ rest))) q → KeepsAll m q
+      rests None is k = cc (k.0)
+      rests (Some packets) is k = inl (ap (λ (x : SctpStreams S). x.rests) k.1 ∙ is)
+
+      by : (b : Bool) → p.rests ≡ b → PassIf m b p (Output (event.Transmit (packet ∷ rest))) q → KeepsAll m q
+      by true is k = rests p.pushed is k.0
+      by false is k = inr (steps_left packet rest p q k)
 
   -- what a poll that gave packets leaves, once they came back
   pub polled_gives : (packet : List ℕ) (rest : List (List ℕ)) (p q : SctpStreams S) → PollsStreams m p (Ok (Some (event.Transmit (packet ∷ rest)))) q

@@ -28,7 +28,7 @@ use Rattle.rtc_peer_transport.specs.Statistics.{TellsStatistics}
 use Rattle.rtc_peer_transport.proofs.StatisticsTurns.{HasNoReport, statistics_rest}
 use Rattle.rtc_peer_polling.specs.StreamStages.{TakesStreamAnswer, PollsStreamEvent, PollsStreamEvents, SendsPacket, SendsFirst, SendsKeptPackets, TellsStreams}
 use Rattle.rtc_peer_polling.specs.Walk.{StartsOverWhenDue, TellsConnection, TellsArrivals, SendsDatagrams, VisitsParts}
-use Rattle.rtc_peer_laws.proofs.RestingStreams.{HasFailed, StreamsRest}
+use Rattle.rtc_peer_laws.proofs.RestingStreams.{StreamsRest}
 use Rattle.rtc_peer_laws.proofs.PushedAgain.{StreamsGive}
 use Rattle.rtc_peer_laws.proofs.RestingConnection.{Rests, StageRests, else_rests, repeats_rest, DtlsRests, ice_rests, times_rest, outputs_rest, connected_rests}
 
@@ -36,12 +36,11 @@ module _ {I D S M E X T W N : Type 0} (m : Meanings I D S M E X T W N) where
   module _ (laws : PartsLaws m) where
     -- streams that have nothing to give
     stream_answer : (answer : Result (Option SctpEvent) AllocError) (streams : SctpStreams S) (p : PolledPeer I D S M N) (r : Met E)
-        (q : PolledPeer I D S M N) → ((answer ≡ Ok None) × (streams ≡ p.core.sctp)) ⊎ HasFailed answer
+        (q : PolledPeer I D S M N) → (answer ≡ Ok None) × (streams ≡ p.core.sctp)
         → TakesStreamAnswer m answer (with_sctp streams p) r q → Rests p r q
-    stream_answer (Ok None) streams p r q (inl rests) taken = inl (taken.0, taken.1 ∙ ap (λ (s : SctpStreams S). with_sctp s p) rests.1)
-    stream_answer (Ok (Some e)) streams p r q (inl rests) taken = cc (rests.0)
-    stream_answer (Ok x) streams p r q (inr fails) taken = absurd fails
-    stream_answer (Err e) streams p r q rests taken = inr taken.0
+    stream_answer (Ok None) streams p r q rests taken = inl (taken.0, taken.1 ∙ ap (λ (s : SctpStreams S). with_sctp s p) rests.1)
+    stream_answer (Ok (Some e)) streams p r q rests taken = cc (rests.0)
+    stream_answer (Err e) streams p r q rests taken = cc (rests.0)
 
     streams_rest : (p : PolledPeer I D S M N) → StreamsRest m.association laws.association p.core.sctp → p.core.sctp.pushed ≡ None
         → StageRests (TellsStreams m) p

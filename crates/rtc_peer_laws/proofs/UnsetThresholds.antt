@@ -26,7 +26,7 @@ use Rattle.rtc_sctp_entries.specs.declared.stream_entry.StreamEntry.{StreamEntry
 use Rattle.rtc_sctp_entries.specs.declared.met.Met.{Met}
 use Rattle.rtc_sctp_entries.specs.declared.met.Met.TheVariants.{Nothing, Again, Output, OutOfMemory}
 use Rattle.rtc_sctp_entries.specs.Entries.{is_short_entry, is_out_of_band, threshold_credit}
-use Rattle.rtc_sctp_entries.specs.Visits.{Turn, given_config, Marks, Settles, TakesAck, ForEntry, ClosedBy, Closes, NoRoom, Ended, AnnouncedBy, Announces, NoMessage, Written, AnnouncesIf, BegunAs, BegunBy, Begins, RetriedIf, RetriedAt, is_adopted, AdoptedIf, OpenedBy, OpensEntry, AcknowledgedBy, Acknowledges, TakenUpBy, TakesUp, TakenAs, TakesDcep, TakesStreamMessage, ReadBy, ReadsEntry, AttendsBy, AttendsIf, VisitsIn, Visits, is_opening_over}
+use Rattle.rtc_sctp_entries.specs.Visits.{Turn, given_config, Marks, Settles, TakesAck, ForEntry, ClosedBy, Closes, NoRoom, Ended, AnnouncedBy, Announces, NoMessage, Written, AnnouncesIf, BegunAs, BegunBy, Begins, RetriedIf, RetriedAt, is_adopted, AdoptedIf, OpenedBy, OpensEntry, AcknowledgedBy, Acknowledges, TakenUpBy, TakesUp, TakenAs, TakesDcep, TakesStreamMessage, ReadBy, ReadsEntry, MayRead, IsRead, NothingUnread, AttendsBy, AttendsIf, VisitsIn, Visits, is_opening_over}
 
 module _ {S : Type 0} (m : AssociationMeaning S) (w : AssociationLaws m) where
   abbrev pub IsUnset : S → Type 0
@@ -228,13 +228,17 @@ module _ {S : Type 0} (m : AssociationMeaning S) (w : AssociationLaws m) where
       read_by h.answer (record t { association = h.between }) met t' h.then
       (read_unset t.association h.between t.entry.id h.asks.result h.asks.called k.0, k.1)
 
+  may_read : (t : Turn S) (met : Met) (t' : Turn S) → MayRead m t met t' → IsTurnUnset t → IsTurnUnset t'
+  may_read t met t' (IsRead h) k = reads t met t' h k
+  may_read t met t' (NothingUnread unread e f) k = subst IsTurnUnset (sym f) k
+
   asked_none : (n : ℕ) (b : BufferedThresholdConfig) → b ≡ Desired n → threshold_credit b ≡ 0 → ⊥
   asked_none n b is none = let one = ap threshold_credit is in absurd (omega (arith, one, none))
 
   attends_by : (b : BufferedThresholdConfig) (t : Turn S) (met : Met) (t' : Turn S) → t.entry.threshold ≡ b → AttendsBy m b t met t' → IsTurnUnset t → IsTurnUnset t'
   attends_by (Desired n) t met t' is h k = absurd (asked_none n t.entry.threshold is k.1)
-  attends_by Unconfigured t met t' is h k = reads t met t' h k
-  attends_by (Configured n) t met t' is h k = reads t met t' h k
+  attends_by Unconfigured t met t' is h k = may_read t met t' h k
+  attends_by (Configured n) t met t' is h k = may_read t met t' h k
 
   attends_if : (b there : Bool) (t : Turn S) (met : Met) (t' : Turn S) → AttendsIf m b there t met t' → IsTurnUnset t → IsTurnUnset t'
   attends_if true there t met t' h k = closes t met t' h k

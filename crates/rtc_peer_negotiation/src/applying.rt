@@ -46,7 +46,7 @@ fn stages_offer(staged: &Staged) -> bool
 }
 
 // Applies channels alone, which no offer carries. Nothing happens if nothing is staged.
-fn apply_channels<I, D, S, M, N>(peer: &mut Peer<I, D, S, M, N>)
+fn apply_channels<I, D, S: Association, M, N>(peer: &mut Peer<I, D, S, M, N>)
     ensures { peer.new ≡ after_channels_alone peer.old.staged peer.old }
 {
     if peer.staged.is_empty() {

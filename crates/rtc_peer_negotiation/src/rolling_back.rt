@@ -8,6 +8,7 @@ ghost use Rattle.rtc_peer_core.specs.RollingBack.{RollsBack};
 use crate::accepting::is_latest;
 use rtc_change::{Change, Lines, SdpPendingOffer};
 use rtc_channels::ChannelHandler;
+use rtc_part_association::Association;
 use rtc_peer_core::{Peer, RtcError};
 use rtc_sdp_values::{Direction, Mid};
 use rtc_wire::ChannelId;
@@ -55,7 +56,7 @@ fn cancel_channels(channels: &mut ChannelHandler, changes: &[Change])
 
 /// Rolls the offer of a token back, which is spent: the rows that were set or stopped for it are as they were, and the channels that were
 /// added with it go. Nothing is allocated.
-pub fn roll_back<I, D, S, M, N>(
+pub fn roll_back<I, D, S: Association, M, N>(
     peer: &mut Peer<I, D, S, M, N>,
     token: SdpPendingOffer,
 ) -> Result<(), RtcError>

@@ -11,7 +11,7 @@ use Rattle.rtc_sctp_values.specs.declared.proto_error.ProtoError.TheVariants as 
 use Rattle.rtc_sctp_values.specs.declared.sctp_error.SctpError.{SctpError}
 use Rattle.rtc_sctp_values.specs.declared.sctp_error.SctpError.TheVariants as sctp
 use Rattle.rtc_sctp.specs.Calls.{ShutBy, Shuts, WrittenIf, WritesStream, InputIf, TakesInput, TimedBy, is_ended, is_current, can_write}
-use Rattle.rtc_sctp.specs.Polls.{ThenBy, Else, CompletionOf, GivesCompletion, TransmitIf, TransmitOf, GivesTransmit, HandlesEvent, VisitsIf, VisitsEntries, MakesPass, Over, PollsStreams, unclosed_streams}
+use Rattle.rtc_sctp.specs.Polls.{ThenBy, Else, CompletionOf, GivesCompletion, TransmitIf, TransmitOf, GivesTransmit, HandlesEvent, VisitsIf, VisitsEntries, TakesSteps, RestsBy, PassIf, MakesPass, Over, PollsStreams, unclosed_streams}
 use Rattle.rtc_sctp.specs.Streams.{SctpStreams}
 use Rattle.rtc_sctp.specs.declared.rtc_sctp_state.RtcSctpState.{RtcSctpState}
 use Rattle.rtc_sctp.specs.declared.rtc_sctp_state.RtcSctpState.TheVariants.{Uninited, AwaitRemoteAssociation}
@@ -118,7 +118,7 @@ module _ {S : Type 0} (m : AssociationMeaning S) where
   else_size first next one other p met q h = then_size next other h.0 h.1.0 met q h.1.1.1 ∙ one p h.0 h.1.0 h.1.1.0
 
   completion_size : (completed : List ℕ) (p : SctpStreams S) (met : Met) (q : SctpStreams S) → CompletionOf completed p met q → SameSize p q
-  completion_size [] p met q h = same_size p p q h.1 refl
+  completion_size [] p met q h = same_size p _ q h.1 refl
   completion_size (id ∷ rest) p met q h = same_size p _ q h.1 refl
 
   transmit_if_size : (started : Bool) (p : SctpStreams S) (met : Met) (q : SctpStreams S) → TransmitIf m started p met q → SameSize p q
@@ -133,13 +133,22 @@ module _ {S : Type 0} (m : AssociationMeaning S) where
   visits_size false p met q h = same_size p p q h.1 refl
   visits_size true p met q h = same_size p _ q h.1 refl
 
-  pass_size : SizedStep (MakesPass m)
-  unfolding MakesPass
-  pass_size p met q h =
+  rests_size : (pushed : Option (List (List ℕ))) (p : SctpStreams S) (met : Met) (q : SctpStreams S) → RestsBy pushed p met q → SameSize p q
+  rests_size (Some packets) p met q h = same_size p _ q h.1 refl
+  rests_size None p met q h = same_size p p q h.1 refl
+
+  pass_if_size : (rests : Bool) (p : SctpStreams S) (met : Met) (q : SctpStreams S) → PassIf m rests p met q → SameSize p q
+  unfolding TakesSteps
+  pass_if_size true p met q h = rests_size p.pushed p met q h.0
+  pass_if_size false p met q h =
       else_size (GivesTransmit m) _ (λ p met q h. transmit_size p.pushed p met q h)
       (else_size (HandlesEvent m) _ (λ p met q h. same_size p _ q h.1 refl)
       (else_size (VisitsEntries m) GivesCompletion (λ p met q h. visits_size _ p met q h) (λ p met q h. completion_size p.completed p met q h)))
       (unclosed_streams p) met q h
+
+  pass_size : SizedStep (MakesPass m)
+  unfolding MakesPass
+  pass_size p met q h = pass_if_size p.rests p met q h
 
   over_size : (n : ℕ) (p q : SctpStreams S) → Over m n p q → SameSize p q
   over_size zero p q h = same_size p p q h refl

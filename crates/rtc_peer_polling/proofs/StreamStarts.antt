@@ -15,7 +15,7 @@ use Rattle.rtc_sctp_entries.specs.Entries.{entry_place, has_open, unclosed}
 use Rattle.rtc_sctp_values.specs.declared.sctp_error.SctpError.{SctpError}
 use Rattle.rtc_sctp.specs.Calls.{ShutBy, Shuts, InputIf, TakesInput, TimedBy, is_ended}
 use Rattle.rtc_sctp.specs.Polls.{Book, book_of, TakesEvent, NotStarted, NoRoom, NoEvent, Event, HandlesEvent}
-use Rattle.rtc_sctp.specs.Polls.{ThenBy, Else, CompletionOf, GivesCompletion, TransmitIf, TransmitOf, GivesTransmit, VisitsIf, VisitsEntries, MakesPass, Over, PollsStreams, unclosed_streams}
+use Rattle.rtc_sctp.specs.Polls.{ThenBy, Else, CompletionOf, GivesCompletion, TransmitIf, TransmitOf, GivesTransmit, VisitsIf, VisitsEntries, TakesSteps, RestsBy, PassIf, MakesPass, Over, PollsStreams, unclosed_streams}
 use Rattle.rtc_sctp.specs.StreamCalls.{ClosesAt, EndsIf}
 use Rattle.rtc_sctp.specs.Streams.{SctpStreams, is_established}
 use Rattle.rtc_sctp.specs.declared.rtc_sctp_state.RtcSctpState.{RtcSctpState}
@@ -227,18 +227,29 @@ module _ {S : Type 0} (m : AssociationMeaning S) (w : AssociationLaws m) where
       rests_same p q (subst (λ (b : Bool). VisitsIf m b p met q) (and_false (is_established p.state) (m.started p.association) s) h).1
 
   completion_rests : (completed : List ℕ) (p : SctpStreams S) (met : Met) (q : SctpStreams S) → CompletionOf completed p met q → Rests p q
-  completion_rests [] p met q h = rests_same p q h.1
+  completion_rests [] p met q h =
+      (ap (λ (x : SctpStreams S). x.association) h.1, λ none. ap (λ (x : SctpStreams S). x.entries) h.1 ∙ none)
   completion_rests (id ∷ rest) p met q h =
       (ap (λ (x : SctpStreams S). x.association) h.1, λ none. ap (λ (x : SctpStreams S). x.entries) h.1 ∙ none)
 
-  pass_rests : RestingStep (MakesPass m)
-  unfolding MakesPass
-  pass_rests p met q s h =
+  pushed_rests : (pushed : Option (List (List ℕ))) (p : SctpStreams S) (met : Met) (q : SctpStreams S) → RestsBy pushed p met q → Rests p q
+  pushed_rests (Some packets) p met q h =
+      (ap (λ (x : SctpStreams S). x.association) h.1, λ none. ap (λ (x : SctpStreams S). x.entries) h.1 ∙ none)
+  pushed_rests None p met q h = rests_same p q h.1
+
+  pass_if_rests : (rests : Bool) (p : SctpStreams S) (met : Met) (q : SctpStreams S) → m.started p.association ≡ false → PassIf m rests p met q → Rests p q
+  unfolding TakesSteps
+  pass_if_rests true p met q s h = pushed_rests p.pushed p met q h.0
+  pass_if_rests false p met q s h =
       rests_on p (unclosed_streams p) q (refl, λ none. ap unclosed none)
       (else_rests (GivesTransmit m) _ (λ p met q s h. transmit_rests p.pushed p met q s h)
       (else_rests (HandlesEvent m) _ (λ p met q s h. event_rests p met q s h.0)
       (else_rests (VisitsEntries m) GivesCompletion visits_rest (λ p met q s h. completion_rests p.completed p met q h)))
       (unclosed_streams p) met q s h)
+
+  pass_rests : RestingStep (MakesPass m)
+  unfolding MakesPass
+  pass_rests p met q s h = pass_if_rests p.rests p met q s h
 
   over_rests : (n : ℕ) (p q : SctpStreams S) → m.started p.association ≡ false → Over m n p q → Rests p q
   over_rests zero p q s h = rests_same p q h

@@ -14,7 +14,7 @@ use Rattle.rtc_sctp_entries.specs.declared.met.Met.TheVariants.{Nothing, Again, 
 use Rattle.rtc_sctp_entries.proofs.GainLemmas.{Gains}
 use Rattle.rtc_sctp.specs.Streams.{SctpStreams, is_established}
 use Rattle.rtc_sctp.specs.Polls.{Else, ThenBy, unclosed_streams, event_met, credits, pushed_count, streams_work, CompletionOf, GivesCompletion}
-use Rattle.rtc_sctp.specs.Polls.{TakesPacket, TransmitIf, TransmitOf, NotStarted, NoRoom, NoEvent, Event, HandlesEvent, VisitsIf, VisitsEntries, MakesPass, Over, PollsStreams}
+use Rattle.rtc_sctp.specs.Polls.{TakesPacket, TransmitIf, TransmitOf, NotStarted, NoRoom, NoEvent, Event, HandlesEvent, VisitsIf, VisitsEntries, TakesSteps, RestsBy, PassIf, MakesPass, Over, PollsStreams}
 use Rattle.rtc_sctp.proofs.PassLemmas.{passes_gain}
 use Rattle.rtc_sctp_laws.specs.StreamMessages.{packets_met}
 use Rattle.rtc_sctp_laws.proofs.PollActs.{tour_did}
@@ -90,11 +90,23 @@ module _ {S : Type 0} (m : AssociationMeaning S) where
       (λ p met q e h. completion_none p.completed p met q e h))
 
   -- a pass leaves nothing that came back
-  pass_none : (p : SctpStreams S) (met : Met) (q : SctpStreams S) → MakesPass m p met q → q.pushed ≡ None
-  unfolding MakesPass
-  pass_none p met q h =
+  steps_none : (p : SctpStreams S) (met : Met) (q : SctpStreams S) → TakesSteps m p met q → q.pushed ≡ None
+  unfolding TakesSteps
+  steps_none p met q h =
       then_none (Else (HandlesEvent m) (Else (VisitsEntries m) GivesCompletion)) rest_none h.0 h.1.0 met q
       (transmit_none p.pushed (unclosed_streams p) h.0 h.1.0 refl h.1.1.0) h.1.1.1
+
+  rests_none : (o : Option (List (List ℕ))) (p : SctpStreams S) (met : Met) (q : SctpStreams S) → p.pushed ≡ o → RestsBy o p met q → q.pushed ≡ None
+  rests_none (Some packets) p met q e h = ap (λ (x : SctpStreams S). x.pushed) h.1
+  rests_none None p met q e h = ap (λ (x : SctpStreams S). x.pushed) h.1 ∙ e
+
+  pass_none : (p : SctpStreams S) (met : Met) (q : SctpStreams S) → MakesPass m p met q → q.pushed ≡ None
+  unfolding MakesPass
+  pass_none p met q h = by p.rests h
+    where
+      by : (rests : Bool) → PassIf m rests p met q → q.pushed ≡ None
+      by true k = rests_none p.pushed p met q refl k.0
+      by false k = steps_none p met q k
 
   -- packets that came back are what the pass meets
   stops_there : (rest : SctpStreams S → Met → SctpStreams S → Type 0) (o : SctpEvent) (own : Met) (b : SctpStreams S) (met : Met) (q : SctpStreams S)
@@ -104,12 +116,21 @@ module _ {S : Type 0} (m : AssociationMeaning S) where
   stops_there rest o (Output x) b met q e k = k.0 ∙ e
   stops_there rest o OutOfMemory b met q e k = cc (e)
 
+  steps_give_back : (packets : List (List ℕ)) (p : SctpStreams S) (met : Met) (q : SctpStreams S) → p.pushed ≡ Some packets → TakesSteps m p met q
+      → met ≡ Output (event.Transmit packets)
+  unfolding TakesSteps
+  steps_give_back packets p met q e h =
+      let given = subst (λ (o : Option (List (List ℕ))). TransmitOf m o (unclosed_streams p) h.0 h.1.0) e h.1.1.0 in
+      stops_there (Else (HandlesEvent m) (Else (VisitsEntries m) GivesCompletion)) (event.Transmit packets) h.0 h.1.0 met q given.0 h.1.1.1
+
   gives_back : (packets : List (List ℕ)) (p : SctpStreams S) (met : Met) (q : SctpStreams S) → p.pushed ≡ Some packets → MakesPass m p met q
       → met ≡ Output (event.Transmit packets)
   unfolding MakesPass
-  gives_back packets p met q e h =
-      let given = subst (λ (o : Option (List (List ℕ))). TransmitOf m o (unclosed_streams p) h.0 h.1.0) e h.1.1.0 in
-      stops_there (Else (HandlesEvent m) (Else (VisitsEntries m) GivesCompletion)) (event.Transmit packets) h.0 h.1.0 met q given.0 h.1.1.1
+  gives_back packets p met q e h = by p.rests h
+    where
+      by : (rests : Bool) → PassIf m rests p met q → met ≡ Output (event.Transmit packets)
+      by true k = (subst (λ (o : Option (List (List ℕ))). RestsBy o p met q) e k.0).0
+      by false k = steps_give_back packets p met q e k
 
 module _ {S : Type 0} (m : AssociationMeaning S) (w : AssociationLaws m) where
   -- at most one packet is met
@@ -181,12 +202,20 @@ module _ {S : Type 0} (m : AssociationMeaning S) (w : AssociationLaws m) where
       (else_single (VisitsEntries m) GivesCompletion (λ p met q h. visits_single (is_established p.state && m.started p.association) p met q h)
       (λ p met q h. completion_single p.completed p met q h))
 
-  pass_single : (p : SctpStreams S) (met : Met) (q : SctpStreams S) → p.pushed ≡ None → MakesPass m p met q → Single met
-  unfolding MakesPass
-  pass_single p met q e h =
+  steps_single : (p : SctpStreams S) (met : Met) (q : SctpStreams S) → p.pushed ≡ None → TakesSteps m p met q → Single met
+  unfolding TakesSteps
+  steps_single p met q e h =
       let given = subst (λ (o : Option (List (List ℕ))). TransmitOf m o (unclosed_streams p) h.0 h.1.0) e h.1.1.0 in
       then_single (Else (HandlesEvent m) (Else (VisitsEntries m) GivesCompletion)) rest_single h.0 h.1.0 met q
       (transmit_single (m.started p.association) (unclosed_streams p) h.0 h.1.0 given) h.1.1.1
+
+  pass_single : (p : SctpStreams S) (met : Met) (q : SctpStreams S) → p.pushed ≡ None → MakesPass m p met q → Single met
+  unfolding MakesPass
+  pass_single p met q e h = by p.rests h
+    where
+      by : (rests : Bool) → PassIf m rests p met q → Single met
+      by true k = single_is Nothing met (subst (λ (o : Option (List (List ℕ))). RestsBy o p met q) e k.0).0 (omega arith)
+      by false k = steps_single p met q e k
 
   waits_single : (met : Met) → Single met → met_waiting met ≤ 2
   waits_single Nothing s = omega arith

@@ -150,7 +150,7 @@ fn take_formats(config: RtcConfig) -> Formats
     Formats { codecs, extensions }
 }
 
-fn empty_peer<I, D, S, M, N>(
+fn empty_peer<I, D, S: Association, M, N>(
     alloc: Global,
     formats: Formats,
     polite: Option<bool>,

@@ -7,6 +7,7 @@ ghost use Rattle.rtc_peer_core.specs.Calls.{SetsDirection, StopsMedia, noted_of}
 ghost use Rattle.rtc_peer_core.specs.Undo.{has_undo_of};
 
 use rtc_change::{Lines, direct_row, stop_row};
+use rtc_part_association::Association;
 use rtc_peer_core::{Peer, Staged, Undo};
 use rtc_sdp_values::{Direction, Mid};
 use std::alloc::AllocError;
@@ -69,7 +70,7 @@ fn stage_direction(
 }
 
 /// Sets the direction of the live media line of a mid, and stages it; returns whether the line changed.
-pub fn set_direction<I, D, S, M, N>(
+pub fn set_direction<I, D, S: Association, M, N>(
     peer: &mut Peer<I, D, S, M, N>,
     mid: Mid,
     dir: Direction,
@@ -86,7 +87,7 @@ pub fn set_direction<I, D, S, M, N>(
 }
 
 /// Stops the live media line of a mid for good, and stages it; returns whether the line changed.
-pub fn stop_media<I, D, S, M, N>(
+pub fn stop_media<I, D, S: Association, M, N>(
     peer: &mut Peer<I, D, S, M, N>,
     mid: Mid,
 ) -> Result<bool, AllocError>

@@ -13,13 +13,13 @@ use rtc_peer_core::Peer;
 use rtc_wire::{Addr, DatagramRecv};
 
 /// A peer with its connection to the other side. Its fields are public for the crates that work on it; callers hold an `Rtc`.
-pub struct PolledPeer<I, D, S, M, N> {
+pub struct PolledPeer<I, D, S: Association, M, N> {
     pub core: Peer<I, D, S, M, N>,
     pub transport: Transport,
 }
 
 // Written out, so that the proof of what owns a peer sees one call and not the drop of each field.
-impl<I: Drop, D: Drop, S: Drop, M: Drop, N: Drop> Drop for PolledPeer<I, D, S, M, N> {
+impl<I: Drop, D: Drop, S: Association + Drop, M: Drop, N: Drop> Drop for PolledPeer<I, D, S, M, N> {
     fn drop(self) {
         let PolledPeer {
             core: _core,
@@ -46,7 +46,7 @@ fn leads_to(send_addr: &Option<SendAddr>, addr: &Addr) -> bool
     }
 }
 
-impl<I, D, S, M, N> PolledPeer<I, D, S, M, N> {
+impl<I, D, S: Association, M, N> PolledPeer<I, D, S, M, N> {
     /// The reason of the last timeout that a poll returned; `NotHappening` before the first.
     pub fn last_timeout_reason(&self) -> Reason
         ensures { result ≡ self.now.transport.last_reason }

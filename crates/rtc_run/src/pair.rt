@@ -3,6 +3,7 @@ ghost use Rattle.std.specs.Prelude.{◌≡◌, ◌+◌, ◌<◌, ◌≤◌, ◌^
 ghost use Rattle.rtc_peer_core.specs.Meanings.{meanings};
 
 use crate::performing::perform_step;
+use rtc_part_association::Association;
 use rtc_peer::{Association, DtlsInstance, IceAgent, Ids, MediaSession, Rtc};
 use rtc_run_history::{Kept, Reply, SentPacket, Side, Step};
 use rtc_wire::Addr;
@@ -10,7 +11,7 @@ use std::alloc::Global;
 use std::marker::Model;
 
 /// Two peers, an address of each, the session descriptions that they made, the tokens of their offers, and the datagrams that they sent.
-pub struct Pair<I, D, S, M, N> {
+pub struct Pair<I, D, S: Association, M, N> {
     alloc: Global,
     left: Rtc<I, D, S, M, N>,
     right: Rtc<I, D, S, M, N>,
@@ -22,7 +23,7 @@ pub struct Pair<I, D, S, M, N> {
 }
 
 // Written out, so that the proof of what owns a pair sees one call and not the drop of each part of both peers.
-impl<I: Drop, D: Drop, S: Drop, M: Drop, N: Drop> Drop for Pair<I, D, S, M, N> {
+impl<I: Drop, D: Drop, S: Association + Drop, M: Drop, N: Drop> Drop for Pair<I, D, S, M, N> {
     fn drop(self) {
         let Pair {
             alloc: _alloc,
@@ -37,7 +38,7 @@ impl<I: Drop, D: Drop, S: Drop, M: Drop, N: Drop> Drop for Pair<I, D, S, M, N> {
     }
 }
 
-impl<I, D, S, M, N> Model for Pair<I, D, S, M, N> {
+impl<I, D, S: Association, M, N> Model for Pair<I, D, S, M, N> {
     ghost use Rattle.rtc_run_history.specs.PairState.{PairState};
 
     ghost Value = { PairState I D S M N };

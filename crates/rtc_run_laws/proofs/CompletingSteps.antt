@@ -10,7 +10,7 @@ use Rattle.rtc_sctp_entries.specs.declared.stream_entry.StreamEntry.{StreamEntry
 use Rattle.rtc_sctp_entries.specs.declared.met.Met.{Met}
 use Rattle.rtc_sctp_entries.specs.declared.met.Met.TheVariants.{Nothing, Again, Output, OutOfMemory}
 use Rattle.rtc_sctp.specs.Streams.{SctpStreams, is_established}
-use Rattle.rtc_sctp.specs.Polls.{Book, book_of, AfterEvent, CompletionOf, Else, Event, GivesCompletion, GivesTransmit, HandlesEvent, MakesPass, NoEvent, NoRoom, NotStarted, TakesEvent, TakesPacket, ThenBy, TransmitIf, TransmitOf, VisitsEntries, VisitsIf, event_met, unclosed_streams}
+use Rattle.rtc_sctp.specs.Polls.{Book, book_of, AfterEvent, CompletionOf, Else, Event, GivesCompletion, GivesTransmit, HandlesEvent, MakesPass, NoEvent, NoRoom, NotStarted, PassIf, RestsBy, TakesEvent, TakesPacket, TakesSteps, ThenBy, TransmitIf, TransmitOf, VisitsEntries, VisitsIf, event_met, unclosed_streams}
 use Rattle.rtc_sctp_laws.specs.StreamMessages.{resets_met}
 use Rattle.rtc_sctp_laws.specs.StreamUses.{IsLive}
 use Rattle.rtc_sctp_laws.proofs.LivingEntries.{live_after, live_is, live_unclosed}
@@ -216,7 +216,21 @@ module _ {S : Type 0} (m : AssociationMeaning S) (w : AssociationLaws m) where
   unclosed_left s g p met q (Quiet r st live) = Quiet r st live
   unclosed_left s g p met q (Completed id e st live c up) = Completed id e st live c up
 
+  -- streams at rest
+  rests_left : (s g : ℕ) (o : Option (List (List ℕ))) (p : SctpStreams S) (met : Met) (q : SctpStreams S) → is_established p.state ≡ true → IsLive s g p.entries
+      → RestsBy o p met q → Left s g p met q
+  rests_left s g None p met q st live h =
+      Quiet (ap resets_met h.0) (ap (λ (x : SctpStreams S). is_established x.state) h.1 ∙ st) (live_is s g p.entries q.entries (ap (λ (x : SctpStreams S). x.entries) h.1) live)
+  rests_left s g (Some packets) p met q st live h = transmit_left s g p (Some packets) p met q st live h
+
+  pass_if : (b : Bool) (s g : ℕ) (p : SctpStreams S) (met : Met) (q : SctpStreams S) → is_established p.state ≡ true → m.started p.association ≡ true → IsLive s g p.entries
+      → PassIf m b p met q → Left s g p met q
+  unfolding TakesSteps
+  pass_if true s g p met q st begun live h = rests_left s g p.pushed p met q st live h.0
+  pass_if false s g p met q st begun live h =
+      unclosed_left s g p met q (steps_left s g (unclosed_streams p) met q st begun (live_unclosed s g p.entries live) h)
+
   pub pass_left : (s g : ℕ) (p : SctpStreams S) (met : Met) (q : SctpStreams S) → is_established p.state ≡ true → m.started p.association ≡ true → IsLive s g p.entries
       → MakesPass m p met q → Left s g p met q
   unfolding MakesPass
-  pass_left s g p met q st begun live h = unclosed_left s g p met q (steps_left s g (unclosed_streams p) met q st begun (live_unclosed s g p.entries live) h)
+  pass_left s g p met q st begun live h = pass_if p.rests s g p met q st begun live h

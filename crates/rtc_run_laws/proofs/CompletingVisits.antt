@@ -19,7 +19,7 @@ use Rattle.rtc_sctp_entries.specs.declared.sctp_event.SctpEvent.TheVariants as e
 use Rattle.rtc_sctp_entries.specs.declared.met.Met.{Met}
 use Rattle.rtc_sctp_entries.specs.declared.met.Met.TheVariants.{Nothing, Again, Output, OutOfMemory}
 use Rattle.rtc_sctp_entries.specs.Entries.{fits_generation}
-use Rattle.rtc_sctp_entries.specs.Visits.{Turn, turn, Marks, ClosedBy, Closes, NoRoom, Ended, TakesDcep, TakesStreamMessage, ReadBy, HandedBy, AttendsBy, AttendsIf, is_entry_there, VisitsIn, Visits}
+use Rattle.rtc_sctp_entries.specs.Visits.{Turn, turn, Marks, ClosedBy, Closes, NoRoom, Ended, TakesDcep, TakesStreamMessage, ReadBy, MayRead, IsRead, NothingUnread, HandedBy, AttendsBy, AttendsIf, is_entry_there, VisitsIn, Visits}
 use Rattle.rtc_sctp.specs.Polls.{VisitedThen, VisitsAll}
 use Rattle.rtc_sctp_laws.specs.StreamUses.{entries_of, IsLiveIn, IsLive}
 use Rattle.rtc_sctp_laws.proofs.EntriesOf.{entries_own, entries_other, same_test}
@@ -79,10 +79,14 @@ module _ {S : Type 0} (m : AssociationMeaning S) where
   handed did.Refused n g t met t' live h = same g t.entry.id met _ t' h.1 live
   handed did.OutOfMemory n g t met t' live h = same g t.entry.id met t t' h.1 live
 
+  may_read : (g : ℕ) (t : Turn S) (met : Met) (t' : Turn S) → IsLiveIn g t.entry → MayRead m t met t' → Leaves t.entry.id g met t'
+  may_read g t met t' live (IsRead h) = read_by h.answer g (record t { association = h.between }) met t' live h.then
+  may_read g t met t' live (NothingUnread unread e f) = same g t.entry.id met t t' f live
+
   attends_by : (b : BufferedThresholdConfig) (g : ℕ) (t : Turn S) (met : Met) (t' : Turn S) → IsLiveIn g t.entry → AttendsBy m b t met t' → Leaves t.entry.id g met t'
   attends_by (Desired n) g t met t' live h = handed h.answer n g (record t { association = h.between }) met t' live h.then
-  attends_by Unconfigured g t met t' live h = read_by h.answer g (record t { association = h.between }) met t' live h.then
-  attends_by (Configured n) g t met t' live h = read_by h.answer g (record t { association = h.between }) met t' live h.then
+  attends_by Unconfigured g t met t' live h = may_read g t met t' live h
+  attends_by (Configured n) g t met t' live h = may_read g t met t' live h
 
   -- where it gives nothing, the stream has the generation that the entry keeps
   abbrev FitsNow : (generation : ℕ) → Met → Turn S → Type 0

@@ -23,7 +23,7 @@ use Rattle.rtc_sctp_entries.specs.declared.met.Met.TheVariants.{Nothing, Again, 
 use Rattle.rtc_sctp_entries.specs.Entries.{config_or_fresh}
 use Rattle.rtc_sctp_entries.specs.Visits.{Turn, given_config, ReadsOpen}
 use Rattle.rtc_sctp_entries.specs.Visits.{AcknowledgedBy, Acknowledges}
-use Rattle.rtc_sctp_entries.specs.Visits.{TakenUpBy, TakesUp, TakenAs, TakesDcep, TakesStreamMessage, ReadBy, HandedBy, AttendsBy, AttendsIf, is_entry_there, VisitsIn, Visits}
+use Rattle.rtc_sctp_entries.specs.Visits.{TakenUpBy, TakesUp, TakenAs, TakesDcep, TakesStreamMessage, ReadBy, MayRead, IsRead, NothingUnread, HandedBy, AttendsBy, AttendsIf, is_entry_there, VisitsIn, Visits}
 use Rattle.rtc_run_laws.proofs.StandingVisits.{Goes, IsAs, IsSilent, as_is, by_turn, closes, marks, opens, opens_entry, resting, starves, takes_ack}
 
 -- the config that an open message gives is of no other means
@@ -107,10 +107,14 @@ module _ {S : Type 0} (m : AssociationMeaning S) (e : StreamEntry) where
   handed did.Refused n t met t' k h = configured n t met t' k h.0 h.1
   handed did.OutOfMemory n t met t' k h = starves m e t met t' k h
 
+  may_read : (t : Turn S) (met : Met) (t' : Turn S) → IsAs e t.entry → MayRead m t met t' → Goes met e t'.entry
+  may_read t met t' k (IsRead h) = read_by h.answer (record t { association = h.between }) met t' k h.then
+  may_read t met t' k (NothingUnread unread same_met same) = by_turn m e Nothing t met t' same_met same (as_is m e Nothing t.entry resting k)
+
   attends_by : (b : BufferedThresholdConfig) (t : Turn S) (met : Met) (t' : Turn S) → IsAs e t.entry → AttendsBy m b t met t' → Goes met e t'.entry
   attends_by (Desired n) t met t' k h = handed h.answer n (record t { association = h.between }) met t' k h.then
-  attends_by Unconfigured t met t' k h = read_by h.answer (record t { association = h.between }) met t' k h.then
-  attends_by (Configured n) t met t' k h = read_by h.answer (record t { association = h.between }) met t' k h.then
+  attends_by Unconfigured t met t' k h = may_read t met t' k h
+  attends_by (Configured n) t met t' k h = may_read t met t' k h
 
   attends_if : (b there : Bool) (t : Turn S) (met : Met) (t' : Turn S) → IsAs e t.entry → AttendsIf m b there t met t' → Goes met e t'.entry
   attends_if true there t met t' k h = closes m e t met t' k h

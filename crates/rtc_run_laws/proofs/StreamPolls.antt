@@ -12,7 +12,7 @@ use Rattle.rtc_sctp_entries.specs.declared.met.Met.TheVariants.{Nothing, Again, 
 use Rattle.rtc_sctp_entries.specs.Entries.{Ascend}
 use Rattle.rtc_sctp.specs.declared.rtc_sctp_state.RtcSctpState.TheVariants.{Uninited, Established}
 use Rattle.rtc_sctp.specs.Streams.{SctpStreams, is_established}
-use Rattle.rtc_sctp.specs.Polls.{Book, book_of, event_met, AfterEvent, TakesPacket, Else, ThenBy, unclosed_streams, CompletionOf, TransmitIf, TransmitOf, TakesEvent, NotStarted, NoRoom, NoEvent, Event, VisitsIf, MakesPass, Over, PollsStreams}
+use Rattle.rtc_sctp.specs.Polls.{Book, book_of, event_met, AfterEvent, TakesPacket, Else, ThenBy, unclosed_streams, CompletionOf, TransmitIf, TransmitOf, TakesEvent, NotStarted, NoRoom, NoEvent, Event, VisitsIf, TakesSteps, RestsBy, PassIf, MakesPass, Over, PollsStreams}
 use Rattle.rtc_sctp.proofs.OrderKept.{tour_ascend}
 use Rattle.rtc_sctp_laws.specs.StreamMessages.{met_of}
 use Rattle.rtc_sctp_laws.specs.StreamUses.{TellsStreamOpen}
@@ -136,7 +136,7 @@ module _ {S : Type 0} (m : AssociationMeaning S) where
           go_same met p (record p { association = q.association }) q (silent_packet p.association met q.association k.0) k.1 refl refl refl
 
   completion_goes : (l : List ℕ) (p : SctpStreams S) (met : Met) (q : SctpStreams S) → CompletionOf l p met q → StreamsGo met p q
-  completion_goes [] p met q h = go_same met p p q (silent_is met Nothing h.0 resting) h.1 refl refl refl
+  completion_goes [] p met q h = go_same met p (record p { rests = true }) q (silent_is met Nothing h.0 resting) h.1 refl refl refl
   completion_goes (id ∷ rest) p met q h =
       go_same met p (record p { completed = rest }) q
       (silent_is met (Output (event.StreamResetComplete id)) h.0 (record { opens = λ s told. told; closes = λ s told. told })) h.1 refl refl refl
@@ -179,15 +179,25 @@ module _ {S : Type 0} (m : AssociationMeaning S) where
   dropped : (p : SctpStreams S) → StreamsGo Nothing p (unclosed_streams p)
   dropped p = go_kept Nothing p (unclosed_streams p) resting (kept_unclosed p.entries) (λ e. e) refl
 
-  pass_goes : (p : SctpStreams S) (met : Met) (q : SctpStreams S) → MakesPass m p met q → StreamsGo met p q
-  unfolding MakesPass
-  pass_goes p met q h =
+  -- streams at rest
+  rests_go : (o : Option (List (List ℕ))) (p : SctpStreams S) (met : Met) (q : SctpStreams S) → RestsBy o p met q → StreamsGo met p q
+  rests_go None p met q h = go_same met p p q (silent_is met Nothing h.0 resting) h.1 refl refl refl
+  rests_go (Some packets) p met q h = transmit_goes (Some packets) p met q h
+
+  pass_if : (b : Bool) (p : SctpStreams S) (met : Met) (q : SctpStreams S) → PassIf m b p met q → StreamsGo met p q
+  unfolding TakesSteps
+  pass_if true p met q h = rests_go p.pushed p met q h.0
+  pass_if false p met q h =
       go_on Nothing met p (unclosed_streams p) q (λ s told. told) (dropped p)
       (else_goes _ _ (λ p met q k. transmit_goes p.pushed p met q k)
       (else_goes _ _ (λ p met q k. event_goes p met q k.0 (ap (λ (y : SctpStreams S). y.client) k.1))
       (else_goes _ _ (λ p met q k. visits_go (is_established p.state && m.started p.association) p met q refl k)
       (λ p met q k. completion_goes p.completed p met q k)))
       (unclosed_streams p) met q h)
+
+  pass_goes : (p : SctpStreams S) (met : Met) (q : SctpStreams S) → MakesPass m p met q → StreamsGo met p q
+  unfolding MakesPass
+  pass_goes p met q h = pass_if p.rests p met q h
 
   over_goes : (n : ℕ) (p q : SctpStreams S) → Over m n p q → StreamsGo Again p q
   over_goes zero p q h = go_same Again p p q silent_again h refl refl refl

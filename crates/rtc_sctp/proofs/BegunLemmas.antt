@@ -67,7 +67,7 @@ module _ {S : Type 0} (m : AssociationMeaning S) (w : AssociationLaws m) where
 
   left_refused : (client : Bool) (now max : ℕ) (snap : Option InitHalves) (p q : SctpStreams S) (answer : Asked) → (answer ≡ did.Done → ⊥)
       → m.started p.association ≡ false → AsksInit m snap client p.association now max answer q.association
-      → q ≡ record p { association = q.association } → LeavesStart m p q
+      → q ≡ record p { association = q.association; rests = false } → LeavesStart m p q
   left_refused client now max snap p q answer refused fresh asks rest = record {
     started = init_unstarted m w snap client p.association q.association now max answer refused fresh asks ∙ sym fresh;
     snap = ap (λ (s : SctpStreams S). s.snap) rest;

@@ -6,3 +6,12 @@ pub mod StepLemmas
 pub mod OrderKept
 pub mod StartLemmas
 pub mod BegunLemmas
+pub mod RestLemmas
+pub mod TendedLemmas
+pub mod WalkLemmas
+pub mod IdSteps
+pub mod CallsTended
+pub mod StreamsTended
+pub mod EventsTended
+pub mod RetryLemmas
+pub mod RestingLemmas

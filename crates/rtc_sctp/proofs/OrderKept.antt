@@ -31,16 +31,12 @@ ascend_is es es' e h = subst (λ (l : List StreamEntry). Ascend l) (sym e) h
 pub ascend_dropped : (es es' : List StreamEntry) → es' ≡ unclosed es → Ascend es → Ascend es'
 ascend_dropped es es' e h = ascend_is (unclosed es) es' e (ascend_unclosed es h)
 
--- a threshold is asked for
-pub ascend_threshold : (n place : ℕ) (es es' : List StreamEntry) → SetsThresholdAt n place es es' → Ascend es → Ascend es'
-ascend_threshold n place es es' h k = ascend_is _ es' h.2 (ascend_set 0 es place h.0 _ h.1 refl k)
-
 -- what is known of the fields of streams is known of the streams
 pub threshold_is : {S : Type 0} (id n place : ℕ) (p0 p : SctpStreams S) (es' : List StreamEntry) → p0 ≡ p → entry_place id p0.entries ≡ Some place → SetsThresholdAt n place p0.entries es'
-    → SetsThreshold S n (entry_place id p.entries) p (record p0 { entries = es' })
+    → SetsThreshold S n (entry_place id p.entries) p (record p0 { entries = es'; rests = false })
 threshold_is {S} id n place p0 p es' view e h =
-    subst (λ (x : SctpStreams S). SetsThreshold S n (entry_place id x.entries) x (record p0 { entries = es' })) view
-    (rw e (h.0, h.1, ap (λ (l : List StreamEntry). record p0 { entries = l }) h.2))
+    subst (λ (x : SctpStreams S). SetsThreshold S n (entry_place id x.entries) x (record p0 { entries = es'; rests = false })) view
+    (rw e (h.0, h.1, ap (λ (l : List StreamEntry). record p0 { entries = l; rests = false }) h.2))
 
 -- events
 expected_by : (o : Option ℕ) (id : ℕ) (es : List StreamEntry) → entry_place id es ≡ o → Ascend es → Ascend (if is_some o then es else with_entry (new_entry id AwaitConfig None) es)
@@ -108,7 +104,7 @@ module _ {S : Type 0} (m : AssociationMeaning S) where
   awaiting_id true config p e r q e' h = ap (λ (y : StreamEntry). y.id) h.2
   awaiting_id false config p e r q e' h = config_id config p e r q e' h
 
-  over_id : (st : StreamEntryState) (config : ChannelConfig) (p : S) (e : StreamEntry) (r : Result (Unit {0}) AllocError) (q : S) (e' : StreamEntry) → OpensOver m st config p e r q e' → e'.id ≡ e.id
+  pub over_id : (st : StreamEntryState) (config : ChannelConfig) (p : S) (e : StreamEntry) (r : Result (Unit {0}) AllocError) (q : S) (e' : StreamEntry) → OpensOver m st config p e r q e' → e'.id ≡ e.id
   over_id AwaitConfig config p e r q e' h = awaiting_id _ config p e r q e' h
   over_id AwaitOpen config p e r q e' h = ap (λ (y : StreamEntry). y.id) h.2
   over_id AwaitDcepAck config p e r q e' h = ap (λ (y : StreamEntry). y.id) h.2

@@ -17,7 +17,7 @@ use Rattle.rtc_sctp_entries.specs.Entries.{entry_place, new_entry, new_place, en
 use Rattle.rtc_sctp.specs.Streams.{SctpStreams, is_established}
 use Rattle.rtc_sctp_entries.specs.Visits.{Turn, turn}
 use Rattle.rtc_sctp_entries.specs.Entries.{unclosed, is_closed_state}
-use Rattle.rtc_sctp.specs.Polls.{finished_entry, FinishesAt, Book, book_of, AfterEvent, event_met, Else, ThenBy, unclosed_streams, CompletionOf, TakesPacket, TransmitIf, TransmitOf, TakesEvent, HandlesEvent, NotStarted, NoRoom, NoEvent, Event, VisitedThen, VisitsAll, VisitsIf, MakesPass, credits, pushed_count, streams_work}
+use Rattle.rtc_sctp.specs.Polls.{finished_entry, FinishesAt, Book, book_of, AfterEvent, event_met, Else, ThenBy, unclosed_streams, CompletionOf, TakesPacket, TransmitIf, TransmitOf, TakesEvent, HandlesEvent, NotStarted, NoRoom, NoEvent, Event, VisitedThen, VisitsAll, VisitsIf, TakesSteps, RestsBy, PassIf, MakesPass, credits, pushed_count, streams_work}
 use Rattle.rtc_sctp_entries.proofs.GainLemmas.{Gains, gains_from, visits_gain}
 
 -- what stands at a place
@@ -83,7 +83,7 @@ module _ {S : Type 0} (m : AssociationMeaning S) (w : AssociationLaws m) where
   dropped_credits es = let both = sum_by-filter_both (λ e. not (is_closed_state e.state)) (λ e. not (not (is_closed_state e.state))) (λ e. refl) entry_credit es in omega (arith, both)
 
   completion_of : (l : List ℕ) (p : SctpStreams S) (met : Met) (q : SctpStreams S) → p.completed ≡ l → CompletionOf l p met q → Gains met 1 (streams_work m p) (streams_work m q)
-  completion_of [] p met q e h = met_is Nothing 1 _ p met q h.0 h.1 (omega arith)
+  completion_of [] p met q e h = met_is Nothing 1 _ (record p { rests = true }) met q h.0 h.1 (omega arith)
   completion_of (id ∷ rest) p met q e h = met_is (Output _) 1 _ _ met q h.0 h.1 (omega (arith, ap length e))
 
   else_gain : (A B : SctpStreams S → Met → SctpStreams S → Type 0) → ((p : SctpStreams S) (met : Met) (q : SctpStreams S) → A p met q → Gains met 1 (streams_work m p) (streams_work m q)) → ((p : SctpStreams S) (met : Met) (q : SctpStreams S) → B p met q → Gains met 1 (streams_work m p) (streams_work m q)) → (p : SctpStreams S) (met : Met) (q : SctpStreams S) → Else A B p met q → Gains met 1 (streams_work m p) (streams_work m q)
@@ -167,10 +167,9 @@ module _ {S : Type 0} (m : AssociationMeaning S) (w : AssociationLaws m) where
       (more_gain met more (m.units p.association + credits p.entries) (m.units q.association + credits q.entries)
       (all_gain p.last p.entries p.association p.resets met q.association q.resets q.entries h.0))
 
-  -- each pass that meets something takes work away
-  pub passes_gain : (p : SctpStreams S) (met : Met) (q : SctpStreams S) → MakesPass m p met q → Gains met 1 (streams_work m p) (streams_work m q)
-  unfolding MakesPass
-  passes_gain p met q h =
+  steps_gain : (p : SctpStreams S) (met : Met) (q : SctpStreams S) → TakesSteps m p met q → Gains met 1 (streams_work m p) (streams_work m q)
+  unfolding TakesSteps
+  steps_gain p met q h =
       let dropped = dropped_credits p.entries in
       gains_from met 1 1 (streams_work m p) (streams_work m (unclosed_streams p)) (streams_work m q) (omega (arith, dropped)) (omega (arith, dropped))
       (else_gain _ _ (λ p met q k. transmit_of p.pushed p met q refl k)
@@ -178,3 +177,16 @@ module _ {S : Type 0} (m : AssociationMeaning S) (w : AssociationLaws m) where
       (else_gain _ _ (λ p met q k. visits_if (is_established p.state && m.started p.association) p met q k)
       (λ p met q k. completion_of p.completed p met q refl k)))
       (unclosed_streams p) met q h)
+
+  -- each pass that meets something takes work away
+  pub passes_gain : (p : SctpStreams S) (met : Met) (q : SctpStreams S) → MakesPass m p met q → Gains met 1 (streams_work m p) (streams_work m q)
+  unfolding MakesPass
+  passes_gain p met q h = by p.rests h
+    where
+      rests : (o : Option (List (List ℕ))) → p.pushed ≡ o → RestsBy o p met q → Gains met 1 (streams_work m p) (streams_work m q)
+      rests None e k = met_is Nothing 1 _ p met q k.0 k.1 (omega arith)
+      rests (Some packets) e k = transmit_of (Some packets) p met q e k
+
+      by : (b : Bool) → PassIf m b p met q → Gains met 1 (streams_work m p) (streams_work m q)
+      by true k = rests p.pushed refl k.0
+      by false k = steps_gain p met q k

@@ -1,12 +1,12 @@
 -- One step of a pass, and the next where it meets nothing.
-use Rattle.std.proofs.Common.{◌≡◌, true, refl, subst, ap, Option, Some}
+use Rattle.std.proofs.Common.{◌≡◌, Bool, true, false, refl, sym, subst, ap, Option, Some}
 use Rattle.rtc_part_association.specs.declared.assoc_event.AssocEvent.{AssocEvent}
 use Rattle.rtc_part_association.specs.AssociationMeaning.{AssociationMeaning}
 use Rattle.rtc_sctp_entries.specs.declared.met.Met.{Met}
 use Rattle.rtc_sctp_entries.specs.declared.met.Met.TheVariants.{Nothing, Again, Output, OutOfMemory}
 use Rattle.rtc_sctp.specs.Streams.{SctpStreams}
 use Rattle.rtc_sctp.specs.Polls.{Book, book_of, with_book, event_met, AfterEvent, TakesEvent, Event, Else, GivesTransmit}
-use Rattle.rtc_sctp.specs.Polls.{HandlesEvent, VisitsEntries, GivesCompletion, MakesPass, unclosed_streams}
+use Rattle.rtc_sctp.specs.Polls.{HandlesEvent, VisitsEntries, GivesCompletion, AreResting, TakesSteps, RestsBy, PassIf, MakesPass, unclosed_streams}
 
 pub else_go : {S : Type 0} (A B : SctpStreams S → Met → SctpStreams S → Type 0) (p : SctpStreams S) (own : Met) (q : SctpStreams S) (met : Met) (r : SctpStreams S)
     → A p own q → own ≡ Nothing → B q met r → Else A B p met r
@@ -34,7 +34,17 @@ module _ {S : Type 0} (m : AssociationMeaning S) where
 
   -- closed entries are dropped, and the steps are taken
   pub passed : (p u : SctpStreams S) (met : Met) (q : SctpStreams S) → u ≡ unclosed_streams p
-      → Else (GivesTransmit m) (Else (HandlesEvent m) (Else (VisitsEntries m) GivesCompletion)) u met q → MakesPass m p met q
-  unfolding MakesPass
+      → Else (GivesTransmit m) (Else (HandlesEvent m) (Else (VisitsEntries m) GivesCompletion)) u met q → TakesSteps m p met q
+  unfolding TakesSteps
   passed p u met q e h =
       subst (λ (x : SctpStreams S). Else (GivesTransmit m) (Else (HandlesEvent m) (Else (VisitsEntries m) GivesCompletion)) x met q) e h
+
+  -- a pass of streams at rest, and of others
+  pub stays : (p : SctpStreams S) (met : Met) (q : SctpStreams S) → p.rests ≡ true → RestsBy p.pushed p met q
+      → AreResting m p.association p.state p.last p.entries → MakesPass m p met q
+  unfolding MakesPass
+  stays p met q is by h = subst (λ (b : Bool). PassIf m b p met q) (sym is) (by, h)
+
+  pub stirs : (p : SctpStreams S) (met : Met) (q : SctpStreams S) → p.rests ≡ false → TakesSteps m p met q → MakesPass m p met q
+  unfolding MakesPass
+  stirs p met q is h = subst (λ (b : Bool). PassIf m b p met q) (sym is) h

@@ -85,7 +85,7 @@ state_on_input Established = Established
 
 -- a moment is kept, and closed entries are dropped
 abbrev pub timed_streams : {S : Type 0} → ℕ → SctpStreams S → SctpStreams S
-timed_streams now p = record p { last = now; entries = unclosed p.entries }
+timed_streams now p = record p { last = now; entries = unclosed p.entries; rests = false }
 
 -- when an opening is tried again: half a second after the last moment
 abbrev pub retry_wake : List StreamEntry → ℕ → Option ℕ
@@ -120,6 +120,7 @@ module _ {S : Type 0} (m : AssociationMeaning S) where
         remote_max = max;
         state = begun_state snap client;
         snap = begun_halves snap p.snap;
+        rests = false;
       })
   Inits client now max snap p (Err (sctp.Proto proto.Started)) q = (m.started p.association ≡ true) × (q ≡ p)
   Inits client now max snap p (Err (sctp.Proto proto.SnapHalf)) q =
@@ -127,11 +128,11 @@ module _ {S : Type 0} (m : AssociationMeaning S) where
   Inits client now max snap p (Err (sctp.Proto proto.Fault)) q =
       (m.started p.association ≡ false)
       × AsksInit snap client p.association now max did.Refused q.association
-      × (q ≡ record p { association = q.association })
+      × (q ≡ record p { association = q.association; rests = false })
   Inits client now max snap p (Err sctp.Alloc) q =
       (m.started p.association ≡ false)
       × AsksInit snap client p.association now max did.OutOfMemory q.association
-      × (q ≡ record p { association = q.association })
+      × (q ≡ record p { association = q.association; rests = false })
   Inits client now max snap p (Err e) q = ⊥
 
   -- whether there is nothing to shut down: the association is not started, closing or closed
@@ -141,11 +142,12 @@ module _ {S : Type 0} (m : AssociationMeaning S) where
   -- the association is shut down, if it is not yet
   abbrev pub ShutBy : Bool → SctpStreams S → Result (Unit {0}) SctpError → SctpStreams S → Type 0
   ShutBy true p r q = (r ≡ Ok tt) × (q ≡ p)
-  ShutBy false p (Ok x) q = AsksShutdown m p.association did.Done q.association × (q ≡ record p { association = q.association })
+  ShutBy false p (Ok x) q =
+      AsksShutdown m p.association did.Done q.association × (q ≡ record p { association = q.association; rests = false })
   ShutBy false p (Err (sctp.Proto proto.Fault)) q =
-      AsksShutdown m p.association did.Refused q.association × (q ≡ record p { association = q.association })
+      AsksShutdown m p.association did.Refused q.association × (q ≡ record p { association = q.association; rests = false })
   ShutBy false p (Err sctp.Alloc) q =
-      AsksShutdown m p.association did.OutOfMemory q.association × (q ≡ record p { association = q.association })
+      AsksShutdown m p.association did.OutOfMemory q.association × (q ≡ record p { association = q.association; rests = false })
   ShutBy false p (Err e) q = ⊥
 
   abbrev pub Shuts : SctpStreams S → Result (Unit {0}) SctpError → SctpStreams S → Type 0
@@ -167,7 +169,7 @@ module _ {S : Type 0} (m : AssociationMeaning S) where
       (answer : Result ℕ AssocError)
       × m.wrote p.association id (written_ppi binary (is_nil bytes)) bytes answer q.association
       × (r ≡ write_answer id (length bytes) p.remote_max answer)
-      × (q ≡ record p { association = q.association })
+      × (q ≡ record p { association = q.association; rests = false })
 
   abbrev pub WritesStream : (id : ℕ) → Bool → List ℕ → SctpStreams S → Result ℕ SctpError → SctpStreams S → Type 0
   WritesStream id binary bytes p r q = WrittenIf (can_write id p) (is_current id p) id binary bytes p r q
@@ -182,7 +184,7 @@ module _ {S : Type 0} (m : AssociationMeaning S) where
   InputIf false now bytes p r q = (r ≡ Ok tt) × (q ≡ p)
   InputIf true now bytes p r q =
       m.given p.association now bytes r q.association
-      × (q ≡ record p { association = q.association; state = state_on_input p.state })
+      × (q ≡ record p { association = q.association; state = state_on_input p.state; rests = false })
 
   abbrev pub TakesInput : ℕ → List ℕ → SctpStreams S → Result (Unit {0}) AllocError → SctpStreams S → Type 0
   TakesInput now bytes p r q = InputIf (m.started p.association) now bytes p r q

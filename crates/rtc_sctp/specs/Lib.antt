@@ -4,3 +4,5 @@ pub mod Refusals
 pub mod SnapCalls
 pub mod StreamCalls
 pub mod Polls
+pub mod Rest
+pub mod TourSteps

@@ -89,13 +89,18 @@ Else {S} first next p met q = (own : Met) × ((between : SctpStreams S) × (firs
 abbrev pub unclosed_streams : {S : Type 0} → SctpStreams S → SctpStreams S
 unclosed_streams p = record p { entries = unclosed p.entries }
 
--- last step: one completion is returned
+-- last step: streams rest unless a completion is left, which is returned
 abbrev pub CompletionOf : {S : Type 0} → List ℕ → SctpStreams S → Met → SctpStreams S → Type 0
-CompletionOf [] p met q = (met ≡ Nothing) × (q ≡ p)
+CompletionOf [] p met q = (met ≡ Nothing) × (q ≡ record p { rests = true })
 CompletionOf (id ∷ rest) p met q = (met ≡ Output (event.StreamResetComplete id)) × (q ≡ record p { completed = rest })
 
 abbrev pub GivesCompletion : {S : Type 0} → SctpStreams S → Met → SctpStreams S → Type 0
 GivesCompletion p met q = CompletionOf p.completed p met q
+
+-- streams at rest give packets that were pushed back, and nothing else
+abbrev pub RestsBy : {S : Type 0} → Option (List (List ℕ)) → SctpStreams S → Met → SctpStreams S → Type 0
+RestsBy None p met q = (met ≡ Nothing) × (q ≡ p)
+RestsBy (Some packets) p met q = (met ≡ Output (event.Transmit packets)) × (q ≡ record p { pushed = None })
 
 abbrev pub credits : List StreamEntry → ℕ
 credits entries = sum_by entry_credit entries
@@ -176,9 +181,30 @@ module _ {S : Type 0} (m : AssociationMeaning S) where
   VisitsEntries p met q = VisitsIf (is_established p.state && m.started p.association) p met q
 
   -- the six steps once
+  unfoldable pub TakesSteps : SctpStreams S → Met → SctpStreams S → Type 0
+  TakesSteps p met q = Else GivesTransmit (Else HandlesEvent (Else VisitsEntries GivesCompletion)) (unclosed_streams p) met q
+
+  -- the same without the last one
+  unfoldable pub TakesFirstSteps : SctpStreams S → Met → SctpStreams S → Type 0
+  TakesFirstSteps p met q = Else GivesTransmit (Else HandlesEvent VisitsEntries) (unclosed_streams p) met q
+
+  -- streams at rest: steps that met nothing left them as they are
+  pub record AreResting (association : S) (state : RtcSctpState) (last : ℕ) (entries : List StreamEntry) : Type 0 where
+    pub before : SctpStreams S
+    pub after : SctpStreams S
+    pub steps : TakesFirstSteps before Nothing after
+    pub association_left : association ≡ after.association
+    pub state_left : state ≡ after.state
+    pub last_left : last ≡ after.last
+    pub entries_left : entries ≡ after.entries
+
+  -- a pass: streams at rest stay so, and of others the steps are taken
+  abbrev pub PassIf : Bool → SctpStreams S → Met → SctpStreams S → Type 0
+  PassIf true p met q = RestsBy p.pushed p met q × AreResting p.association p.state p.last p.entries
+  PassIf false p met q = TakesSteps p met q
+
   unfoldable pub MakesPass : SctpStreams S → Met → SctpStreams S → Type 0
-  MakesPass p met q =
-      Else GivesTransmit (Else HandlesEvent (Else VisitsEntries GivesCompletion)) (unclosed_streams p) met q
+  MakesPass p met q = PassIf p.rests p met q
 
   -- so many passes made work
   abbrev pub Over : ℕ → SctpStreams S → SctpStreams S → Type 0

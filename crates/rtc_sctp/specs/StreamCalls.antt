@@ -48,7 +48,7 @@ SetsThreshold S n None p q = q ≡ p
 SetsThreshold S n (Some place) p q =
     (e : StreamEntry)
     × (slice_get p.entries place ≡ Some e)
-    × (q ≡ record p { entries = slice_set p.entries place (record e { threshold = threshold_set n e.threshold }) })
+    × (q ≡ record p { entries = slice_set p.entries place (record e { threshold = threshold_set n e.threshold }); rests = false })
 
 -- the entry at a place is marked
 abbrev pub MarksAt : ℕ → List StreamEntry → List StreamEntry → Type 0
@@ -92,7 +92,7 @@ module _ {S : Type 0} (m : AssociationMeaning S) where
   abbrev pub OpensStream : ℕ → ChannelConfig → SctpStreams S → Result (Unit {0}) AllocError → SctpStreams S → Type 0
   OpensStream id config p r q =
       OpensAt (entry_place id p.entries) id config p.association p.entries r q.association q.entries
-      × (q ≡ record p { association = q.association; entries = q.entries })
+      × (q ≡ record p { association = q.association; entries = q.entries; rests = false })
 
   -- a stream of the association is closed
   pub data EndsStream (id : ℕ) (p : S) (resets : List ℕ) (r : Result (Unit {0}) AllocError) (q : S) (resets' : List ℕ) : Type 0 where
@@ -111,4 +111,4 @@ module _ {S : Type 0} (m : AssociationMeaning S) where
   abbrev pub ClosesDataStream : ℕ → SctpStreams S → Result (Unit {0}) AllocError → SctpStreams S → Type 0
   ClosesDataStream id p r q =
       ClosesAt (entry_place id p.entries) id p.association p.entries p.resets r q.association q.entries q.resets
-      × (q ≡ record p { association = q.association; entries = q.entries; resets = q.resets })
+      × (q ≡ record p { association = q.association; entries = q.entries; resets = q.resets; rests = false })

@@ -29,6 +29,8 @@ pub record SctpStreams (S : Type 0) : Type 0 where
   pub resets : List ℕ
   -- the streams whose completed reset is to be reported
   pub completed : List ℕ
+  -- whether a poll gave nothing, and nothing changed since but for packets that were pushed back
+  pub rests : Bool
 
 -- each packet that was pushed back is short enough to be sent as application data of DTLS
 abbrev pub ArePushedShort : Option (List (List ℕ)) → Type 0
@@ -51,6 +53,7 @@ no_streams mtu local_max start association = record {
   entries = [];
   resets = [];
   completed = [];
+  rests = false;
 }
 
 -- whether timeouts are given to the association, and its wake is read

@@ -1,6 +1,7 @@
 //! The streams of data channels over an association (RFC 8831, RFC 8832).
 #![tactic(auto)]
 
+mod agenda;
 mod events;
 mod polls;
 mod pushed_back;
@@ -10,6 +11,7 @@ mod starting;
 mod stream_calls;
 mod streams;
 mod timing;
+mod walk;
 mod writing;
 
 pub use rtc_sctp_entries::{BufferedThresholdConfig, SctpEvent, StreamEntry, StreamEntryState};

@@ -1,18 +1,22 @@
 //! The polls of streams.
-ghost use Rattle.std.specs.Prelude.{◌≡◌, [], true};
-ghost use Rattle.rtc_sctp_entries.specs.Entries.{Ascend};
-ghost use Rattle.rtc_sctp.specs.Polls.{TakesPacket, GivesTransmit, TakesEvent, HandlesEvent, book, VisitsAll, VisitsEntries};
-ghost use Rattle.rtc_sctp.specs.Polls.{GivesCompletion, MakesPass, PollsStreams, unclosed_streams};
+ghost use Rattle.std.specs.Prelude.{◌≡◌, true, false, []};
+ghost use Rattle.rtc_sctp_entries.specs.Entries.{unclosed};
+ghost use Rattle.rtc_sctp.specs.Polls.{TakesPacket, GivesTransmit, TakesEvent, HandlesEvent, book, VisitsEntries};
+ghost use Rattle.rtc_sctp.specs.Polls.{GivesCompletion, AreResting, TakesSteps, RestsBy, MakesPass, PollsStreams};
+ghost use Rattle.rtc_sctp.specs.Polls.{unclosed_streams};
+ghost use Rattle.rtc_sctp.specs.Rest.{AreTended, AreUnclosed};
 
+use crate::agenda::Agenda;
 use crate::events::{apply_event_with_room, make_room};
 use crate::streams::RtcSctp;
+use crate::walk::visit_all;
 use crate::{RtcSctpState, SctpEvent, StreamEntry};
 use rtc_part_association::Association;
 use rtc_sctp_entries::Met;
 use rtc_sctp_entries::entries::drop_closed;
-use rtc_sctp_entries::visit::visit;
-use rtc_wire::{Bytes, Moment, Seq};
+use rtc_wire::{Bytes, Seq};
 use std::alloc::{AllocError, Global};
+use std::collections::VecDeque;
 use std::mem;
 
 /// Room for one packet, if there is memory for it.
@@ -49,10 +53,12 @@ fn take_event<S: Association>(
     state: &mut RtcSctpState,
     entries: &mut Vec<StreamEntry>,
     resets: &mut Vec<u16>,
-    completed: &mut Vec<u16>,
+    completed: &mut VecDeque<u16>,
+    agenda: &mut Agenda,
 ) -> Met
-    requires { Ascend entries.old.items }
-    ensures { TakesEvent S.association
+    requires { AreTended S.association association.old entries.old.items agenda.old }
+    ensures tended { AreTended S.association association.new entries.new.items agenda.new }
+    ensures takes { TakesEvent S.association
         association.old (book state.old entries.old.items resets.old.items completed.old.items) result
         association.new (book state.new entries.new.items resets.new.items completed.new.items) }
 {
@@ -65,34 +71,25 @@ fn take_event<S: Association>(
     let Some(event) = association.poll() else {
         return Met::Nothing;
     };
-    apply_event_with_room(event, state, entries, resets, completed)
+    apply_event_with_room(event, state, entries, resets, completed, agenda)
 }
 
-// Visits the entries in order, up to the first that gives something.
-fn visit_all<S: Association>(
-    alloc: Global,
-    now: Moment,
-    association: &mut S,
-    entries: &mut Vec<StreamEntry>,
-    resets: &mut Vec<u16>,
-) -> Met
-    requires { S.association.started association.old ≡ true }
-    ensures { VisitsAll S.association now entries.old.items association.old resets.old.items result
-        association.new resets.new.items entries.new.items }
+/// Drops the closed entries, if there are any.
+pub(crate) fn sweep(entries: &mut Vec<StreamEntry>, agenda: &mut Agenda)
+    requires { agenda.old.closed ≡ false → AreUnclosed entries.old.items }
+    ensures entries { entries.new.items ≡ unclosed entries.old.items }
+    ensures streams { agenda.new.streams ≡ agenda.old.streams }
+    ensures closed { agenda.new.closed ≡ false }
 {
-    let mut place = 0usize;
-    'entries: while place < entries.len() {
-        match visit(alloc, now, association, &mut entries[place], resets) {
-            Met::Nothing => {}
-            met => return met,
-        }
-        place += 1;
+    if agenda.closed {
+        drop_closed(entries);
+        agenda.closed = false;
     }
-    Met::Nothing
 }
 
 impl<S: Association> RtcSctp<S> {
     fn give_transmit(&mut self) -> Met
+        requires { self.old.rests ≡ false }
         ensures { GivesTransmit S.association self.old result self.new }
     {
         match self.pushed.take() {
@@ -107,6 +104,7 @@ impl<S: Association> RtcSctp<S> {
     }
 
     fn take_event(&mut self) -> Met
+        requires { self.old.rests ≡ false }
         ensures { HandlesEvent S.association self.old result self.new }
     {
         take_event(
@@ -115,10 +113,14 @@ impl<S: Association> RtcSctp<S> {
             &mut self.entries,
             &mut self.resets,
             &mut self.completed,
+            &mut self.agenda,
         )
     }
 
+    // No event of the association is due.
     fn visit_entries(&mut self) -> Met
+        requires quiet { S.association.started self.old.association ≡ true → S.association.due self.old.association ≡ [] }
+        requires awake { self.old.rests ≡ false }
         ensures { VisitsEntries S.association self.old result self.new }
     {
         if self.state.is_established() && self.association.is_started() {
@@ -128,29 +130,56 @@ impl<S: Association> RtcSctp<S> {
                 &mut self.association,
                 &mut self.entries,
                 &mut self.resets,
+                &mut self.agenda,
             );
         }
         Met::Nothing
     }
 
+    // The steps before gave nothing: with no completion left the streams rest.
     fn give_completion(&mut self) -> Met
+        requires awake { self.old.rests ≡ false }
+        requires resting { AreResting S.association self.old.association self.old.state self.old.last self.old.entries }
         ensures { GivesCompletion self.old result self.new }
     {
-        if self.completed.is_empty() {
-            return Met::Nothing;
+        match self.completed.pop_front() {
+            None => {
+                self.rests = true;
+                Met::Nothing
+            }
+            Some(id) => Met::Output(SctpEvent::StreamResetComplete { id }),
         }
-        let id = self.completed.remove(0);
-        Met::Output(SctpEvent::StreamResetComplete { id })
     }
 
     fn drop_closed_entries(&mut self)
+        requires { self.old.rests ≡ false }
         ensures { self.new ≡ unclosed_streams self.old }
     {
-        drop_closed(&mut self.entries);
+        sweep(&mut self.entries, &mut self.agenda);
     }
 
-    fn pass(&mut self) -> Met
-        ensures { MakesPass S.association self.old result self.new }
+    fn is_resting(&self) -> bool
+        ensures rests { result ≡ self.now.rests }
+        ensures left { self.now.rests ≡ true
+            → AreResting S.association self.now.association self.now.state self.now.last self.now.entries }
+    {
+        self.rests
+    }
+
+    // What streams at rest give.
+    fn give_pushed(&mut self) -> Met
+        ensures { RestsBy self.old.pushed self.old result self.new }
+    {
+        match self.pushed.take() {
+            Some(packets) => Met::Output(SctpEvent::Transmit { packets }),
+            None => Met::Nothing,
+        }
+    }
+
+    // Takes the six steps once.
+    fn take_steps(&mut self) -> Met
+        requires { self.old.rests ≡ false }
+        ensures { TakesSteps S.association self.old result self.new }
     {
         self.drop_closed_entries();
         match self.give_transmit() {
@@ -166,6 +195,15 @@ impl<S: Association> RtcSctp<S> {
             met => return met,
         }
         self.give_completion()
+    }
+
+    fn pass(&mut self) -> Met
+        ensures { MakesPass S.association self.old result self.new }
+    {
+        if self.is_resting() {
+            return self.give_pushed();
+        }
+        self.take_steps()
     }
 
     /// The next of what the streams give.

@@ -95,7 +95,7 @@ impl<S: Association> RtcSctp<S> {
     ) -> Result<(), SctpError>
         ensures fresh { OnOk result (S.association.started self.old.association ≡ false) }
         ensures asked { OnOk result (AsksInit S.association snap.now client self.old.association now max Done self.new.association) }
-        ensures others { OnOk result (self.new ≡ record self.old { association = self.new.association }) }
+        ensures others { OnOk result (self.new ≡ record self.old { association = self.new.association; rests = false }) }
         ensures refused { IfErr result (λ error. Inits S.association client now max snap.now self.old (Err error) self.new) }
     {
         if self.association.is_started() {
@@ -104,6 +104,7 @@ impl<S: Association> RtcSctp<S> {
         if !are_whole(snap) {
             return Err(SctpError::Proto(ProtoError::SnapHalf));
         }
+        self.rests = false;
         match ask_start(&mut self.association, snap, client, now, max) {
             Asked::Done => Ok(()),
             Asked::Refused => Err(SctpError::Proto(ProtoError::Fault)),
@@ -118,12 +119,14 @@ impl<S: Association> RtcSctp<S> {
           remote_max = max;
           state = BegunState snap client;
           snap = begun_halves snap self.old.snap;
+          rests = false;
         } }
     {
         self.client = client;
         self.remote_max = max;
         self.state = begun_state(&snap, client);
         self.snap.begin(snap);
+        self.rests = false;
         self.room = make_packet_room(self.alloc);
         let _made = make_room(&mut self.entries, &mut self.resets, &mut self.completed);
     }
@@ -166,6 +169,7 @@ impl<S: Association> RtcSctp<S> {
         if self.is_ended() {
             return Ok(());
         }
+        self.rests = false;
         match part::shut(&mut self.association) {
             Asked::Done => Ok(()),
             Asked::Refused => Err(SctpError::Proto(ProtoError::Fault)),

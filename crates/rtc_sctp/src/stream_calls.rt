@@ -209,6 +209,8 @@ impl<S: Association> RtcSctp<S> {
         requires protocol { length config.protocol ≤ 65535 }
         ensures { OpensStream S.association id config self.old result self.new }
     {
+        self.agenda.note(id);
+        self.rests = false;
         open_in(&mut self.association, &mut self.entries, id, config)
     }
 
@@ -216,6 +218,8 @@ impl<S: Association> RtcSctp<S> {
     pub fn close_stream(&mut self, id: u16) -> Result<(), AllocError>
         ensures { ClosesDataStream S.association id self.old result self.new }
     {
+        self.agenda.note(id);
+        self.rests = false;
         close_in(
             &mut self.association,
             &mut self.entries,
@@ -231,7 +235,11 @@ impl<S: Association> RtcSctp<S> {
     {
         match place_of(self.entries.as_slice(), id) {
             None => {}
-            Some(place) => set_threshold_at(&mut self.entries, place, n),
+            Some(place) => {
+                set_threshold_at(&mut self.entries, place, n);
+                self.agenda.note(id);
+                self.rests = false;
+            }
         }
     }
 }

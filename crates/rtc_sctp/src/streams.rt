@@ -3,6 +3,7 @@ ghost use Rattle.std.specs.Prelude.{◌≡◌, ◌≤◌, ◌&&◌, if◌then◌
 ghost use Rattle.rtc_sctp_entries.specs.Entries.{stream_config};
 ghost use Rattle.rtc_sctp.specs.Streams.{no_streams, ArePushedShort};
 
+use crate::agenda::Agenda;
 use crate::pushed_back::PushedBack;
 use crate::{RtcSctpState, StreamEntry};
 use rtc_part_association::Association;
@@ -13,12 +14,13 @@ use rtc_wire::{
     MAX_DTLS_OVERHEAD, Moment, SCTP_OVERHEAD, Seq,
 };
 use std::alloc::Global;
+use std::collections::VecDeque;
 use std::marker::Model;
 
 /// The streams of the data channels of a peer, over an association.
 ///
 /// Packets and moments are given, and events are polled.
-pub struct RtcSctp<S> {
+pub struct RtcSctp<S: Association> {
     pub(crate) alloc: Global,
     pub(crate) association: S,
     pub(crate) state: RtcSctpState,
@@ -32,14 +34,19 @@ pub struct RtcSctp<S> {
     pub(crate) pushed: PushedBack,
     pub(crate) entries: Vec<StreamEntry>,
     pub(crate) resets: Vec<u16>,
-    pub(crate) completed: Vec<u16>,
+    pub(crate) completed: VecDeque<u16>,
     // Room for the packet that is taken next, so that a poll with nothing to give allocates nothing.
     pub(crate) room: Vec<Bytes>,
+    pub(crate) agenda: Agenda,
+    // Whether a poll gave nothing, and nothing changed since but for packets that were pushed back.
+    pub(crate) rests: bool,
 }
 
-impl<S> Model for RtcSctp<S> {
+impl<S: Association> Model for RtcSctp<S> {
     ghost use Rattle.rtc_sctp.specs.Streams.{SctpStreams};
-    ghost use Rattle.rtc_sctp_entries.specs.Entries.{Ascend};
+    ghost use Rattle.std.specs.Prelude.{◌≡◌, true};
+    ghost use Rattle.rtc_sctp.specs.Rest.{AreTended};
+    ghost use Rattle.rtc_sctp.specs.Polls.{AreResting};
 
     ghost Value = { SctpStreams S };
 
@@ -57,13 +64,15 @@ impl<S> Model for RtcSctp<S> {
       entries = s.entries.items;
       resets = s.resets.items;
       completed = s.completed.items;
+      rests = s.rests;
     } };
 
-    ghost invariant = { λ s. Ascend s.entries.items };
+    ghost invariant = { λ s. AreTended S.association s.association s.entries.items s.agenda
+        × (s.rests ≡ true → AreResting S.association s.association s.state s.last s.entries.items) };
 }
 
 // Written out, so that the proof of what owns the streams sees one call and not the drop of each field.
-impl<S: Drop> Drop for RtcSctp<S> {
+impl<S: Association + Drop> Drop for RtcSctp<S> {
     fn drop(self) {
         let RtcSctp {
             alloc: _alloc,
@@ -81,6 +90,8 @@ impl<S: Drop> Drop for RtcSctp<S> {
             resets: _resets,
             completed: _completed,
             room: _room,
+            agenda: _agenda,
+            rests: _rests,
         } = self;
     }
 }
@@ -118,8 +129,10 @@ impl<S: Association> RtcSctp<S> {
             pushed: PushedBack::none(),
             entries: Vec::new(alloc),
             resets: Vec::new(alloc),
-            completed: Vec::new(alloc),
+            completed: VecDeque::new(alloc),
             room: Vec::new(alloc),
+            agenda: Agenda::new(),
+            rests: false,
         }
     }
 

@@ -1,15 +1,20 @@
 //! Packets and moments that are given.
 ghost use Rattle.std.specs.Prelude.{◌≡◌};
+ghost use Rattle.std.specs.List.{list_any};
+ghost use Rattle.rtc_sctp_entries.specs.Entries.{Ascend, is_retrying as IsRetrying};
+ghost use Rattle.rtc_sctp.specs.Rest.{AreNoted, is_retrying_of as IsRetryingOf};
 ghost use Rattle.rtc_sctp.specs.Streams.{is_attached};
 ghost use Rattle.rtc_sctp.specs.Calls.{TakesInput, TakesTimeout, timed_streams, streams_wake};
 ghost use Rattle.rtc_sctp.specs.Calls.{state_on_input as StateOnInput, earlier_of as EarlierOf};
 ghost use Rattle.rtc_sctp.specs.Calls.{attached_wake as AttachedWake, retry_wake as RetryWake};
 
+use crate::polls::sweep;
 use crate::streams::RtcSctp;
 use crate::{RtcSctpState, StreamEntry};
 use rtc_part_association::Association;
 use rtc_ready::Wake;
-use rtc_sctp_entries::entries::{any_retrying, drop_closed};
+use rtc_sctp_entries::entries::{is_retrying, place_of};
+use rtc_sctp_values::StreamSet;
 use rtc_wire::{Moment, STREAM_OPEN_RETRY_INTERVAL};
 use std::alloc::AllocError;
 
@@ -46,10 +51,39 @@ fn attached_wake<S: Association>(state: RtcSctpState, association: &S) -> Option
     None
 }
 
-fn retry_wake(entries: &[StreamEntry], last: Moment) -> Option<Moment>
+// Whether the opening of a stream that may have something to do is tried again.
+fn is_retried(entries: &[StreamEntry], id: u16) -> bool
+    requires { Ascend entries.now }
+    ensures { result ≡ list_any (IsRetryingOf id) entries.now }
+{
+    match place_of(entries, id) {
+        None => false,
+        Some(place) => is_retrying(&entries[place]),
+    }
+}
+
+// Whether the opening of any stream is tried again. Each such stream may have something to do.
+fn any_retrying(entries: &[StreamEntry], streams: &StreamSet) -> bool
+    requires ascend { Ascend entries.now }
+    requires noted { AreNoted streams.now entries.now }
+    ensures { result ≡ list_any IsRetrying entries.now }
+{
+    let mut from = 0usize;
+    'streams: while let Some(id) = streams.next(from) {
+        if is_retried(entries, id) {
+            return true;
+        }
+        from = id as usize + 1;
+    }
+    false
+}
+
+fn retry_wake(entries: &[StreamEntry], streams: &StreamSet, last: Moment) -> Option<Moment>
+    requires ascend { Ascend entries.now }
+    requires noted { AreNoted streams.now entries.now }
     ensures { result ≡ RetryWake entries.now last }
 {
-    if any_retrying(entries) {
+    if any_retrying(entries, streams) {
         return Some(last.plus(STREAM_OPEN_RETRY_INTERVAL));
     }
     None
@@ -62,6 +96,7 @@ impl<S: Association> RtcSctp<S> {
     {
         if self.association.is_started() {
             self.state = state_on_input(self.state);
+            self.rests = false;
             self.association.handle_input(now, bytes)?;
         }
         Ok(())
@@ -79,7 +114,8 @@ impl<S: Association> RtcSctp<S> {
             }
             RtcSctpState::AwaitRemoteAssociation => {
                 self.last = now;
-                drop_closed(&mut self.entries);
+                self.rests = false;
+                sweep(&mut self.entries, &mut self.agenda);
                 wake.no_events();
                 Ok(())
             }
@@ -94,7 +130,8 @@ impl<S: Association> RtcSctp<S> {
         ensures kept { self.new ≡ record (timed_streams now self.old) { association = self.new.association } }
     {
         self.last = now;
-        drop_closed(&mut self.entries);
+        self.rests = false;
+        sweep(&mut self.entries, &mut self.agenda);
         self.association.handle_timeout(now)?;
         Ok(())
     }
@@ -105,7 +142,7 @@ impl<S: Association> RtcSctp<S> {
     {
         earlier_of(
             attached_wake(self.state, &self.association),
-            retry_wake(self.entries.as_slice(), self.last),
+            retry_wake(self.entries.as_slice(), &self.agenda.streams, self.last),
         )
     }
 }

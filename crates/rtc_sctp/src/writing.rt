@@ -91,6 +91,7 @@ impl<S: Association> RtcSctp<S> {
             return Err(SctpError::Proto(ProtoError::NoStream(id)));
         }
         let ppi = written_ppi(binary, buf.is_empty());
+        self.rests = false;
         match self.association.stream_write(id, ppi, buf) {
             Ok(_) => Ok(buf.len()),
             Err(why) => Err(write_refusal(id, buf.len(), self.remote_max, why)),

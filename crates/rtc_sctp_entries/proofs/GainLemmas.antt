@@ -24,8 +24,12 @@ use Rattle.rtc_sctp_entries.specs.declared.met.Met.{Met}
 use Rattle.rtc_sctp_entries.specs.declared.met.Met.TheVariants.{Nothing, Again, Output, OutOfMemory}
 use Rattle.rtc_sctp_entries.specs.Part.{ReadUnits}
 use Rattle.rtc_sctp_entries.specs.Entries.{config_or_fresh, is_short_entry, is_out_of_band, state_credit, mark_credit, threshold_credit, entry_credit, closed_entry}
-use Rattle.rtc_sctp_entries.specs.Visits.{Turn, turn_work, given_config, Marks, Settles, TakesAck, ForEntry, ClosedBy, Closes, NoRoom, Ended, AnnouncedBy, Announces, NoMessage, Written, AnnouncesIf, BegunAs, BegunBy, Begins, RetriedIf, RetriedAt, is_adopted, AdoptedIf, OpenedBy, OpensEntry, AcknowledgedBy, Acknowledges, TakenUpBy, TakesUp, TakenAs, TakesDcep, TakesStreamMessage, ReadBy, ReadsEntry, HandedBy, AttendsBy, AttendsIf, VisitsIn, Visits, is_opening_over}
+use Rattle.rtc_sctp_entries.specs.Visits.{Turn, given_config, Marks, Settles, TakesAck, ForEntry, ClosedBy, Closes, NoRoom, Ended, AnnouncedBy, Announces, NoMessage, Written, AnnouncesIf, BegunAs, BegunBy, Begins, RetriedIf, RetriedAt, is_adopted, AdoptedIf, OpenedBy, OpensEntry, AcknowledgedBy, Acknowledges, TakenUpBy, TakesUp, TakenAs, TakesDcep, TakesStreamMessage, ReadBy, ReadsEntry, MayRead, IsRead, NothingUnread, HandedBy, AttendsBy, AttendsIf, VisitsIn, Visits, is_opening_over}
 use Rattle.rtc_sctp_entries.proofs.PartLemmas.{units_read}
+
+-- the work that an association and an entry hold
+abbrev pub turn_work : {S : Type 0} → AssociationMeaning S → Turn S → ℕ
+turn_work m t = m.units t.association + entry_credit t.entry
 
 -- what is met takes this much work away; where nothing is met none comes
 abbrev pub Gains : Met → (k old new : ℕ) → Type 0
@@ -223,6 +227,10 @@ module _ {S : Type 0} (m : AssociationMeaning S) (w : AssociationLaws m) where
       read_by h.answer (m.units t.association) (record t { association = h.between }) met t' n
       (subst (λ (x : Heard). ReadUnits x (m.units t.association) (m.units h.between)) h.asks.is units) h.then
 
+  may_read : (t : Turn S) (met : Met) (t' : Turn S) → t.entry.marked ≡ false → MayRead m t met t' → Gains met 1 (turn_work m t) (turn_work m t')
+  may_read t met t' n (IsRead h) = reads t met t' n h
+  may_read t met t' n (NothingUnread unread e f) = gain_is Nothing 1 (turn_work m t) t met t' e f (omega arith)
+
   handed : (a : Asked) (old n : ℕ) (t : Turn S) (met : Met) (t' : Turn S) → t.entry.threshold ≡ Desired n → turn_work m t ≤ old → HandedBy m a n t met t' → Gains met 1 old (turn_work m t')
   handed did.Done old n t met t' c le h = gain_is Again 1 old _ met t' h.0 h.1 (omega (arith, le, ap threshold_credit c))
   handed did.Refused old n t met t' c le h = gain_is Again 1 old _ met t' h.0 h.1 (omega (arith, le, ap threshold_credit c))
@@ -232,8 +240,8 @@ module _ {S : Type 0} (m : AssociationMeaning S) (w : AssociationLaws m) where
   attends_by (Desired k) t met t' c n h =
       let units = w.threshold_units t.association h.between t.entry.id k h.asks.result h.asks.called in
       handed h.answer (turn_work m t) k (record t { association = h.between }) met t' c (omega (arith, units)) h.then
-  attends_by Unconfigured t met t' c n h = reads t met t' n h
-  attends_by (Configured k) t met t' c n h = reads t met t' n h
+  attends_by Unconfigured t met t' c n h = may_read t met t' n h
+  attends_by (Configured k) t met t' c n h = may_read t met t' n h
 
   attends_if : (b there : Bool) (t : Turn S) (met : Met) (t' : Turn S) → t.entry.marked ≡ b → 3 ≤ state_credit t.entry.state t.entry.config → AttendsIf m b there t met t' → Gains met 1 (turn_work m t) (turn_work m t')
   attends_if true there t met t' n c h = ends_gain met 1 1 (turn_work m t) (turn_work m t) _ (omega arith) (closes 1 t met t' (omega (arith, c)) h)

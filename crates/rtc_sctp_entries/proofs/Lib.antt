@@ -1,6 +1,11 @@
 pub mod PartLemmas
 pub mod VisitLemmas
+pub mod AnswerLemmas
+pub mod KeptVisits
 pub mod StartedVisits
+pub mod UntoldVisits
+pub mod MeetingEntries
+pub mod StillVisits
 pub mod VisitIds
 pub mod GainLemmas
 pub mod StreamLaws

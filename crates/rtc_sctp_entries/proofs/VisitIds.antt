@@ -19,7 +19,7 @@ use Rattle.rtc_sctp_entries.specs.declared.met.Met.{Met}
 use Rattle.rtc_sctp_entries.specs.declared.met.Met.TheVariants.{Nothing, Again, Output, OutOfMemory}
 use Rattle.rtc_sctp_entries.specs.declared.stream_entry.StreamEntry.{StreamEntry}
 use Rattle.rtc_sctp_entries.specs.Entries.{is_short_entry, is_out_of_band}
-use Rattle.rtc_sctp_entries.specs.Visits.{Turn, Settles, TakesAck, ForEntry, given_config, ClosedBy, Closes, NoRoom, Ended, AnnouncedBy, Announces, NoMessage, Written, AnnouncesIf, BegunAs, BegunBy, Begins, RetriedIf, RetriedAt, is_adopted, AdoptedIf, OpenedBy, OpensEntry, AcknowledgedBy, Acknowledges, TakenUpBy, TakesUp, TakenAs, TakesDcep, TakesStreamMessage, ReadBy, ReadsEntry, HandedBy, AttendsBy, AttendsIf, is_entry_there, VisitsIn, Visits, is_opening_over}
+use Rattle.rtc_sctp_entries.specs.Visits.{Turn, Settles, TakesAck, ForEntry, given_config, ClosedBy, Closes, NoRoom, Ended, AnnouncedBy, Announces, NoMessage, Written, AnnouncesIf, BegunAs, BegunBy, Begins, RetriedIf, RetriedAt, is_adopted, AdoptedIf, OpenedBy, OpensEntry, AcknowledgedBy, Acknowledges, TakenUpBy, TakesUp, TakenAs, TakesDcep, TakesStreamMessage, ReadBy, ReadsEntry, MayRead, IsRead, NothingUnread, HandedBy, AttendsBy, AttendsIf, is_entry_there, VisitsIn, Visits, is_opening_over}
 
 module _ {S : Type 0} (m : AssociationMeaning S) where
   same : (u t' : Turn S) (id : ℕ) → t' ≡ u → u.entry.id ≡ id → t'.entry.id ≡ id
@@ -144,6 +144,10 @@ module _ {S : Type 0} (m : AssociationMeaning S) where
   reads : (t : Turn S) (met : Met) (t' : Turn S) → ReadsEntry m t met t' → t'.entry.id ≡ t.entry.id
   reads t met t' h = read_by h.answer (record t { association = h.between }) met t' h.then
 
+  may_read : (t : Turn S) (met : Met) (t' : Turn S) → MayRead m t met t' → t'.entry.id ≡ t.entry.id
+  may_read t met t' (IsRead h) = reads t met t' h
+  may_read t met t' (NothingUnread unread e f) = same _ t' t.entry.id f refl
+
   handed : (a : Asked) (n : ℕ) (t : Turn S) (met : Met) (t' : Turn S) → HandedBy m a n t met t' → t'.entry.id ≡ t.entry.id
   handed did.Done n t met t' h = same _ t' t.entry.id h.1 refl
   handed did.Refused n t met t' h = same _ t' t.entry.id h.1 refl
@@ -151,8 +155,8 @@ module _ {S : Type 0} (m : AssociationMeaning S) where
 
   attends_by : (b : BufferedThresholdConfig) (t : Turn S) (met : Met) (t' : Turn S) → AttendsBy m b t met t' → t'.entry.id ≡ t.entry.id
   attends_by (Desired n) t met t' h = handed h.answer n (record t { association = h.between }) met t' h.then
-  attends_by Unconfigured t met t' h = reads t met t' h
-  attends_by (Configured n) t met t' h = reads t met t' h
+  attends_by Unconfigured t met t' h = may_read t met t' h
+  attends_by (Configured n) t met t' h = may_read t met t' h
 
   attends_if : (b c : Bool) (t : Turn S) (met : Met) (t' : Turn S) → AttendsIf m b c t met t' → t'.entry.id ≡ t.entry.id
   attends_if true c t met t' h = closes t met t' h

@@ -46,6 +46,11 @@ abbrev pub config_or_fresh : Option ChannelConfig → ChannelConfig
 config_or_fresh None = fresh
 config_or_fresh (Some config) = config
 
+-- the open message of the other end gives an entry its config, where it has none
+abbrev pub given_config : Option ChannelConfig → ChannelConfig → Option ChannelConfig
+given_config None config = Some config
+given_config (Some own) config = Some own
+
 -- whether the label and the protocol of a config fit an open message, which has two bytes for the length of each
 abbrev pub is_short_config : ChannelConfig → Bool
 is_short_config config = nat_le (length config.label) 65535 && nat_le (length config.protocol) 65535
@@ -92,6 +97,12 @@ state_credit Closed config = 0
 abbrev pub mark_credit : Bool → ℕ
 mark_credit true = 0
 mark_credit false = 1
+
+-- whether a threshold is to be handed over
+abbrev pub is_desired : BufferedThresholdConfig → Bool
+is_desired Unconfigured = false
+is_desired (Desired n) = true
+is_desired (Configured n) = false
 
 abbrev pub threshold_credit : BufferedThresholdConfig → ℕ
 threshold_credit (Desired n) = 1

@@ -28,7 +28,8 @@ use Rattle.rtc_sctp_entries.specs.declared.met.Met.{Met}
 use Rattle.rtc_sctp_entries.specs.declared.met.Met.TheVariants.{Nothing, Again, Output, OutOfMemory}
 use Rattle.rtc_sctp_entries.specs.Part.{AsksOpen, AsksRead, AsksWrite, AsksEnd, AsksThreshold, AsksReliability}
 use Rattle.rtc_sctp_entries.specs.Entries.{config_or_fresh, is_short_entry, is_out_of_band, closed_entry, open_entry}
-use Rattle.rtc_sctp_entries.specs.Entries.{marked_entry, has_reset, with_reset, entry_credit, entry_in, fits_generation}
+use Rattle.rtc_sctp_entries.specs.Entries.{marked_entry, has_reset, with_reset, entry_in, fits_generation}
+pub use Rattle.rtc_sctp_entries.specs.Entries.{given_config}
 
 -- what a visit of a stream sees and changes: the association, the entry, and the streams whose reset is outstanding
 pub record Turn (S : Type 0) : Type 0 where
@@ -47,10 +48,6 @@ opening_ends first = min (first + 10_000_000_000) (2 ^ 64 - 1)
 -- the last moment of all.
 abbrev pub is_opening_over : (first now : ℕ) → Bool
 is_opening_over first now = nat_lt first now && nat_le (opening_ends first) now
-
--- the work that an association and an entry hold
-abbrev pub turn_work : {S : Type 0} → AssociationMeaning S → Turn S → ℕ
-turn_work m t = m.units t.association + entry_credit t.entry
 
 -- the entry is marked, to be closed
 abbrev pub Marks : {S : Type 0} → Turn S → Met → Turn S → Type 0
@@ -96,11 +93,6 @@ ReadsOpen bytes (read.Open label config) =
     (refusal_of bytes ≡ None) × (label ≡ (message_in bytes).label) × (config ≡ config_of (message_in bytes))
 ReadsOpen bytes read.Malformed = refusal_of bytes ≢ None
 ReadsOpen bytes read.OutOfMemory = Unit {0}
-
--- the open message of the other end gives an entry its config, if it has none
-abbrev pub given_config : Option ChannelConfig → ChannelConfig → Option ChannelConfig
-given_config None config = Some config
-given_config (Some own) config = Some own
 
 -- what only an entry has to do with
 abbrev pub ForEntry : {S : Type 0} → (StreamEntry → Met → StreamEntry → Type 0) → Turn S → Met → Turn S → Type 0
@@ -257,6 +249,12 @@ module _ {S : Type 0} (m : AssociationMeaning S) where
     pub asks : AsksRead m t.association t.entry.id answer between
     pub then : ReadBy answer (record t { association = between }) met t'
 
+  -- one message is read where one is unread: a stream with nothing unread of its generation may be left unread
+  pub data MayRead (t : Turn S) (met : Met) (t' : Turn S) : Type 0 where
+    IsRead : ReadsEntry t met t' → MayRead t met t'
+    NothingUnread : m.has_unread t.association t.entry.id (m.generation t.association t.entry.id) ≡ false → met ≡ Nothing → t' ≡ t
+        → MayRead t met t'
+
   -- a threshold that is asked for is passed on once, refused or not
   abbrev pub HandedBy : Asked → ℕ → Turn S → Met → Turn S → Type 0
   HandedBy did.Done n t met t' = (met ≡ Again) × (t' ≡ record t { entry = record t.entry { threshold = Configured n } })
@@ -271,8 +269,8 @@ module _ {S : Type 0} (m : AssociationMeaning S) where
 
   abbrev pub AttendsBy : BufferedThresholdConfig → Turn S → Met → Turn S → Type 0
   AttendsBy (Desired n) t met t' = HandsThreshold n t met t'
-  AttendsBy Unconfigured t met t' = ReadsEntry t met t'
-  AttendsBy (Configured n) t met t' = ReadsEntry t met t'
+  AttendsBy Unconfigured t met t' = MayRead t met t'
+  AttendsBy (Configured n) t met t' = MayRead t met t'
 
   abbrev pub AttendsIf : (marked there : Bool) → Turn S → Met → Turn S → Type 0
   AttendsIf true there t met t' = Closes t met t'

@@ -2,7 +2,6 @@
 ghost use Rattle.std.specs.Prelude.{◌≡◌, ◌<◌, ◌≤◌, ℕ, length, slice_index_or, OnOk, OnErr, IsOk, MatchOption, None, Some, vec_len};
 ghost use Rattle.std.specs.Prelude.{vec_capacity};
 ghost use Rattle.rtc_sctp_entries.specs.declared.stream_entry.StreamEntry.{StreamEntry};
-ghost use Rattle.std.specs.List.{list_any};
 ghost use Rattle.rtc_sctp_entries.specs.Entries.{Ascend, entry_place, new_place, with_entry, has_open as HasOpen};
 ghost use Rattle.rtc_sctp_entries.specs.Entries.{stream_config, is_retrying as IsRetrying};
 ghost use Rattle.rtc_sctp_entries.specs.Entries.{stream_generation, fits_generation as FitsGeneration};
@@ -25,7 +24,8 @@ fn is_open_state(state: StreamEntryState) -> bool
     }
 }
 
-fn is_closed_state(state: StreamEntryState) -> bool
+/// Whether a state is the last one.
+pub fn is_closed_state(state: StreamEntryState) -> bool
     ensures { result ≡ IsClosedState state }
 {
     match state {
@@ -37,7 +37,8 @@ fn is_closed_state(state: StreamEntryState) -> bool
     }
 }
 
-fn is_retrying(entry: &StreamEntry) -> bool
+/// Whether the opening of a stream is tried again.
+pub fn is_retrying(entry: &StreamEntry) -> bool
     ensures { result ≡ IsRetrying entry.now }
 {
     match entry.state {
@@ -109,13 +110,6 @@ pub fn has_open(entries: &[StreamEntry], id: u16) -> bool
         return is_open_state(entries[place].state);
     }
     false
-}
-
-/// Whether the opening of a stream is tried again.
-pub fn any_retrying(entries: &[StreamEntry]) -> bool
-    ensures { result ≡ list_any IsRetrying entries.now }
-{
-    entries.iter().any(|own| is_retrying(own))
 }
 
 /// Drops the closed entries.

@@ -159,7 +159,7 @@ module _ {S : Type 0} (m : AssociationMeaning S) where
     pub threshold_use : (n : ℕ) (o : Option ℕ) (p q : SctpStreams S) (s : ℕ) (ws hs : List StreamMessage) → SetsThreshold S n o p q → IsUsedOver m s ws hs p → IsUsedOver m s ws hs q
     threshold_use n None p q s ws hs h k = over_same p q s ws hs (ap (λ (y : SctpStreams S). y.association) h) (ap (λ (y : SctpStreams S). y.entries) h) k
     threshold_use n (Some place) p q s ws hs h k =
-        over_same (record p { entries = slice_set p.entries place (record h.0 { threshold = _ }) }) q s ws hs (ap (λ (y : SctpStreams S). y.association) h.2) (ap (λ (y : SctpStreams S). y.entries) h.2)
+        over_same (record p { entries = slice_set p.entries place (record h.0 { threshold = _ }); rests = false }) q s ws hs (ap (λ (y : SctpStreams S). y.association) h.2) (ap (λ (y : SctpStreams S). y.entries) h.2)
         (record { reached = k.reached; used = one_set (NoneUsed m s p.association ws hs) (EntryUsed m s p.association ws hs) s p.entries place h.0 (record h.0 { threshold = _ }) h.1 refl (λ u. u) k.used })
 
     module _ (w : AssociationLaws m) where

@@ -16,7 +16,7 @@ use Rattle.rtc_sctp_entries.specs.declared.met.Met.TheVariants.{Nothing, Again, 
 use Rattle.rtc_sctp_entries.specs.Entries.{entry_place, new_place, new_entry, marked_entry, is_open_awaited}
 use Rattle.rtc_sctp_entries.specs.Visits.{Turn, turn}
 use Rattle.rtc_sctp.specs.Streams.{SctpStreams, is_established}
-use Rattle.rtc_sctp.specs.Polls.{Book, book_of, AfterEvent, FinishesAt, finished_entry, Else, ThenBy, unclosed_streams, GivesCompletion, TakesPacket, TransmitIf, TransmitOf, GivesTransmit, TakesEvent, HandlesEvent, NotStarted, NoRoom, NoEvent, Event, VisitedThen, VisitsAll, VisitsIf, VisitsEntries, MakesPass, Over, PollsStreams}
+use Rattle.rtc_sctp.specs.Polls.{Book, book_of, AfterEvent, FinishesAt, finished_entry, Else, ThenBy, unclosed_streams, GivesCompletion, TakesPacket, TransmitIf, TransmitOf, GivesTransmit, TakesEvent, HandlesEvent, NotStarted, NoRoom, NoEvent, Event, VisitedThen, VisitsAll, VisitsIf, VisitsEntries, TakesSteps, RestsBy, PassIf, MakesPass, Over, PollsStreams}
 use Rattle.rtc_sctp_laws.specs.StreamMessages.{resets_event, resets_met, met_of}
 use Rattle.rtc_sctp_laws.specs.StreamActs.{PollDid}
 use Rattle.rtc_sctp_laws.specs.StreamRuns.{is_closing_entry, has_closing_entry}
@@ -240,11 +240,25 @@ module _ {S : Type 0} (m : AssociationMeaning S) (w : AssociationLaws m) where
   else_after : (id : ℕ) (A B : SctpStreams S → Met → SctpStreams S → Type 0) → ((p : SctpStreams S) (met : Met) (q : SctpStreams S) → A p met q → Waits id p → After id met q) → ((p : SctpStreams S) (met : Met) (q : SctpStreams S) → B p met q → Waits id p → After id met q) → (p : SctpStreams S) (met : Met) (q : SctpStreams S) → Else A B p met q → Waits id p → After id met q
   else_after id A B f g p met q h k = then_after id B g h.0 h.1.0 met q (f p h.0 h.1.0 h.1.1.0 k) h.1.1.1
 
-  pass_after : (id : ℕ) (p : SctpStreams S) (met : Met) (q : SctpStreams S) → MakesPass m p met q → Waits id p → After id met q
-  unfolding MakesPass
-  pass_after id p met q h k =
+  steps_after : (id : ℕ) (p : SctpStreams S) (met : Met) (q : SctpStreams S) → TakesSteps m p met q → Waits id p → After id met q
+  unfolding TakesSteps
+  steps_after id p met q h k =
       else_after id _ _ (transmits_after id) (else_after id _ _ (handles_after id) (visit_or_complete_after id)) (unclosed_streams p) met q h
       (record { established = k.established; started = k.started; ending = ending_unclosed id p.entries k.ending })
+
+  pass_after : (id : ℕ) (p : SctpStreams S) (met : Met) (q : SctpStreams S) → MakesPass m p met q → Waits id p → After id met q
+  unfolding MakesPass
+  pass_after id p met q h k = by p.rests h k
+    where
+      rests : (o : Option (List (List ℕ))) → p.pushed ≡ o → RestsBy o p met q → Waits id p → After id met q
+      rests None e t k = rw (t.0, t.1) k
+      rests (Some packets) e t k =
+          let kept = transmit_keeps (Some packets) p met q t in
+          kept_after id p met q kept.entries_is kept.state_is kept.reset_is (transmit_of m w (Some packets) p met q e t) k
+
+      by : (b : Bool) → PassIf m b p met q → Waits id p → After id met q
+      by true t k = rests p.pushed refl t.0 k
+      by false t k = steps_after id p met q t k
 
   over_after : (n id : ℕ) (p q : SctpStreams S) → Over m n p q → Waits id p → Waits id q
   over_after zero id p q h k = waits_is id p q h k

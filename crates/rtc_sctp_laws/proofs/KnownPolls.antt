@@ -16,7 +16,7 @@ use Rattle.rtc_sctp_entries.specs.declared.met.Met.TheVariants.{Nothing, Again, 
 use Rattle.rtc_sctp_entries.specs.Entries.{is_closed_state}
 use Rattle.rtc_sctp_entries.specs.Visits.{Turn, turn, Visits}
 use Rattle.rtc_sctp.specs.Streams.{SctpStreams, is_established}
-use Rattle.rtc_sctp.specs.Polls.{Book, book_of, AfterEvent, with_expected, Else, ThenBy, unclosed_streams, CompletionOf, TakesPacket, TransmitIf, TransmitOf, GivesTransmit, TakesEvent, NotStarted, NoRoom, NoEvent, Event, VisitedThen, VisitsAll, VisitsIf, MakesPass, Over, PollsStreams}
+use Rattle.rtc_sctp.specs.Polls.{Book, book_of, AfterEvent, with_expected, Else, ThenBy, unclosed_streams, CompletionOf, TakesPacket, TransmitIf, TransmitOf, GivesTransmit, TakesEvent, NotStarted, NoRoom, NoEvent, Event, VisitedThen, VisitsAll, VisitsIf, TakesSteps, RestsBy, PassIf, MakesPass, Over, PollsStreams}
 use Rattle.rtc_sctp_laws.specs.StreamActs.{AssociationDid, VisitDid}
 use Rattle.rtc_sctp_laws.proofs.ActLemmas.{did_same, gave_did, told_did, packet_polled}
 use Rattle.rtc_sctp_laws.proofs.ClosingPolls.{started_moved}
@@ -102,7 +102,7 @@ module _ {S : Type 0} (m : AssociationMeaning S) (sound : S → Type 0) (w : Ass
   transmit_of (Some packets) p met q h = quiet_still p _ q h.1 refl refl refl
 
   completion_of : (l : List ℕ) (p : SctpStreams S) (met : Met) (q : SctpStreams S) → CompletionOf l p met q → QuietGoes p q
-  completion_of [] p met q h = quiet_still p p q h.1 refl refl refl
+  completion_of [] p met q h = quiet_still p _ q h.1 refl refl refl
   completion_of (id ∷ rest) p met q h = quiet_still p _ q h.1 refl refl refl
 
   -- visits
@@ -281,9 +281,9 @@ module _ {S : Type 0} (m : AssociationMeaning S) (sound : S → Type 0) (w : Ass
     quiet_known p q (transmit_of p.pushed p met q h) k.1,
   )
 
-  pass_known : (p : SctpStreams S) (met : Met) (q : SctpStreams S) → MakesPass m p met q → AreKnown m sound p → AreKnown m sound q
-  unfolding MakesPass
-  pass_known p met q h k =
+  steps_know : (p : SctpStreams S) (met : Met) (q : SctpStreams S) → TakesSteps m p met q → AreKnown m sound p → AreKnown m sound q
+  unfolding TakesSteps
+  steps_know p met q h k =
       else_by IsDropped IsDropped (AreKnown m sound) _ _ (λ q d. d.1) transmit_dropped
       (else_by IsDropped (AreKnown m sound) (AreKnown m sound) _ _ (λ q d. d) (λ p met q t d. event_known p met q t.0 d)
       (else_by (AreKnown m sound) (AreKnown m sound) (AreKnown m sound) _ _ (λ q d. d)
@@ -291,6 +291,18 @@ module _ {S : Type 0} (m : AssociationMeaning S) (sound : S → Type 0) (w : Ass
       (λ p met q t d. quiet_known p q (completion_of p.completed p met q t) d)))
       (unclosed_streams p) met q h
       (none_unclosed p.entries, quiet_known p (unclosed_streams p) (dropped p) k)
+
+  pass_known : (p : SctpStreams S) (met : Met) (q : SctpStreams S) → MakesPass m p met q → AreKnown m sound p → AreKnown m sound q
+  unfolding MakesPass
+  pass_known p met q h k = by p.rests h k
+    where
+      rests : (o : Option (List (List ℕ))) → RestsBy o p met q → QuietGoes p q
+      rests None t = quiet_still p p q t.1 refl refl refl
+      rests (Some packets) t = transmit_of (Some packets) p met q t
+
+      by : (b : Bool) → PassIf m b p met q → AreKnown m sound p → AreKnown m sound q
+      by true t k = quiet_known p q (rests p.pushed t.0) k
+      by false t k = steps_know p met q t k
 
   over_known : (n : ℕ) (p q : SctpStreams S) → Over m n p q → AreKnown m sound p → AreKnown m sound q
   over_known zero p q h k = subst (λ (x : SctpStreams S). AreKnown m sound x) (sym h) k

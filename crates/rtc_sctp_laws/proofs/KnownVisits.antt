@@ -23,7 +23,7 @@ use Rattle.rtc_sctp_entries.specs.declared.stream_entry.StreamEntry.{StreamEntry
 use Rattle.rtc_sctp_entries.specs.declared.met.Met.{Met}
 use Rattle.rtc_sctp_entries.specs.declared.met.Met.TheVariants.{Nothing, Again, Output, OutOfMemory}
 use Rattle.rtc_sctp_entries.specs.Entries.{is_closed_state, is_out_of_band, is_short_entry}
-use Rattle.rtc_sctp_entries.specs.Visits.{Turn, is_opening_over, Marks, Starves, Settles, TakesAck, ClosedBy, Closes, NoRoom, Ended, AnnouncedBy, Announces, NoMessage, Written, AnnouncesIf, BegunAs, BegunBy, Begins, RetriedIf, RetriedAt, is_adopted, AdoptedIf, OpenedBy, OpensEntry, AcknowledgedBy, Acknowledges, TakenUpBy, TakesUp, TakenAs, TakesDcep, TakesStreamMessage, ReadBy, HandedBy, AttendsBy, AttendsIf, is_entry_there, VisitsIn, Visits}
+use Rattle.rtc_sctp_entries.specs.Visits.{Turn, is_opening_over, Marks, Starves, Settles, TakesAck, ClosedBy, Closes, NoRoom, Ended, AnnouncedBy, Announces, NoMessage, Written, AnnouncesIf, BegunAs, BegunBy, Begins, RetriedIf, RetriedAt, is_adopted, AdoptedIf, OpenedBy, OpensEntry, AcknowledgedBy, Acknowledges, TakenUpBy, TakesUp, TakenAs, TakesDcep, TakesStreamMessage, ReadBy, MayRead, IsRead, NothingUnread, HandedBy, AttendsBy, AttendsIf, is_entry_there, VisitsIn, Visits}
 use Rattle.rtc_sctp_laws.specs.StreamActs.{AssociationDid}
 use Rattle.rtc_sctp_laws.specs.StreamMessages.{StreamMessage}
 use Rattle.rtc_sctp_laws.proofs.ActLemmas.{ended_did, opened_did, read_did, reliability_did, threshold_did, wrote_did}
@@ -233,16 +233,18 @@ module _ {S : Type 0} (m : AssociationMeaning S) (sound : S → Type 0) (w : Ass
   handed did.Refused n t met t' k h = left_by _ t' h.1 (k.id_is, inl k.unclosed)
   handed did.OutOfMemory n t met t' k h = starves t met t' k h
 
+  may_read : (t : Turn S) (met : Met) (t' : Turn S) → IsReady t → MayRead m t met t' → IsLeft t'
+  may_read t met t' k (IsRead h) =
+      read_by h.answer (record t { association = h.between }) met t'
+      (ready_on t h.between [] [] [] _ (read_did m w t.association h.between t.entry.id h.asks.result h.asks.called) k) h.then
+  may_read t met t' k (NothingUnread unread e f) = left_by t t' f (still t k)
+
   attends_by : (b : BufferedThresholdConfig) (t : Turn S) (met : Met) (t' : Turn S) → IsReady t → AttendsBy m b t met t' → IsLeft t'
   attends_by (Desired n) t met t' k h =
       handed h.answer n (record t { association = h.between }) met t'
       (ready_on t h.between [] [] [] [] (threshold_did m t.association h.between t.entry.id n h.asks.result h.asks.called) k) h.then
-  attends_by Unconfigured t met t' k h =
-      read_by h.answer (record t { association = h.between }) met t'
-      (ready_on t h.between [] [] [] _ (read_did m w t.association h.between t.entry.id h.asks.result h.asks.called) k) h.then
-  attends_by (Configured n) t met t' k h =
-      read_by h.answer (record t { association = h.between }) met t'
-      (ready_on t h.between [] [] [] _ (read_did m w t.association h.between t.entry.id h.asks.result h.asks.called) k) h.then
+  attends_by Unconfigured t met t' k h = may_read t met t' k h
+  attends_by (Configured n) t met t' k h = may_read t met t' k h
 
   attends_if : (b there : Bool) (t : Turn S) (met : Met) (t' : Turn S) → IsReady t → AttendsIf m b there t met t' → IsLeft t'
   attends_if true there t met t' k h = closes t met t' k h

@@ -23,6 +23,9 @@ use Rattle.rtc_sctp_entries.specs.Visits.{
   TakesDcep,
   TakesStreamMessage,
   ReadBy,
+  MayRead,
+  IsRead,
+  NothingUnread,
   HandedBy,
   AttendsBy,
   AttendsIf,
@@ -69,10 +72,14 @@ module _ {S : Type 0} (m : AssociationMeaning S) where
   handed did.Refused n t met t' g live h = stays Again _ met t' t.entry.id g h.0 h.1 live
   handed did.OutOfMemory n t met t' g live h = stays OutOfMemory t met t' t.entry.id g h.0 h.1 tt
 
+  may_read : (t : Turn S) (met : Met) (t' : Turn S) (g : ℕ) → IsLiveIn g t.entry → MayRead m t met t' → LeavesOpen met t.entry.id g t'.entry
+  may_read t met t' g live (IsRead h) = read_by h.answer (record t { association = h.between }) met t' g live h.then
+  may_read t met t' g live (NothingUnread unread e f) = stays Nothing t met t' t.entry.id g e f live
+
   attends_by : (b : BufferedThresholdConfig) (t : Turn S) (met : Met) (t' : Turn S) (g : ℕ) → IsLiveIn g t.entry → AttendsBy m b t met t' → LeavesOpen met t.entry.id g t'.entry
   attends_by (Desired n) t met t' g live h = handed h.answer n (record t { association = h.between }) met t' g live h.then
-  attends_by Unconfigured t met t' g live h = read_by h.answer (record t { association = h.between }) met t' g live h.then
-  attends_by (Configured n) t met t' g live h = read_by h.answer (record t { association = h.between }) met t' g live h.then
+  attends_by Unconfigured t met t' g live h = may_read t met t' g live h
+  attends_by (Configured n) t met t' g live h = may_read t met t' g live h
 
   attends_if : (b there : Bool) (t : Turn S) (met : Met) (t' : Turn S) (g : ℕ) → IsLiveIn g t.entry → AttendsIf m b there t met t' → LeavesOpen met t.entry.id g t'.entry
   attends_if true there t met t' g live h = closes t met t' g h

@@ -21,7 +21,7 @@ use Rattle.rtc_sctp_entries.specs.declared.sctp_event.SctpEvent.TheVariants as e
 use Rattle.rtc_sctp_entries.specs.declared.met.Met.{Met}
 use Rattle.rtc_sctp_entries.specs.declared.met.Met.TheVariants.{Nothing, Again, Output, OutOfMemory}
 use Rattle.rtc_sctp_entries.specs.Entries.{is_short_entry, is_out_of_band}
-use Rattle.rtc_sctp_entries.specs.Visits.{Turn, is_opening_over, Marks, Starves, Settles, TakesAck, ClosedBy, Closes, NoRoom, Ended, AnnouncedBy, Announces, NoMessage, Written, AnnouncesIf, BegunAs, BegunBy, Begins, RetriedIf, RetriedAt, is_adopted, AdoptedIf, OpenedBy, OpensEntry, AcknowledgedBy, Acknowledges, TakenUpBy, TakesUp, TakenAs, TakesDcep, TakesStreamMessage, ReadBy, HandedBy, AttendsBy, AttendsIf, is_entry_there, VisitsIn, Visits}
+use Rattle.rtc_sctp_entries.specs.Visits.{Turn, is_opening_over, Marks, Starves, Settles, TakesAck, ClosedBy, Closes, NoRoom, Ended, AnnouncedBy, Announces, NoMessage, Written, AnnouncesIf, BegunAs, BegunBy, Begins, RetriedIf, RetriedAt, is_adopted, AdoptedIf, OpenedBy, OpensEntry, AcknowledgedBy, Acknowledges, TakenUpBy, TakesUp, TakenAs, TakesDcep, TakesStreamMessage, ReadBy, MayRead, IsRead, NothingUnread, HandedBy, AttendsBy, AttendsIf, is_entry_there, VisitsIn, Visits}
 use Rattle.rtc_sctp_laws.specs.StreamUses.{IsOpenInBand, TellsStreamOpen}
 
 -- what a visit leaves open was open, or is told to be
@@ -181,10 +181,14 @@ module _ {S : Type 0} (m : AssociationMeaning S) (e : StreamEntry) where
   handed did.Refused n t met t' k h = by_turn Again _ met t' h.0 h.1 (λ o x. inl (k.opens o x))
   handed did.OutOfMemory n t met t' k h = starves t met t' k h
 
+  may_read : (t : Turn S) (met : Met) (t' : Turn S) → IsAsOpen e t.entry → MayRead m t met t' → OpensTold met e t'.entry
+  may_read t met t' k (IsRead h) = read_by h.answer (record t { association = h.between }) met t' k h.then
+  may_read t met t' k (NothingUnread unread same_met same) = by_turn Nothing t met t' same_met same (λ o x. inl (k.opens o x))
+
   attends_by : (b : BufferedThresholdConfig) (t : Turn S) (met : Met) (t' : Turn S) → IsAsOpen e t.entry → AttendsBy m b t met t' → OpensTold met e t'.entry
   attends_by (Desired n) t met t' k h = handed h.answer n (record t { association = h.between }) met t' k h.then
-  attends_by Unconfigured t met t' k h = read_by h.answer (record t { association = h.between }) met t' k h.then
-  attends_by (Configured n) t met t' k h = read_by h.answer (record t { association = h.between }) met t' k h.then
+  attends_by Unconfigured t met t' k h = may_read t met t' k h
+  attends_by (Configured n) t met t' k h = may_read t met t' k h
 
   attends_if : (b there : Bool) (t : Turn S) (met : Met) (t' : Turn S) → IsAsOpen e t.entry → AttendsIf m b there t met t' → OpensTold met e t'.entry
   attends_if true there t met t' k h = closes t met t' k h

@@ -34,7 +34,7 @@ use Rattle.rtc_sctp.specs.Polls.{
   VisitedThen,
   VisitsAll,
   VisitsIf,
-  MakesPass,
+  TakesSteps, RestsBy, PassIf, MakesPass,
   Over,
   PollsStreams,
   Answers,
@@ -235,15 +235,27 @@ module _ {S : Type 0} (m : AssociationMeaning S) (w : AssociationLaws m) where
       then_step (Output e) between d k = rw (k.0, k.1) d
       then_step OutOfMemory between d k = rw (k.0, k.1) d
 
-  pub pass_did : (p : SctpStreams S) (met : Met) (q : SctpStreams S) → MakesPass m p met q → PollDid m p met q
-  unfolding MakesPass
-  pass_did p met q h =
+  steps_did : (p : SctpStreams S) (met : Met) (q : SctpStreams S) → TakesSteps m p met q → PollDid m p met q
+  unfolding TakesSteps
+  steps_did p met q h =
       poll_join Nothing p (unclosed_streams p) met q refl refl refl (kept_did Nothing (unclosed_streams p) p Nothing (unclosed_streams p) refl refl refl refl refl refl refl)
       (else_did _ _ (λ p met q k. transmit_of p.pushed p met q refl k)
       (else_did _ _ events_did
       (else_did _ _ (λ p met q k. visits_if (is_established p.state && m.started p.association) p met q k)
       (λ p met q k. completion_of p.completed p met q refl k)))
       (unclosed_streams p) met q h)
+
+  pub pass_did : (p : SctpStreams S) (met : Met) (q : SctpStreams S) → MakesPass m p met q → PollDid m p met q
+  unfolding MakesPass
+  pass_did p met q h = by p.rests h
+    where
+      rests : (o : Option (List (List ℕ))) → p.pushed ≡ o → RestsBy o p met q → PollDid m p met q
+      rests None e t = kept_did Nothing p p met q t.0 t.1 refl refl refl refl refl
+      rests (Some packets) e t = transmit_of (Some packets) p met q e t
+
+      by : (b : Bool) → PassIf m b p met q → PollDid m p met q
+      by true t = rests p.pushed refl t.0
+      by false t = steps_did p met q t
 
   over_did : (n : ℕ) (p q : SctpStreams S) → Over m n p q → PollDid m p Again q
   over_did zero p q h = kept_did Again p p Again q refl h refl refl refl refl refl

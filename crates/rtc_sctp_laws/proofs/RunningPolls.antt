@@ -14,7 +14,7 @@ use Rattle.rtc_sctp_values.specs.declared.sctp_error.SctpError.{SctpError}
 use Rattle.rtc_sctp.specs.declared.rtc_sctp_state.RtcSctpState.{RtcSctpState}
 use Rattle.rtc_sctp.specs.declared.rtc_sctp_state.RtcSctpState.TheVariants.{Uninited, AwaitRemoteAssociation, AwaitAssociationEstablished, Established}
 use Rattle.rtc_sctp.specs.Calls.{InputIf, TimedBy, WrittenIf, state_on_input}
-use Rattle.rtc_sctp.specs.Polls.{AfterEvent, Book, CompletionOf, Else, Event, GivesCompletion, GivesTransmit, HandlesEvent, MakesPass, NoEvent, NoRoom, NotStarted, Over, PollsStreams, TakesEvent, TakesPacket, ThenBy, TransmitIf, TransmitOf, VisitsEntries, VisitsIf, book_of, event_met, unclosed_streams}
+use Rattle.rtc_sctp.specs.Polls.{AfterEvent, Book, CompletionOf, Else, Event, GivesCompletion, GivesTransmit, HandlesEvent, TakesSteps, RestsBy, PassIf, MakesPass, NoEvent, NoRoom, NotStarted, Over, PollsStreams, TakesEvent, TakesPacket, ThenBy, TransmitIf, TransmitOf, VisitsEntries, VisitsIf, book_of, event_met, unclosed_streams}
 use Rattle.rtc_sctp.specs.Streams.{SctpStreams, is_established}
 use Rattle.rtc_sctp_laws.proofs.ClosingPolls.{started_moved}
 use Rattle.rtc_sctp_laws.proofs.UsedTours.{tour_uses}
@@ -103,13 +103,25 @@ module _ {S : Type 0} (m : AssociationMeaning S) where
   completion_stays [] p met q h = stay_same p q (ap (λ (x : SctpStreams S). x.state) h.1)
   completion_stays (id ∷ rest) p met q h = stay_same p q (ap (λ (x : SctpStreams S). x.state) h.1)
 
-  pass_stays : (p : SctpStreams S) (met : Met) (q : SctpStreams S) → MakesPass m p met q → StayEstablished p q
-  unfolding MakesPass
-  pass_stays p met q h =
+  steps_stay : (p : SctpStreams S) (met : Met) (q : SctpStreams S) → TakesSteps m p met q → StayEstablished p q
+  unfolding TakesSteps
+  steps_stay p met q h =
       else_stays (GivesTransmit m) _ (λ p met q k. transmit_stays p.pushed p met q k)
       (else_stays (HandlesEvent m) _ (λ p met q k. event_stays p met q k.0)
       (else_stays (VisitsEntries m) GivesCompletion (λ p met q k. visits_stay (is_established p.state && m.started p.association) p met q k)
       (λ p met q k. completion_stays p.completed p met q k))) (unclosed_streams p) met q h
+
+  pass_stays : (p : SctpStreams S) (met : Met) (q : SctpStreams S) → MakesPass m p met q → StayEstablished p q
+  unfolding MakesPass
+  pass_stays p met q h = by p.rests h
+    where
+      rests : (o : Option (List (List ℕ))) → RestsBy o p met q → StayEstablished p q
+      rests None t = stay_same p q (ap (λ (x : SctpStreams S). x.state) t.1)
+      rests (Some packets) t = transmit_stays (Some packets) p met q t
+
+      by : (b : Bool) → PassIf m b p met q → StayEstablished p q
+      by true t = rests p.pushed t.0
+      by false t = steps_stay p met q t
 
   over_stays : (n : ℕ) (p q : SctpStreams S) → Over m n p q → StayEstablished p q
   over_stays zero p q h = stay_same p q (ap (λ (x : SctpStreams S). x.state) h)
@@ -194,13 +206,25 @@ module _ {S : Type 0} (m : AssociationMeaning S) (w : AssociationLaws m) where
   completion_opens [] p met q h opens = absurd (subst IsOpening h.0 opens)
   completion_opens (id ∷ rest) p met q h opens = absurd (subst IsOpening h.0 opens)
 
-  pass_opens : (p : SctpStreams S) (met : Met) (q : SctpStreams S) → MakesPass m p met q → IsOpening met → AreRunning m q
-  unfolding MakesPass
-  pass_opens p met q h opens =
+  steps_open : (p : SctpStreams S) (met : Met) (q : SctpStreams S) → TakesSteps m p met q → IsOpening met → AreRunning m q
+  unfolding TakesSteps
+  steps_open p met q h opens =
       else_opens (GivesTransmit m) _ (λ p met q k o. transmit_opens p.pushed p met q k o)
       (else_opens (HandlesEvent m) _ (λ p met q k o. handled_opens p met q k.0 o)
       (else_opens (VisitsEntries m) GivesCompletion (λ p met q k o. visits_open (is_established p.state && m.started p.association) p met q refl k o)
       (λ p met q k o. completion_opens p.completed p met q k o))) (unclosed_streams p) met q h opens
+
+  pass_opens : (p : SctpStreams S) (met : Met) (q : SctpStreams S) → MakesPass m p met q → IsOpening met → AreRunning m q
+  unfolding MakesPass
+  pass_opens p met q h opens = by p.rests h opens
+    where
+      rests : (o : Option (List (List ℕ))) → RestsBy o p met q → IsOpening met → AreRunning m q
+      rests None t opens = absurd (subst IsOpening t.0 opens)
+      rests (Some packets) t opens = transmit_opens (Some packets) p met q t opens
+
+      by : (b : Bool) → PassIf m b p met q → IsOpening met → AreRunning m q
+      by true t opens = rests p.pushed t.0 opens
+      by false t opens = steps_open p met q t opens
 
   pub opening_runs : (p : SctpStreams S) (id : ℕ) (label : List ℕ) (q : SctpStreams S) → PollsStreams m p (Ok (Some (event.Open id label))) q
       → AreRunning m q

@@ -11,7 +11,7 @@ use Rattle.rtc_sctp_entries.specs.declared.met.Met.{Met}
 use Rattle.rtc_sctp_entries.specs.declared.met.Met.TheVariants.{Nothing, Again, Output, OutOfMemory}
 use Rattle.rtc_sctp_entries.specs.Visits.{Turn, turn}
 use Rattle.rtc_sctp.specs.Streams.{SctpStreams, is_established}
-use Rattle.rtc_sctp.specs.Polls.{Book, book_of, Else, ThenBy, unclosed_streams, CompletionOf, TakesPacket, TransmitIf, TransmitOf, TakesEvent, NotStarted, NoRoom, NoEvent, Event, VisitedThen, VisitsAll, VisitsIf, MakesPass, Over, PollsStreams}
+use Rattle.rtc_sctp.specs.Polls.{Book, book_of, Else, ThenBy, unclosed_streams, CompletionOf, TakesPacket, TransmitIf, TransmitOf, TakesEvent, NotStarted, NoRoom, NoEvent, Event, VisitedThen, VisitsAll, VisitsIf, TakesSteps, RestsBy, PassIf, MakesPass, Over, PollsStreams}
 use Rattle.rtc_sctp_laws.specs.StreamRuns.{is_past_opening}
 use Rattle.rtc_sctp_laws.specs.GenerationLaws.{GenerationLaws}
 use Rattle.rtc_sctp_laws.proofs.ThereStreams.{AreBegunStreams, Goes, HasPast, IsBegunStream, IsFine, KeepingLaws, fine_on, goes_act, goes_none, goes_same}
@@ -82,7 +82,7 @@ module _ {S : Type 0} (m : AssociationMeaning S) (keeps : S → ℕ → Type 0) 
 
   completion_of : (l : List ℕ) (p : SctpStreams S) (met : Met) (q : SctpStreams S) → CompletionOf l p met q → AreBegunStreams m keeps p
       → AreBegunStreams m keeps q
-  completion_of [] p met q h k = begun_same p q h.1 k
+  completion_of [] p met q h k = begun_still p _ q h.1 refl refl k
   completion_of (id ∷ rest) p met q h k = begun_still p _ q h.1 refl refl k
 
   -- ---- visits
@@ -218,15 +218,27 @@ module _ {S : Type 0} (m : AssociationMeaning S) (keeps : S → ℕ → Type 0) 
       then_step (Output e) between d t = at (Output e) between d t.0 t.1
       then_step OutOfMemory between d t = at OutOfMemory between d t.0 t.1
 
-  pass_begun : (p : SctpStreams S) (met : Met) (q : SctpStreams S) → MakesPass m p met q → AreBegunStreams m keeps p → LeavesBegun met q
-  unfolding MakesPass
-  pass_begun p met q h k =
+  steps_begun : (p : SctpStreams S) (met : Met) (q : SctpStreams S) → TakesSteps m p met q → AreBegunStreams m keeps p → LeavesBegun met q
+  unfolding TakesSteps
+  steps_begun p met q h k =
       else_begun _ _ (λ p met q t d. begun_left met q (transmit_of p.pushed p met q t d))
       (else_begun _ _ (λ p met q t d. begun_left met q (event_begun p met q t.0 d))
       (else_begun _ _ (λ p met q t d. visits_if (is_established p.state && m.started p.association) p met q t d)
       (λ p met q t d. begun_left met q (completion_of p.completed p met q t d))))
       (unclosed_streams p) met q h
       (begun_over p (unclosed_streams p) (λ s. goes_none m keeps s p.association) (λ s x. past_unclosed s p.entries x) k)
+
+  pass_begun : (p : SctpStreams S) (met : Met) (q : SctpStreams S) → MakesPass m p met q → AreBegunStreams m keeps p → LeavesBegun met q
+  unfolding MakesPass
+  pass_begun p met q h k = by p.rests h k
+    where
+      rests : (o : Option (List (List ℕ))) → RestsBy o p met q → AreBegunStreams m keeps p → AreBegunStreams m keeps q
+      rests None t k = begun_same p q t.1 k
+      rests (Some packets) t k = transmit_of (Some packets) p met q t k
+
+      by : (b : Bool) → PassIf m b p met q → AreBegunStreams m keeps p → LeavesBegun met q
+      by true t k = begun_left met q (rests p.pushed t.0 k)
+      by false t k = steps_begun p met q t k
 
   over_begun : (n : ℕ) (p q : SctpStreams S) → Over m n p q → AreBegunStreams m keeps p → AreBegunStreams m keeps q
   over_begun zero p q h k = begun_same p q h k

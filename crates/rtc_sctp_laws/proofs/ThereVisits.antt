@@ -22,7 +22,7 @@ use Rattle.rtc_sctp_entries.specs.declared.met.Met.{Met}
 use Rattle.rtc_sctp_entries.specs.declared.met.Met.TheVariants.{Nothing, Again, Output, OutOfMemory}
 use Rattle.rtc_sctp_entries.specs.Answers.{opening_of}
 use Rattle.rtc_sctp_entries.specs.Entries.{is_out_of_band, is_short_entry}
-use Rattle.rtc_sctp_entries.specs.Visits.{Turn, is_opening_over, Marks, Starves, Settles, TakesAck, ClosedBy, Closes, NoRoom, Ended, AnnouncedBy, Announces, NoMessage, Written, AnnouncesIf, BegunAs, BegunBy, Begins, RetriedIf, RetriedAt, is_adopted, AdoptedIf, OpenedBy, OpensEntry, AcknowledgedBy, Acknowledges, TakenUpBy, TakesUp, TakenAs, TakesDcep, TakesStreamMessage, ReadBy, HandedBy, AttendsBy, AttendsIf, is_entry_there, VisitsIn, Visits}
+use Rattle.rtc_sctp_entries.specs.Visits.{Turn, is_opening_over, Marks, Starves, Settles, TakesAck, ClosedBy, Closes, NoRoom, Ended, AnnouncedBy, Announces, NoMessage, Written, AnnouncesIf, BegunAs, BegunBy, Begins, RetriedIf, RetriedAt, is_adopted, AdoptedIf, OpenedBy, OpensEntry, AcknowledgedBy, Acknowledges, TakenUpBy, TakesUp, TakenAs, TakesDcep, TakesStreamMessage, ReadBy, MayRead, IsRead, NothingUnread, HandedBy, AttendsBy, AttendsIf, is_entry_there, VisitsIn, Visits}
 use Rattle.rtc_sctp_laws.specs.StreamRuns.{is_past_opening}
 use Rattle.rtc_sctp_laws.proofs.ActLemmas.{ended_did}
 use Rattle.rtc_sctp_laws.specs.GenerationLaws.{GenerationLaws}
@@ -266,15 +266,18 @@ module _ {S : Type 0} (m : AssociationMeaning S) (keeps : S → ℕ → Type 0) 
   reads_on t q r called k =
       midway_on t q (λ ne. read_goes m keeps w v u s t.entry.id t.association q r (λ f. ne (sym k.id_is ∙ f)) called) k
 
+  may_read : (t : Turn S) (met : Met) (t' : Turn S) → Midway t → is_past_opening t.entry.state ≡ true → MayRead m t met t' → LeavesReady met t'
+  may_read t met t' k up (IsRead h) =
+      read_by h.answer (record t { association = h.between }) met t' (reads_on t h.between h.asks.result h.asks.called k) up h.then
+  may_read t met t' k up (NothingUnread unread e f) = left_as Nothing t met t' e f (past t k up)
+
   attends_by : (b : BufferedThresholdConfig) (t : Turn S) (met : Met) (t' : Turn S) → Midway t → is_past_opening t.entry.state ≡ true
       → AttendsBy m b t met t' → LeavesReady met t'
   attends_by (Desired n) t met t' k up h =
       handed h.answer n (record t { association = h.between }) met t'
       (midway_on t h.between (λ ne. threshold_goes m keeps w v u s t.entry.id n t.association h.between h.asks.result h.asks.called) k) up h.then
-  attends_by Unconfigured t met t' k up h =
-      read_by h.answer (record t { association = h.between }) met t' (reads_on t h.between h.asks.result h.asks.called k) up h.then
-  attends_by (Configured n) t met t' k up h =
-      read_by h.answer (record t { association = h.between }) met t' (reads_on t h.between h.asks.result h.asks.called k) up h.then
+  attends_by Unconfigured t met t' k up h = may_read t met t' k up h
+  attends_by (Configured n) t met t' k up h = may_read t met t' k up h
 
   attends_if : (b there : Bool) (t : Turn S) (met : Met) (t' : Turn S) → Midway t → is_past_opening t.entry.state ≡ true → AttendsIf m b there t met t' → LeavesReady met t'
   attends_if true there t met t' k up h = closes t met t' k h

@@ -15,7 +15,7 @@ use Rattle.rtc_sctp_entries.specs.declared.met.Met.{Met}
 use Rattle.rtc_sctp_entries.specs.declared.met.Met.TheVariants.{Nothing, Again, Output, OutOfMemory}
 use Rattle.rtc_sctp_entries.specs.Entries.{entry_place, new_place, new_entry, is_open_awaited}
 use Rattle.rtc_sctp.specs.Streams.{SctpStreams, is_established}
-use Rattle.rtc_sctp.specs.Polls.{Book, book_of, AfterEvent, FinishesAt, finished_entry, event_met, Else, ThenBy, unclosed_streams, CompletionOf, TakesPacket, TransmitIf, TransmitOf, TakesEvent, NotStarted, NoRoom, NoEvent, Event, VisitsIf, MakesPass, Over, PollsStreams}
+use Rattle.rtc_sctp.specs.Polls.{Book, book_of, AfterEvent, FinishesAt, finished_entry, event_met, Else, ThenBy, unclosed_streams, CompletionOf, TakesPacket, TransmitIf, TransmitOf, TakesEvent, NotStarted, NoRoom, NoEvent, Event, VisitsIf, TakesSteps, RestsBy, PassIf, MakesPass, Over, PollsStreams}
 use Rattle.rtc_sctp_laws.specs.StreamMessages.{StreamMessage, shown_messages, data_met, packets_met, pushed_packets, met_of}
 use Rattle.rtc_sctp_laws.specs.StreamActs.{AssociationDid}
 use Rattle.rtc_sctp_laws.proofs.ActLemmas.{did_join, did_same, gave_did, told_did, packet_polled}
@@ -236,7 +236,7 @@ module _ {S : Type 0} (m : AssociationMeaning S) where
     visits_if true p met q h = tour_step p met q (ap (λ (x : SctpStreams S). x.pushed) h.1) (tour_uses m w p.last p.entries p.association p.resets met q.association q.resets q.entries h.0)
 
     completion_of : (l : List ℕ) (p : SctpStreams S) (met : Met) (q : SctpStreams S) → CompletionOf l p met q → PollUses m p met q
-    completion_of [] p met q h = unchanged Nothing p p met q h.0 h.1 refl refl refl tt (sym (append-nil (pushed_packets p.pushed)))
+    completion_of [] p met q h = unchanged Nothing (record p { rests = true }) p met q h.0 h.1 refl refl refl tt (sym (append-nil (pushed_packets p.pushed)))
     completion_of (id ∷ rest) p met q h = unchanged (Output (event.StreamResetComplete id)) (record p { completed = rest }) p met q h.0 h.1 refl refl refl tt (sym (append-nil (pushed_packets p.pushed)))
 
     -- a step that made work, or had nothing to give, and what follows
@@ -275,15 +275,27 @@ module _ {S : Type 0} (m : AssociationMeaning S) where
     dropped : (p : SctpStreams S) → PollUses m p Nothing (unclosed_streams p)
     dropped p = quiet p Nothing (unclosed_streams p) [] [] (did_same m p.association p.association refl) refl tt (λ s ws hs. unclosed_used m s p.association ws hs p.entries) (λ s g. live_unclosed s g p.entries) (λ s o. open_unclosed s o p.entries) (sym (append-nil (pushed_packets p.pushed)))
 
-    pass_uses : (p : SctpStreams S) (met : Met) (q : SctpStreams S) → MakesPass m p met q → PollUses m p met q
-    unfolding MakesPass
-    pass_uses p met q h =
+    steps_use : (p : SctpStreams S) (met : Met) (q : SctpStreams S) → TakesSteps m p met q → PollUses m p met q
+    unfolding TakesSteps
+    steps_use p met q h =
         joins Nothing p (unclosed_streams p) met q refl refl (λ s ws hs a es l. l.left) (λ s g es l. l) (λ s k. k) (dropped p)
         (else_uses _ _ (λ p met q k. transmit_of p.pushed p met q refl k)
         (else_uses _ _ (λ p met q k. event_uses p met q (ap (λ (x : SctpStreams S). x.pushed) k.1) k.0)
         (else_uses _ _ (λ p met q k. visits_if (is_established p.state && m.started p.association) p met q k)
         (λ p met q k. completion_of p.completed p met q k)))
         (unclosed_streams p) met q h)
+
+    pass_uses : (p : SctpStreams S) (met : Met) (q : SctpStreams S) → MakesPass m p met q → PollUses m p met q
+    unfolding MakesPass
+    pass_uses p met q h = by p.rests h
+      where
+        rests : (o : Option (List (List ℕ))) → p.pushed ≡ o → RestsBy o p met q → PollUses m p met q
+        rests None e t = unchanged Nothing p p met q t.0 t.1 refl refl refl tt (sym (append-nil (pushed_packets p.pushed)))
+        rests (Some packets) e t = transmit_of (Some packets) p met q e t
+
+        by : (b : Bool) → PassIf m b p met q → PollUses m p met q
+        by true t = rests p.pushed refl t.0
+        by false t = steps_use p met q t
 
     over_uses : (n : ℕ) (p q : SctpStreams S) → Over m n p q → PollUses m p Again q
     over_uses zero p q h = unchanged Again p p Again q refl h refl refl refl tt (sym (append-nil (pushed_packets p.pushed)))

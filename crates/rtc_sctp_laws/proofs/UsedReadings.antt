@@ -20,7 +20,7 @@ use Rattle.rtc_sctp_entries.specs.declared.sctp_event.SctpEvent.TheVariants as e
 use Rattle.rtc_sctp_entries.specs.declared.met.Met.{Met}
 use Rattle.rtc_sctp_entries.specs.declared.met.Met.TheVariants.{Nothing, Again, Output}
 use Rattle.rtc_sctp_entries.specs.Answers.{heard_of}
-use Rattle.rtc_sctp_entries.specs.Visits.{Turn, TakesStreamMessage, ReadBy, ReadsEntry, is_entry_there, HandedBy, HandsThreshold, AttendsBy, AttendsIf, VisitsIn, Visits}
+use Rattle.rtc_sctp_entries.specs.Visits.{Turn, TakesStreamMessage, ReadBy, MayRead, IsRead, NothingUnread, ReadsEntry, is_entry_there, HandedBy, HandsThreshold, AttendsBy, AttendsIf, VisitsIn, Visits}
 use Rattle.rtc_sctp_laws.specs.StreamMessages.{StreamMessage, stream_message, is_dcep_message, shown_message}
 use Rattle.rtc_sctp_laws.specs.StreamActs.{AssociationDid, VisitDid}
 use Rattle.rtc_sctp_laws.specs.StreamRuns.{is_past_opening}
@@ -178,6 +178,10 @@ module _ {S : Type 0} (m : AssociationMeaning S) where
         read_by h.asks.result t h.between met t' own past un h.asks.called
         (subst (λ (x : Heard). ReadBy m x (record t { association = h.between }) met t') (sym h.asks.is) h.then)
 
+    may_read : (t : Turn S) (met : Met) (t' : Turn S) → (is_some t.entry.generation ≡ true → t.entry.generation ≡ Some (m.generation t.association t.entry.id)) → is_past_opening t.entry.state ≡ true → t.entry.marked ≡ false → MayRead m t met t' → VisitUses t met t'
+    may_read t met t' own past un (IsRead h) = reads t met t' own past un h
+    may_read t met t' own past un (NothingUnread unread e f) = unheard t met t' (stays t t Nothing met t' e f)
+
     -- a threshold is handed over
     handed : (o : Asked) (n : ℕ) (t : Turn S) (met : Met) (t' : Turn S) → HandedBy m o n t met t' → Arm m t.entry.id (UsedTurn m t.entry.id t) [] t.association met t'
     handed did.Done n t met t' h = still m t.entry.id _ [] Again (record t { entry = record t.entry { threshold = Configured n } }) met t' h.0 h.1 refl refl refl (refl, tt) (λ ws hs k. record { reached = k.0; used = k.1; opens = tt })
@@ -190,8 +194,8 @@ module _ {S : Type 0} (m : AssociationMeaning S) where
 
     attends_by : (b : BufferedThresholdConfig) (t : Turn S) (met : Met) (t' : Turn S) → (is_some t.entry.generation ≡ true → t.entry.generation ≡ Some (m.generation t.association t.entry.id)) → is_past_opening t.entry.state ≡ true → t.entry.marked ≡ false → AttendsBy m b t met t' → VisitUses t met t'
     attends_by (Desired n) t met t' own past un h = hands n t met t' h
-    attends_by Unconfigured t met t' own past un h = reads t met t' own past un h
-    attends_by (Configured n) t met t' own past un h = reads t met t' own past un h
+    attends_by Unconfigured t met t' own past un h = may_read t met t' own past un h
+    attends_by (Configured n) t met t' own past un h = may_read t met t' own past un h
 
     attends_if : (b c : Bool) (t : Turn S) (met : Met) (t' : Turn S) → is_past_opening t.entry.state ≡ true → t.entry.marked ≡ b → is_entry_there m t.association t.entry ≡ c → AttendsIf m b c t met t' → VisitUses t met t'
     attends_if true c t met t' past un there h = unheard t met t' (known m t.entry.id _ _ [] t.association met t' (λ ws hs k. k.0) (closes m w t met t' h))

@@ -22,48 +22,7 @@ use Rattle.rtc_sctp_entries.specs.declared.met.Met.{Met}
 use Rattle.rtc_sctp_entries.specs.declared.met.Met.TheVariants.{Nothing, Again, Output, OutOfMemory}
 use Rattle.rtc_sctp_entries.specs.Answers.{heard_of}
 use Rattle.rtc_sctp_entries.specs.Entries.{is_short_entry, is_out_of_band}
-use Rattle.rtc_sctp_entries.specs.Visits.{
-  Turn,
-  given_config,
-  Settles,
-  TakesAck,
-  ForEntry,
-  ClosedBy,
-  Closes,
-  NoRoom,
-  Ended,
-  AnnouncedBy,
-  Announces,
-  NoMessage,
-  Written,
-  AnnouncesIf,
-  BegunAs,
-  BegunBy,
-  Begins,
-  RetriedIf,
-  RetriedAt,
-  is_adopted,
-  AdoptedIf,
-  OpenedBy,
-  OpensEntry,
-  AcknowledgedBy,
-  Acknowledges,
-  TakenUpBy,
-  TakesUp,
-  TakenAs,
-  TakesDcep,
-  TakesStreamMessage,
-  ReadBy,
-  ReadsEntry,
-  HandedBy,
-  HandsThreshold,
-  AttendsBy,
-  AttendsIf,
-  is_entry_there,
-  VisitsIn,
-  Visits,
-  is_opening_over,
-}
+use Rattle.rtc_sctp_entries.specs.Visits.{Turn, given_config, Settles, TakesAck, ForEntry, ClosedBy, Closes, NoRoom, Ended, AnnouncedBy, Announces, NoMessage, Written, AnnouncesIf, BegunAs, BegunBy, Begins, RetriedIf, RetriedAt, is_adopted, AdoptedIf, OpenedBy, OpensEntry, AcknowledgedBy, Acknowledges, TakenUpBy, TakesUp, TakenAs, TakesDcep, TakesStreamMessage, ReadBy, ReadsEntry, MayRead, IsRead, NothingUnread, HandedBy, HandsThreshold, AttendsBy, AttendsIf, is_entry_there, VisitsIn, Visits, is_opening_over}
 use Rattle.rtc_sctp_laws.specs.StreamMessages.{StreamMessage, stream_message, are_dcep, shown_message, shown_messages, data_met, packets_met, resets_met}
 use Rattle.rtc_sctp_laws.specs.StreamActs.{AssociationDid, VisitDid}
 use Rattle.rtc_sctp_laws.proofs.MessageLemmas.{dcep_join, shown-append}
@@ -249,6 +208,10 @@ module _ {S : Type 0} (m : AssociationMeaning S) (w : AssociationLaws m) where
       read_by h.asks.result t h.between met t' h.asks.called
       (subst (λ (x : Heard). ReadBy m x (record t { association = h.between }) met t') (sym h.asks.is) h.then)
 
+  may_read : (t : Turn S) (met : Met) (t' : Turn S) → MayRead m t met t' → VisitDid m t.association met t'.association
+  may_read t met t' (IsRead h) = reads t met t' h
+  may_read t met t' (NothingUnread unread e f) = unheard t.association met t'.association (still [] _ _ met t' t.association e f refl refl refl refl)
+
   handed : (a : Asked) (n : ℕ) (t : Turn S) (met : Met) (t' : Turn S) → HandedBy m a n t met t' → Showing m [] t.association met t'.association
   handed did.Done n t met t' h = still [] _ _ met t' t.association h.0 h.1 refl refl refl refl
   handed did.Refused n t met t' h = still [] _ _ met t' t.association h.0 h.1 refl refl refl refl
@@ -260,8 +223,8 @@ module _ {S : Type 0} (m : AssociationMeaning S) (w : AssociationLaws m) where
 
   attends_by : (b : BufferedThresholdConfig) (t : Turn S) (met : Met) (t' : Turn S) → AttendsBy m b t met t' → VisitDid m t.association met t'.association
   attends_by (Desired n) t met t' h = unheard t.association met t'.association (hands n t met t' h)
-  attends_by Unconfigured t met t' h = reads t met t' h
-  attends_by (Configured n) t met t' h = reads t met t' h
+  attends_by Unconfigured t met t' h = may_read t met t' h
+  attends_by (Configured n) t met t' h = may_read t met t' h
 
   attends_if : (b c : Bool) (t : Turn S) (met : Met) (t' : Turn S) → AttendsIf m b c t met t' → VisitDid m t.association met t'.association
   attends_if true c t met t' h = unheard t.association met t'.association (closes t met t' h)

@@ -1,3 +1,5 @@
 pub mod StandardFacts
 pub mod ChunkLemmas
 pub mod HalfLemmas
+pub mod WordLemmas
+pub mod BitLemmas

@@ -3,3 +3,5 @@ pub mod InitHalves
 pub mod SctpErrors
 pub mod SctpErrorText
 pub mod SnapHalves
+pub mod Words
+pub mod StreamIds

@@ -4,7 +4,7 @@ use Rattle.rtc_part_association.specs.declared.assoc_event.AssocEvent.TheVariant
 use Rattle.rtc_part_values.specs.Among.{Member}
 use Rattle.rtc_part_association.specs.AssociationEvents.{InOrder}
 use Rattle.rtc_part_association.specs.AssociationWords.{completions}
-use Rattle.rtc_part_association.proofs.AssociationLemmas.{adds_all, fresh_adds}
+use Rattle.rtc_part_association.proofs.AssociationLemmas.{adds_all, fresh_adds, silent_all}
 use Rattle.rtc_part_association.proofs.events.events_follow_each_other.Goals as goal
 
 pub returns-clause-adds : goal.returns-clause-adds
@@ -36,3 +36,9 @@ returns-clause-readable g c = λ p q acts s k f h u.
       | inl e ↦ absurd (let n : false ≡ true = sym (w.fresh_unread p s k f) ∙ e in cc)
       | inr e ↦ e
     ])
+
+pub returns-clause-stale : goal.returns-clause-stale
+returns-clause-stale g c = λ p q acts s f h t.
+    let m = g.S.Association.association in
+    let w = g.met.S.Association.laws in
+    silent_all m w p q acts h (λ id closed. w.fresh_unread p id (m.generation p id) f) s (w.stale_closed q s t)

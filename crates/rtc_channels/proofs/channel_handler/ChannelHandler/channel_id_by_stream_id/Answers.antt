@@ -4,4 +4,4 @@ use Rattle.rtc_channels.proofs.channel_handler.ChannelHandler.channel_id_by_stre
 
 pub returns : goal.returns
 returns c =
-    rw (sym c.self.view_is) (rw (streams_of_channels c.self.inside.rows.items c.self.inside.kept.items c.self.invariant.paired.same) (c.owner_of.ensures ∙ c.self.invariant.owners c.args.s))
+    rw (sym c.self.view_is) (rw (streams_of_channels c.self.inside.rows.items c.self.inside.kept.items c.self.invariant.handled.paired.same) (c.owner_of.ensures ∙ c.self.invariant.handled.owners c.args.s))

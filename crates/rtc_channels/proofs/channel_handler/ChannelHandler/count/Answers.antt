@@ -6,4 +6,4 @@ use Rattle.rtc_channels.proofs.channel_handler.ChannelHandler.count.Goals as goa
 pub returns : goal.returns
 returns c =
     ap (λ (rows : List (ℕ × Option ℕ)). length rows) c.as_slice.ensures.value
-    ∙ (sym (length-channels_of c.self.inside.rows.items c.self.inside.kept.items c.self.invariant.paired.same) ∙ ap (λ (held : Channels). length held.rows) c.self.view_is)
+    ∙ (sym (length-channels_of c.self.inside.rows.items c.self.inside.kept.items c.self.invariant.handled.paired.same) ∙ ap (λ (held : Channels). length held.rows) c.self.view_is)

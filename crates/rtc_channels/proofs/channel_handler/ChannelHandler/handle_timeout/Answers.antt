@@ -1,13 +1,9 @@
-use Rattle.std.proofs.Common.{◌∙◌, sym}
-use Rattle.rtc_channels.proofs.OpeningLemmas.{meets_ok, meets_err}
+use Rattle.std.proofs.Common.{subst}
+use Rattle.rtc_channels.specs.Channels.{Channels}
+use Rattle.rtc_channels.specs.Openings.{MeetsMoment, is_progress_due}
 use Rattle.rtc_channels.proofs.channel_handler.ChannelHandler.handle_timeout.Goals as goal
 
-pub returns-in-Ok : goal.returns-in-Ok
-returns-in-Ok g c =
-    meets_ok g.S.Association.association c.args.self.now c.args.sctp.now c.args.wake.now _ c.is_client.result (sym c.is_due.ensures ∙ c.if-not-is_due.false) c.is_client.ensures
-    c.do_allocations.new.self c.open_channels.new.self c.open_channels.result c.open_channels.new.sctp c.in-Ok.ensures.allocates c.open_channels.ensures
-
-pub returns-in-Err : goal.returns-in-Err
-returns-in-Err g c =
-    meets_err g.S.Association.association c.args.self.now c.args.sctp.now c.args.wake.now _ c.is_client.result (sym c.is_due.ensures ∙ c.if-not-is_due.false) c.is_client.ensures
-    c.do_allocations.new.self c.in-Err.error c.in-Err.ensures.allocates
+pub returns : goal.returns
+returns g c =
+    subst (λ (held : Channels). MeetsMoment g.S.Association.association (is_progress_due g.S.Association.association held c.args.sctp.now) held c.args.sctp.now c.args.wake.now c.progress.result c.progress.new.self c.progress.new.sctp c.progress.new.wake)
+    c.settle.ensures c.progress.ensures

@@ -1,6 +1,14 @@
-use Rattle.std.proofs.Common.{◌∙◌, arith}
+use Rattle.std.proofs.Common.{◌∙◌, sym, arith}
 use Rattle.rtc_channels.proofs.OpeningLemmas.{opens_more, opens_stop}
+use Rattle.rtc_channels.proofs.SettledLemmas.{settled_within, settled_opens}
 use Rattle.rtc_channels.proofs.channel_handler.ChannelHandler.open_channels.Goals as goal
+
+pub places-init : goal.places-init
+places-init g c = record {
+  within = omega (arith, settled_within c.first_unsettled-place.result c.args.self.now.rows c.first_unsettled-place.ensures, c.count-count.ensures);
+  size = sym c.count-count.ensures;
+  left = λ r held' p' opens. settled_opens g.S.Association.association c.args.self.now c.args.sctp.now r held' p' c.first_unsettled-place.result c.args.self.now.rows c.first_unsettled-place.ensures opens;
+}
 
 pub returns-in-Err : goal.returns-in-Err
 returns-in-Err g c =

@@ -4,4 +4,4 @@ use Rattle.rtc_channels.proofs.channel_handler.ChannelHandler.rows.Goals as goal
 
 pub returns : goal.returns
 returns c =
-    rw (sym c.self.view_is) (rw (streams_of_channels c.self.inside.rows.items c.self.inside.kept.items c.self.invariant.paired.same) c.as_slice.ensures.value)
+    rw (sym c.self.view_is) (rw (streams_of_channels c.self.inside.rows.items c.self.inside.kept.items c.self.invariant.handled.paired.same) c.as_slice.ensures.value)

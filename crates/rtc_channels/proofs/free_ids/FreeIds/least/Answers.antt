@@ -1,5 +1,5 @@
 use Rattle.std.proofs.Common.{sym, arith}
-use Rattle.rtc_channels.proofs.WordLemmas.{no_bits}
+use Rattle.rtc_sctp_values.proofs.WordLemmas.{no_bits}
 use Rattle.rtc_channels.proofs.IdLemmas.{increasing_ids, sixteen_bits, least_id, no_id}
 use Rattle.rtc_channels.proofs.free_ids.FreeIds.least.Goals as goal
 
@@ -7,7 +7,7 @@ pub returns-then-self-eq0-clause-first : goal.returns-then-self-eq0-clause-first
 returns-then-self-eq0-clause-first c =
     rw (← c.self.view_is)
     (sym (no_id c.self.inside.parity c.self.inside.words
-    (no_bits c.self.inside.parity c.self.inside.words c.self.inside.groups c.self.inside.top c.self.invariant c.if-self-eq0.true)))
+    (no_bits c.self.inside.words c.self.inside.groups c.self.inside.top c.self.invariant.top_count c.self.invariant.lower c.self.invariant.upper c.if-self-eq0.true)))
 
 pub returns-then-self-eq0-clause-ascending : goal.returns-then-self-eq0-clause-ascending
 returns-then-self-eq0-clause-ascending c = rw (← c.self.view_is) (increasing_ids c.self.inside.parity c.self.inside.words)

@@ -1,5 +1,5 @@
 use Rattle.std.proofs.Common.{refl}
-use Rattle.rtc_channels.proofs.WordLemmas.{full_summary, full_top, full_bits}
+use Rattle.rtc_sctp_values.proofs.WordLemmas.{full_summary, full_top, full_bits}
 use Rattle.rtc_channels.proofs.IdLemmas.{full_pool-words}
 use Rattle.rtc_channels.proofs.free_ids.FreeIds.new.Goals as goal
 

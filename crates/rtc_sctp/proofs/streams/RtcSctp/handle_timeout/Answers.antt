@@ -1,5 +1,11 @@
-use Rattle.rtc_sctp.proofs.OrderKept.{ascend_dropped}
+use Rattle.rtc_sctp.proofs.CallsTended.{tended_swept}
 use Rattle.rtc_sctp.proofs.streams.RtcSctp.handle_timeout.Goals as goal
 
 pub invariant_of-self : goal.invariant_of-self
-invariant_of-self g c = ascend_dropped _ _ c.drop_closed.ensures c.self.invariant
+invariant_of-self g c = (
+  tended_swept g.S.Association.association _ _ _ _ _ c.self.invariant.0 c.sweep.ensures.entries c.sweep.ensures.streams,
+  λ e. cc (e),
+)
+
+pub sweep-requires : goal.sweep-requires
+sweep-requires g c = c.self.invariant.0.unclosed_all

@@ -12,11 +12,11 @@ use Rattle.rtc_sctp.proofs.streams.RtcSctp.init.Goals as goal
 
 -- the streams that begin over an association that was started
 abbrev begun_of : {S : Type 0} → Bool → ℕ → Option InitHalves → SctpStreams S → SctpStreams S
-begun_of client max snap a = record a { client = client; remote_max = max; state = begun_state snap client; snap = begun_halves snap a.snap }
+begun_of client max snap a = record a { client = client; remote_max = max; state = begun_state snap client; snap = begun_halves snap a.snap; rests = false }
 
 started_begins : {S : Type 0} (m : AssociationMeaning S) (client : Bool) (now max : ℕ) (snap : Option InitHalves) (p a q : SctpStreams S)
     → m.started p.association ≡ false → AsksInit m snap client p.association now max Done a.association
-    → a ≡ record p { association = a.association } → q ≡ begun_of client max snap a → Inits m client now max snap p (Ok tt) q
+    → a ≡ record p { association = a.association; rests = false } → q ≡ begun_of client max snap a → Inits m client now max snap p (Ok tt) q
 started_begins m client now max snap p a q fresh asked others begun =
     subst (λ x. Inits m client now max snap p (Ok tt) x) (sym begun) (fresh, asked, ap (λ y. begun_of client max snap y) others)
 

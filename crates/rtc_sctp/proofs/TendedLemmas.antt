@@ -1,0 +1,131 @@
+-- Entries of which those left out are at rest stay so.
+use Rattle.std.proofs.Common.{◌≡◌, ◌≢◌, ◌⊎◌, inl, inr, ℕ, zero, suc, ◌+◌, ◌<◌, ◌≤◌, ◌||◌, not, Bool, true, false, true≢false, List, [], ◌∷◌, length, get_or, set, Some, refl, sym, ap, subst, ◌∙◌, arith}
+use Rattle.std.proofs.lemmas.List.{get_or_default}
+use Rattle.std.proofs.lemmas.Option.{slice_get-get_or}
+use Rattle.rtc_part_association.specs.AssociationMeaning.{AssociationMeaning}
+use Rattle.rtc_part_association.specs.AssociationLaws.{AssociationLaws}
+use Rattle.rtc_sctp_values.specs.StreamIds.{StreamIds, has_id}
+use Rattle.rtc_sctp_entries.specs.declared.stream_entry_state.StreamEntryState.{StreamEntryState}
+use Rattle.rtc_sctp_entries.specs.declared.stream_entry_state.StreamEntryState.TheVariants.{AwaitOpen, AwaitConfig, AwaitDcepAck, Open, Closed}
+use Rattle.rtc_sctp_entries.specs.declared.stream_entry.StreamEntry.{StreamEntry}
+use Rattle.rtc_sctp_entries.specs.declared.met.Met.{Met}
+use Rattle.rtc_sctp_entries.specs.declared.met.Met.TheVariants.{Nothing, Again, Output, OutOfMemory}
+use Rattle.rtc_sctp_entries.specs.Entries.{AscendFrom, is_closed_state, unclosed}
+use Rattle.rtc_sctp_entries.specs.StreamLaws.{is_nothing_met}
+use Rattle.rtc_sctp_entries.specs.Visits.{Turn, turn, VisitsIn, Visits}
+use Rattle.rtc_sctp_entries.proofs.OrderLemmas.{ascend_least, ascend_set}
+use Rattle.rtc_sctp_entries.proofs.StillVisits.{Idle, attends_still, visits_still}
+use Rattle.rtc_sctp_entries.proofs.UntoldVisits.{Untold, visits_untold}
+use Rattle.rtc_sctp_entries.proofs.VisitIds.{visits_id}
+use Rattle.rtc_sctp.specs.declared.agenda.Agenda.{Agenda}
+use Rattle.rtc_sctp.specs.Rest.{AreUnclosed, Rests, RestsIn, AtRest, OthersRest, AreTended, is_done}
+use Rattle.rtc_sctp.proofs.RestLemmas.{others_on, others_noted}
+
+-- ---- closed entries
+
+pub unclosed_same : (es : List StreamEntry) → AreUnclosed es → unclosed es ≡ es
+unclosed_same [] h = refl
+unclosed_same (e ∷ es) h = rw (h.0) (ap (λ l. e ∷ l) (unclosed_same es h.1))
+
+pub unclosed_set : (es : List StreamEntry) (i : ℕ) (e' : StreamEntry) → is_closed_state e'.state ≡ false → AreUnclosed es → AreUnclosed (set es i e')
+unclosed_set [] i e' here h = tt
+unclosed_set (e ∷ es) zero e' here h = (here, h.1)
+unclosed_set (e ∷ es) (suc i) e' here h = (h.0, unclosed_set es i e' here h.1)
+
+neither : (a b : Bool) → (a || b) ≡ false → (a ≡ false) × (b ≡ false)
+neither true b h = absurd (true≢false h)
+neither false b h = (refl, h)
+
+-- ---- one entry in place of another
+
+module _ {S : Type 0} (m : AssociationMeaning S) where
+  -- entries behind an id that alone changed
+  others_apart : (a : S) (ids ids' : StreamIds) (es : List StreamEntry) (low id : ℕ) → AscendFrom low es → id < low
+      → ((other : ℕ) → other ≢ id → has_id other ids' ≡ has_id other ids) → OthersRest m a ids es → OthersRest m a ids' es
+  others_apart a ids ids' [] low id order behind same h = tt
+  others_apart a ids ids' (e ∷ es) low id order behind same h =
+      let least : low ≤ e.id = order.0 in
+      let ne : e.id ≢ id = λ k. omega (arith, least, behind, k) in
+      (λ out. h.0 (sym (same e.id ne) ∙ out), others_apart a ids ids' es (e.id + 1) id order.1 (omega (arith, least, behind)) same h.1)
+
+  -- an entry in place of the one of its id, which alone was put in or taken out
+  pub others_left : (a : S) (ids ids' : StreamIds) (es : List StreamEntry) (i low : ℕ) (e' : StreamEntry) → AscendFrom low es → i < length es
+      → (get_or es i e').id ≡ e'.id → ((other : ℕ) → other ≢ e'.id → has_id other ids' ≡ has_id other ids)
+      → (has_id e'.id ids' ≡ false → AtRest m a e') → OthersRest m a ids es → OthersRest m a ids' (set es i e')
+  others_left a ids ids' [] i low e' order lt own same rest h = tt
+  others_left a ids ids' (e ∷ es) zero low e' order lt own same rest h =
+      (rest, others_apart a ids ids' es (e.id + 1) e'.id order.1 (omega (arith, own)) same h.1)
+  others_left a ids ids' (e ∷ es) (suc i) low e' order lt own same rest h =
+      let behind : e.id + 1 ≤ (get_or es i e').id = ascend_least (e.id + 1) es i e' order.1 (omega (arith, lt)) in
+      let ne : e.id ≢ e'.id = λ k. omega (arith, behind, own, k) in
+      (λ out. h.0 (sym (same e.id ne) ∙ out), others_left a ids ids' es i (e.id + 1) e' order.1 (omega (arith, lt)) own same rest h.1)
+
+  idle_rests : (a : S) (e : StreamEntry) (rs : List ℕ) → Idle m (turn a e rs) → Rests m a e
+  idle_rests a e rs h = record {
+    unmarked = h.unmarked;
+    handed = h.handed;
+    there = inl h.there;
+    read = λ unread. absurd (true≢false (sym unread ∙ h.unread));
+  }
+
+module _ {S : Type 0} (m : AssociationMeaning S) (w : AssociationLaws m) where
+  -- acts that tell nothing
+  pub tended_on : (a b : S) (es : List StreamEntry) (agenda : Agenda) → Untold m a b → AreTended m a es agenda → AreTended m b es agenda
+  tended_on a b es agenda u h = record { ascend = h.ascend; rest = others_on m w a b agenda.streams es u h.rest; unclosed_all = h.unclosed_all }
+
+  -- a visit of this state that met this left the entry with nothing to do
+  done_closed : (st : StreamEntryState) (met : Met) (a : S) (e : StreamEntry) → is_nothing_met met ≡ false → is_done st met ≡ true → RestsIn m st a e
+  done_closed AwaitOpen met a e n d = absurd (true≢false (sym d))
+  done_closed AwaitConfig met a e n d = absurd (true≢false (sym d ∙ n))
+  done_closed AwaitDcepAck met a e n d = absurd (true≢false (sym d ∙ n))
+  done_closed Open met a e n d = absurd (true≢false (sym d ∙ n))
+  done_closed Closed met a e n d = tt
+
+  done_nothing : (st : StreamEntryState) (now : ℕ) (a : S) (x : StreamEntry) (rs : List ℕ) (t : Turn S) → x.state ≡ st
+      → VisitsIn m st now (turn a x rs) Nothing t → t.entry.state ≡ x.state → is_done t.entry.state Nothing ≡ true → AtRest m t.association t.entry
+  done_nothing AwaitOpen now a x rs t is v same d =
+      absurd (true≢false (sym d ∙ ap (λ (st : StreamEntryState). is_done st Nothing) (same ∙ is)))
+  done_nothing AwaitConfig now a x rs t is v same d =
+      let k = attends_still m w (turn a x rs) t v in
+      subst (λ (y : Turn S). AtRest m y.association y.entry) (sym k.0) (subst (λ (st : StreamEntryState). RestsIn m st a x) (sym is) (idle_rests m a x rs k.1))
+  done_nothing AwaitDcepAck now a x rs t is v same d =
+      let k = attends_still m w (turn a x rs) t v in
+      subst (λ (y : Turn S). AtRest m y.association y.entry) (sym k.0) (subst (λ (st : StreamEntryState). RestsIn m st a x) (sym is) (idle_rests m a x rs k.1))
+  done_nothing Open now a x rs t is v same d =
+      let k = attends_still m w (turn a x rs) t v in
+      subst (λ (y : Turn S). AtRest m y.association y.entry) (sym k.0) (subst (λ (st : StreamEntryState). RestsIn m st a x) (sym is) (idle_rests m a x rs k.1))
+  done_nothing Closed now a x rs t is v same d =
+      subst (λ (st : StreamEntryState). RestsIn m st t.association t.entry) (sym (same ∙ is)) tt
+
+  pub done_rests : (met : Met) (now : ℕ) (a : S) (x : StreamEntry) (rs : List ℕ) (t : Turn S) → Visits m now (turn a x rs) met t
+      → is_done t.entry.state met ≡ true → AtRest m t.association t.entry
+  done_rests Nothing now a x rs t v d = done_nothing x.state now a x rs t refl v (visits_still m w now (turn a x rs) t v).state d
+  done_rests Again now a x rs t v d = done_closed t.entry.state Again t.association t.entry refl d
+  done_rests (Output o) now a x rs t v d = done_closed t.entry.state (Output o) t.association t.entry refl d
+  done_rests OutOfMemory now a x rs t v d = done_closed t.entry.state OutOfMemory t.association t.entry refl d
+
+  not_true : (b : Bool) → not b ≡ false → b ≡ true
+  not_true true h = refl
+  not_true false h = absurd (true≢false h)
+
+  -- a visit, and what it leaves to do
+  pub tended_visit : (now : ℕ) (met : Met) (id : ℕ) (a : S) (rs : List ℕ) (es : List StreamEntry) (i : ℕ) (x : StreamEntry) (t : Turn S) (agenda agenda' : Agenda)
+      → AreTended m a es agenda → i < length es → x ≡ get_or es i x → x.id ≡ id → Visits m now (turn a x rs) met t
+      → has_id id agenda'.streams ≡ not (is_done t.entry.state met) → ((other : ℕ) → other ≢ id → has_id other agenda'.streams ≡ has_id other agenda.streams)
+      → agenda'.closed ≡ (agenda.closed || is_closed_state t.entry.state) → AreTended m t.association (set es i t.entry) agenda'
+  tended_visit now met id a rs es i x t agenda agenda' h lt is own v here others closed =
+      let same : t.entry.id ≡ x.id = visits_id m now (turn a x rs) met t v in
+      let at : t.entry.id ≡ id = same ∙ own in
+      let moved = others_on m w a t.association agenda.streams es (visits_untold m w now (turn a x rs) met t v) h.rest in
+      record {
+        ascend = ascend_set 0 es i x t.entry (slice_get-get_or es i x lt ∙ ap (λ (y : StreamEntry). Some y) (sym is)) same h.ascend;
+        rest =
+            others_left m t.association agenda.streams agenda'.streams es i 0 t.entry h.ascend lt
+            (ap (λ (y : StreamEntry). y.id) (get_or_default es i t.entry x lt ∙ sym is) ∙ sym same)
+            (λ other ne. others other (λ k. ne (k ∙ sym at)))
+            (λ out. done_rests met now a x rs t v (not_true (is_done t.entry.state met) (sym here ∙ ap (λ n. has_id n agenda'.streams) (sym at) ∙ out)))
+            moved;
+        unclosed_all = λ none.
+            let two = neither agenda.closed (is_closed_state t.entry.state) (sym closed ∙ none) in
+            unclosed_set es i t.entry two.1 (h.unclosed_all two.0);
+      }

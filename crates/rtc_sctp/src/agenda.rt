@@ -1,0 +1,88 @@
+//! What a poll of streams has to look at.
+ghost use Rattle.std.specs.Prelude.{◌≡◌, ◌≢◌, ℕ, true, false, not, ◌||◌};
+ghost use Rattle.rtc_sctp_values.specs.StreamIds.{has_id};
+ghost use Rattle.rtc_sctp_entries.specs.StreamLaws.{is_nothing_met};
+ghost use Rattle.rtc_sctp_entries.specs.Entries.{is_closed_state as IsClosedState};
+ghost use Rattle.rtc_sctp.specs.Rest.{is_done as IsDone};
+
+use crate::StreamEntryState;
+use rtc_sctp_entries::Met;
+use rtc_sctp_entries::entries::is_closed_state;
+use rtc_sctp_values::StreamSet;
+
+/// The streams that the next poll looks at.
+#[derive(Debug, Drop)]
+pub struct Agenda {
+    /// The streams that may have something to do.
+    pub streams: StreamSet,
+    /// Whether there may be closed entries.
+    pub closed: bool,
+}
+
+fn is_nothing(met: &Met) -> bool
+    ensures { result ≡ is_nothing_met met.now }
+{
+    match met {
+        Met::Nothing => true,
+        Met::Again => false,
+        Met::Output(_) => false,
+        Met::OutOfMemory => false,
+    }
+}
+
+// Whether a stream has nothing more to do behind a visit that met this.
+fn is_done(state: StreamEntryState, met: &Met) -> bool
+    ensures { result ≡ IsDone state met.now }
+{
+    match state {
+        StreamEntryState::AwaitOpen => false,
+        StreamEntryState::AwaitConfig => is_nothing(met),
+        StreamEntryState::AwaitDcepAck => is_nothing(met),
+        StreamEntryState::Open => is_nothing(met),
+        StreamEntryState::Closed => true,
+    }
+}
+
+impl Agenda {
+    /// Nothing to look at.
+    pub fn new() -> Agenda
+        ensures streams { (id : ℕ) → has_id id result.streams ≡ false }
+        ensures closed { result.closed ≡ false }
+    {
+        Agenda {
+            streams: StreamSet::new(),
+            closed: false,
+        }
+    }
+
+    /// A stream may have something to do.
+    pub fn note(&mut self, id: u16)
+        ensures here { has_id id self.new.streams ≡ true }
+        ensures others { (other : ℕ) → other ≢ id → has_id other self.new.streams ≡ has_id other self.old.streams }
+        ensures closed { self.new.closed ≡ self.old.closed }
+    {
+        self.streams.put(id, true);
+    }
+
+    /// A stream has nothing to do.
+    pub fn forget(&mut self, id: u16)
+        ensures here { has_id id self.new.streams ≡ false }
+        ensures others { (other : ℕ) → other ≢ id → has_id other self.new.streams ≡ has_id other self.old.streams }
+        ensures closed { self.new.closed ≡ self.old.closed }
+    {
+        self.streams.put(id, false);
+    }
+
+    /// A stream was visited, which left its entry in this state.
+    pub fn settle(&mut self, id: u16, state: StreamEntryState, met: &Met)
+        requires { has_id id self.old.streams ≡ true }
+        ensures here { has_id id self.new.streams ≡ not (IsDone state met.now) }
+        ensures others { (other : ℕ) → other ≢ id → has_id other self.new.streams ≡ has_id other self.old.streams }
+        ensures closed { self.new.closed ≡ (self.old.closed || IsClosedState state) }
+    {
+        if is_done(state, met) {
+            self.streams.put(id, false);
+        }
+        self.closed = self.closed || is_closed_state(state);
+    }
+}
