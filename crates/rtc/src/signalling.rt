@@ -12,7 +12,10 @@ use rtc_wire::Text;
 use rtc_wire_drops::release;
 use std::alloc::Global;
 
-fn accept_offer<P: Parts>(peer: &mut Peer<P>, offer: SdpOffer) -> Result<SdpAnswer, RtcError>
+pub(crate) fn accept_offer<P: Parts>(
+    peer: &mut Peer<P>,
+    offer: SdpOffer,
+) -> Result<SdpAnswer, RtcError>
     ensures accepts { AcceptsOffer (meanings P.Ice.ice P.Dtls.dtls P.Sctp.association P.Media.media P.Ids.ids)
         (record peer.old.core { staged = []; undo = [] }) offer.0 (sdp_of_answer result) peer.new.core }
     ensures connection { peer.new.transport ≡ peer.old.transport }

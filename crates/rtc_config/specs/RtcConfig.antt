@@ -17,6 +17,8 @@ pub record PeerConfig : Type 0 where
   pub dtls : DtlsSettings
   pub codecs : CodecConfig
   pub extensions : ExtensionMap
+  -- whether lines that it adds take the extension numbers that the session uses
+  pub session_extension_ids : Bool
   pub stats_interval : Option ℕ
   pub media : MediaSettings
   pub sctp : SctpSettings
@@ -85,6 +87,7 @@ default_config = record {
   dtls = default_dtls;
   codecs = unset_codecs;
   extensions = unset_extensions;
+  session_extension_ids = false;
   stats_interval = None;
   media = default_media;
   sctp = default_sctp;

@@ -41,6 +41,15 @@ impl RtcConfig {
         self
     }
 
+    /// Whether a line that this side adds takes, for each header extension, the number that the session already uses for
+    /// it, or else a free one (RFC 8843, section 12). If not, which is the default, it has those of the configuration.
+    pub fn set_session_extension_ids(mut self, enabled: bool) -> RtcConfig
+        ensures { result ≡ record self { session_extension_ids = enabled } }
+    {
+        self.session_extension_ids = enabled;
+        self
+    }
+
     /// Drops every header extension.
     pub fn clear_extension_map(mut self) -> RtcConfig
         ensures { result ≡ record self { extensions = record { rows = [] } } }

@@ -42,6 +42,13 @@ impl RtcConfig {
         &self.extensions
     }
 
+    /// Whether lines that this side adds take the header extension numbers that the session uses.
+    pub fn session_extension_ids(&self) -> bool
+        ensures { result ≡ self.now.session_extension_ids }
+    {
+        self.session_extension_ids
+    }
+
     /// Whether the other side's certificate has to match its announced fingerprint.
     pub fn fingerprint_verification(&self) -> bool
         ensures { result ≡ self.now.dtls.fingerprint_verification }

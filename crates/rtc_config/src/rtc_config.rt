@@ -28,6 +28,7 @@ pub struct RtcConfig {
     pub(crate) dtls: DtlsSettings,
     pub(crate) codecs: CodecConfig,
     pub(crate) extensions: ExtensionMap,
+    pub(crate) session_extension_ids: bool,
     pub(crate) stats_interval: Option<Span>,
     pub(crate) media: MediaSettings,
     pub(crate) sctp: SctpSettings,
@@ -45,6 +46,7 @@ impl Model for RtcConfig {
       dtls = config.dtls;
       codecs = config.codecs;
       extensions = config.extensions;
+      session_extension_ids = config.session_extension_ids;
       stats_interval = config.stats_interval;
       media = config.media;
       sctp = config.sctp;
@@ -79,7 +81,8 @@ impl PartialEq for RtcConfig {
         (eq_of_both (on (λ c. c.sctp) (sctp_eq.ghosts).eq)
         (eq_of_both (on (λ c. c.mtu.0) nat_eq)
         (eq_of_both (on (λ c. c.mtu.1) nat_eq)
-        (on (λ c. c.polite) (option_eq beq)))))))))) };
+        (eq_of_both (on (λ c. c.polite) (option_eq beq))
+        (on (λ c. c.session_extension_ids) beq)))))))))) };
 
     ghost laws = { partial_equiv_from_equiv (and_equiv (on_equiv (λ c. c.ice) ice_laws.laws-law)
         (and_equiv (on_equiv (λ c. c.dtls) dtls_laws.laws-law)
@@ -90,7 +93,8 @@ impl PartialEq for RtcConfig {
         (and_equiv (on_equiv (λ c. c.sctp) sctp_laws.laws-law)
         (and_equiv (on_equiv (λ c. c.mtu.0) nat_eq_equiv)
         (and_equiv (on_equiv (λ c. c.mtu.1) nat_eq_equiv)
-        (on_equiv (λ c. c.polite) (options_equiv bool_eq_equiv))))))))))) };
+        (and_equiv (on_equiv (λ c. c.polite) (options_equiv bool_eq_equiv))
+        (on_equiv (λ c. c.session_extension_ids) bool_eq_equiv))))))))))) };
 
     fn eq(&self, other: &RtcConfig) -> bool {
         self.ice == other.ice
@@ -103,6 +107,7 @@ impl PartialEq for RtcConfig {
             && self.mtu.0 == other.mtu.0
             && self.mtu.1 == other.mtu.1
             && self.polite == other.polite
+            && self.session_extension_ids == other.session_extension_ids
     }
 }
 
@@ -123,7 +128,8 @@ impl Eq for RtcConfig {
         (and_equiv (on_equiv (λ c. c.sctp) sctp_laws.laws-law)
         (and_equiv (on_equiv (λ c. c.mtu.0) nat_eq_equiv)
         (and_equiv (on_equiv (λ c. c.mtu.1) nat_eq_equiv)
-        (on_equiv (λ c. c.polite) (options_equiv bool_eq_equiv)))))))))) };
+        (and_equiv (on_equiv (λ c. c.polite) (options_equiv bool_eq_equiv))
+        (on_equiv (λ c. c.session_extension_ids) bool_eq_equiv)))))))))) };
 }
 
 // Written out, so that the proof of what owns a configuration sees one call and not the drop of each field.
@@ -135,6 +141,7 @@ impl Drop for RtcConfig {
             dtls: _dtls,
             codecs: _codecs,
             extensions: _extensions,
+            session_extension_ids: _session_extension_ids,
             stats_interval: _stats_interval,
             media: _media,
             sctp: _sctp,
@@ -221,6 +228,7 @@ impl RtcConfig {
             },
             codecs,
             extensions,
+            session_extension_ids: false,
             stats_interval: None,
             media: default_media(),
             sctp: default_sctp(),
@@ -239,6 +247,7 @@ impl RtcConfig {
             dtls: _,
             codecs,
             extensions,
+            session_extension_ids: _,
             stats_interval: _,
             media: _,
             sctp: _,
@@ -261,6 +270,7 @@ impl TryCopy for RtcConfig {
             dtls,
             codecs,
             extensions,
+            session_extension_ids: self.session_extension_ids,
             stats_interval: self.stats_interval,
             media: self.media,
             sctp: self.sctp,

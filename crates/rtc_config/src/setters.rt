@@ -77,7 +77,8 @@ impl RtcConfig {
         self
     }
 
-    /// The largest message that this side accepts, in bytes (RFC 8841, section 6).
+    /// The largest message that this side accepts, in bytes (RFC 8841, section 6). Descriptions carry it as it is, and
+    /// Chromium refuses those that carry more than 2^31 - 1.
     pub fn set_sctp_max_message_size(mut self, size: u32) -> RtcConfig
         ensures { result ≡ record self { sctp = record self.sctp { max_message_size = size } } }
     {

@@ -1,2 +1,2 @@
-pub mod HandleLoans
-mod NestedLoans
+mod HandleLoans
+mod LiveOffers

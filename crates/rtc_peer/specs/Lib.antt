@@ -1,4 +1,5 @@
 pub mod Described
 pub mod Labelled
+pub mod Previews
 pub mod Readings
 pub mod WantedLine

@@ -12,6 +12,7 @@ mod direct_media;
 mod direct_streams;
 mod open_channels;
 mod polls;
+mod previews;
 mod rtc;
 mod sdp_api;
 

@@ -44,7 +44,7 @@ use Rattle.rtc_peer_core.specs.LineUpdates.{
   after_row,
   row_updates,
 }
-use Rattle.rtc_peer_core.specs.MadeSdp.{media_of_declared, media_held, media_told, newest, updates_behind, told_rows, added_told, offered_told, answered_told}
+use Rattle.rtc_peer_core.specs.MadeSdp.{media_of_declared, media_held, media_told, newest, updates_behind, told_rows, added_told, held_told, offered_formats, offered_told, answered_told}
 use Rattle.rtc_peer_core.specs.Meanings.{Meanings}
 use Rattle.rtc_peer_core.specs.SdpMoves.{rows_of_sdp, sends_on, updates_for}
 use Rattle.rtc_peer_core.specs.Sources.{Pair, pair_count, next_pairs, is_number}
@@ -253,8 +253,8 @@ added_told_single formats place (IceRestart creds keeps ∷ changes) all = added
 -- what an offer tells, and what an answer does
 pub offered_single : (s : Stance) → AreLinesSingle s.line → AreStagedSingle s.staged → AllByRecursion IsSingleTold (offered_told s)
 offered_single s held staged =
-    all-append IsSingleTold (told_rows s.formats s.line [] s.lines) (added_told s.formats (length s.lines) s.staged)
-    (told_single s.formats s.line [] s.lines held tt) (added_told_single s.formats (length s.lines) s.staged staged)
+    all-append IsSingleTold (held_told s) (added_told (offered_formats s) (length s.lines) s.staged)
+    (told_single s.formats s.line [] s.lines held tt) (added_told_single (offered_formats s) (length s.lines) s.staged staged)
 
 pub answered_single : (s : Stance) (updates : List MediaUpdate) (offer : Sdp) → AreLinesSingle s.line
     → AllByRecursion IsSingleUpdate updates → AllByRecursion IsSingleTold (answered_told s updates offer)

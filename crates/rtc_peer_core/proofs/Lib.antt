@@ -5,7 +5,9 @@ pub mod BuiltPeers
 pub mod TokenTables
 pub mod StagedLemmas
 pub mod UndoLemmas
+pub mod SessionNumbers
 pub mod ToldRows
+pub mod SessionOffers
 pub mod FormedNames
 pub mod FormedUpdates
 pub mod ApartSources

@@ -1,5 +1,5 @@
 -- What lines carry, computed: the answer to a video offer, a line with layers, and a line that is stopped.
-use Rattle.std.proofs.Common.{◌≡◌, ◌+◌, ℕ, zero, suc, Bool, true, false, List, [], ◌∷◌, ◌++◌, length, Option, Some, None, codes, refl, ap}
+use Rattle.std.proofs.Common.{◌≡◌, ℕ, zero, suc, Bool, true, false, List, [], ◌∷◌, ◌++◌, length, Option, Some, None, codes, refl, ap}
 use Rattle.std.specs.Prelude.{IsSome}
 use Rattle.std.specs.List.{AllByRecursion}
 use Rattle.rtc_sdp_values.specs.ExtensionMap.{standard_rows}
@@ -29,6 +29,7 @@ own_formats : Formats
 own_formats = record {
   codecs = record { rows = full_row Vp8 ∷ full_row H264 ∷ []; red_distances = 1 ∷ [] };
   extensions = record { rows = standard_rows };
+  session_ids = false;
 }
 
 -- the row of a video line at the first place

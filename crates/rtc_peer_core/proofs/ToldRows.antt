@@ -9,6 +9,7 @@ use Rattle.rtc_sdp_values.specs.declared.line_row.LineRow.{LineRow}
 use Rattle.rtc_sdp_values.specs.declared.line_row.LineRow.TheVariants.{Media, App}
 use Rattle.rtc_sdp_values.specs.declared.media_kind.MediaKind.{MediaKind}
 use Rattle.rtc_sdp_values.specs.declared.sdp.Sdp.{Sdp}
+use Rattle.rtc_sdp_codecs.specs.FormedCodecs.{IsFormedExtension, AreFormedExtensions}
 use Rattle.rtc_sdp_codecs.proofs.FormedLemmas.{kind_formed, extensions_formed}
 use Rattle.rtc_part_media.specs.declared.media_update.MediaUpdate.{MediaUpdate}
 use Rattle.rtc_change.specs.declared.add_media.AddMedia.{AddMedia as AddedMedia}
@@ -34,13 +35,17 @@ use Rattle.rtc_peer_core.specs.MadeSdp.{
   told_rows,
   added_told,
   offered_rows,
+  held_told,
+  offered_formats,
   offered_told,
   answered_told,
   row_line,
   row_told,
 }
+use Rattle.rtc_peer_core.specs.SessionExtensions.{told_extensions, added_formats}
 use Rattle.rtc_peer_core.specs.Stance.{Stance}
 use Rattle.rtc_peer_core.proofs.Alls.{all-append}
+use Rattle.rtc_peer_core.proofs.SessionNumbers.{numbered_formed}
 
 -- ---- which rows are told
 
@@ -70,8 +75,8 @@ join_same xs xs' ys ys' a b = rw (a, b) refl
 -- an offer tells the rows that are there, then those that it adds
 pub rows_of_offered : (s : Stance) → map row_told (offered_told s) ≡ offered_rows s
 rows_of_offered s =
-    rows_joined (told_rows s.formats s.line [] s.lines) (added_told s.formats (length s.lines) s.staged)
-    ∙ join_same _ _ _ _ (rows_of_told s.formats s.line [] s.lines) (rows_of_added s.formats (length s.lines) s.staged)
+    rows_joined (held_told s) (added_told (offered_formats s) (length s.lines) s.staged)
+    ∙ join_same _ _ _ _ (rows_of_told s.formats s.line [] s.lines) (rows_of_added (offered_formats s) (length s.lines) s.staged)
 
 -- an answer tells the rows that its offer leaves
 pub rows_of_answered : (s : Stance) (updates : List MediaUpdate) (offer : Sdp)
@@ -170,11 +175,26 @@ added_formed formats place (AddChannel id config ∷ changes) own all = added_fo
 added_formed formats place (SetDirection mid dir ∷ changes) own all = added_formed formats place changes own all.1
 added_formed formats place (IceRestart creds keeps ∷ changes) own all = added_formed formats place changes own all.1
 
+told_extensions_formed : (told : List ToldRow) → AllByRecursion IsToldFormed told → AreFormedExtensions (told_extensions told)
+told_extensions_formed [] all = tt
+told_extensions_formed (told ∷ rest) all =
+    all-append IsFormedExtension told.media.exts (told_extensions rest) all.0.exts (told_extensions_formed rest all.1)
+
+added_formats_formed : (session_ids : Bool) (formats : Formats) (told : List ToldRow) → AreFormedFormats formats → AllByRecursion IsToldFormed told
+    → AreFormedFormats (added_formats session_ids formats told)
+added_formats_formed false formats told own all = own
+added_formats_formed true formats told own all = record {
+  codecs = own.codecs;
+  extensions = numbered_formed (told_extensions told) [] formats.extensions.rows (told_extensions_formed told all) tt own.extensions;
+}
+
 -- what the offers and answers of a formed peer tell
 pub offered_media_formed : (s : Stance) → IsFormed s → AllByRecursion IsToldFormed (offered_told s)
 offered_media_formed s formed =
-    all-append IsToldFormed (told_rows s.formats s.line [] s.lines) (added_told s.formats (length s.lines) s.staged)
-    (told_formed s.formats formed.formats s.line formed.media [] s.lines formed.rows tt) (added_formed s.formats (length s.lines) s.staged formed.formats formed.changes)
+    let held : AllByRecursion IsToldFormed (held_told s) = told_formed s.formats formed.formats s.line formed.media [] s.lines formed.rows tt in
+    all-append IsToldFormed (held_told s) (added_told (offered_formats s) (length s.lines) s.staged) held
+    (added_formed (offered_formats s) (length s.lines) s.staged
+    (added_formats_formed s.formats.session_ids s.formats (held_told s) formed.formats held) formed.changes)
 
 pub answered_media_formed : (s : Stance) (updates : List MediaUpdate) (offer : Sdp) → IsFormed s
     → HaveTokens (table_after s.lines (parsed_lines offer) true) → AllByRecursion IsFormedUpdate updates

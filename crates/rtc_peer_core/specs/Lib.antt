@@ -10,6 +10,7 @@ pub mod Names
 pub mod StagedIndex
 pub mod Staging
 pub mod Sources
+pub mod SessionExtensions
 pub mod MadeSdp
 pub mod LineUpdates
 pub mod PartMoves

@@ -32,6 +32,7 @@ use Rattle.rtc_peer_core.specs.declared.formats.Formats.{Formats}
 use Rattle.rtc_peer_core.specs.declared.line_media.LineMedia.{LineMedia}
 use Rattle.rtc_peer_core.specs.declared.sdp_head.SdpHead.{SdpHead}
 use Rattle.rtc_peer_core.specs.declared.told_row.ToldRow.{ToldRow}
+use Rattle.rtc_peer_core.specs.SessionExtensions.{added_formats}
 use Rattle.rtc_peer_core.specs.Stance.{Stance}
 
 abbrev pub is_stopped : LineRow → Bool
@@ -242,8 +243,15 @@ abbrev pub offered_rows : Stance → List LineRow
 offered_rows s = s.lines ++ added_rows (length s.lines) s.staged
 
 -- with what they carry
+abbrev pub held_told : Stance → List ToldRow
+held_told s = told_rows s.formats s.line [] s.lines
+
+-- the formats of the lines that an offer adds
+abbrev pub offered_formats : Stance → Formats
+offered_formats s = added_formats s.formats.session_ids s.formats (held_told s)
+
 abbrev pub offered_told : Stance → List ToldRow
-offered_told s = told_rows s.formats s.line [] s.lines ++ added_told s.formats (length s.lines) s.staged
+offered_told s = held_told s ++ added_told (offered_formats s) (length s.lines) s.staged
 
 -- the offer of what is staged, with this text of a chunk for the start of the association
 unfoldable pub offer_sdp : Stance → Option (List ℕ) → Sdp

@@ -6,6 +6,8 @@ use rtc_sdp_values::{CodecConfig, ExtensionMap};
 pub struct Formats {
     pub codecs: CodecConfig,
     pub extensions: ExtensionMap,
+    /// Whether lines that it adds take the extension numbers that the session uses.
+    pub session_ids: bool,
 }
 
 // Written out, so that the proof of what owns them sees one call and not the drop of each field.
@@ -14,6 +16,7 @@ impl Drop for Formats {
         let Formats {
             codecs: _codecs,
             extensions: _extensions,
+            session_ids: _session_ids,
         } = self;
     }
 }

@@ -2,8 +2,10 @@
 ghost use Rattle.std.specs.Prelude.{◌≡◌, ◌+◌, ◌++◌, ◌<◌, ◌^◌, [], IfOk, OnOk, length};
 ghost use Rattle.rtc_change.specs.PendingOffer.{added_mids};
 ghost use Rattle.rtc_peer_core.specs.MadeSdp.{updates_behind as UpdatesBehind, told_rows, new_told, added_told};
+ghost use Rattle.rtc_peer_core.specs.SessionExtensions.{added_formats};
 
 use crate::line_told::{media_of_added, media_told, no_media};
+use crate::session_extensions::number_formats;
 use rtc_change::Change;
 use rtc_part_media::{MediaSession, MediaUpdate};
 use rtc_peer_core::{Formats, ToldRow};
@@ -99,6 +101,25 @@ fn push_added(
     Ok(())
 }
 
+// Appends them, with the numbers of header extensions that the rows before them use, if it was so set.
+fn push_offered(
+    alloc: Global,
+    formats: &Formats,
+    told: &mut Vec<ToldRow>,
+    first: u32,
+    staged: &[Change],
+) -> Result<(), AllocError>
+    requires { first + length (added_mids staged.now) < 2 ^ 32 }
+    ensures { OnOk result (told.new.items ≡ told.old.items
+        ++ added_told (added_formats formats.now.session_ids formats.now told.old.items) first staged.now) }
+{
+    if !formats.session_ids {
+        return push_added(alloc, formats, told, first, staged);
+    }
+    let numbered = number_formats(alloc, formats, told.as_slice())?;
+    push_added(alloc, &numbered, told, first, staged)
+}
+
 /// The rows of an offer, with what they carry: those that are there, then those that it adds.
 pub fn tell_offered<M: MediaSession>(
     alloc: Global,
@@ -109,9 +130,11 @@ pub fn tell_offered<M: MediaSession>(
 ) -> Result<Vec<ToldRow>, AllocError>
     requires { length rows.now + length (added_mids staged.now) < 2 ^ 32 }
     ensures { IfOk result (λ told. told.items
-        ≡ told_rows formats.now (M.media.line media.now) [] rows.now ++ added_told formats.now (length rows.now) staged.now) }
+        ≡ told_rows formats.now (M.media.line media.now) [] rows.now ++ added_told
+        (added_formats formats.now.session_ids formats.now (told_rows formats.now (M.media.line media.now) [] rows.now))
+        (length rows.now) staged.now) }
 {
     let mut told = tell_rows(alloc, formats, media, &[], rows)?;
-    push_added(alloc, formats, &mut told, rows.len() as u32, staged)?;
+    push_offered(alloc, formats, &mut told, rows.len() as u32, staged)?;
     Ok(told)
 }

@@ -146,8 +146,13 @@ fn set_times<I: IceAgent>(ice: &mut I, config: &RtcConfig)
 fn take_formats(config: RtcConfig) -> Formats
     ensures { result ≡ config_formats config }
 {
+    let session_ids = config.session_extension_ids();
     let (codecs, extensions) = config.into_formats();
-    Formats { codecs, extensions }
+    Formats {
+        codecs,
+        extensions,
+        session_ids,
+    }
 }
 
 fn empty_peer<I, D, S: Association, M, N>(

@@ -1,0 +1,79 @@
+//! Offers of stacks that refuse m-lines without a format.
+ghost use Rattle.std.specs.Prelude.{◌≡◌, []};
+ghost use Rattle.rtc_lines.specs.Rejecting.{sdp_of_rejecting};
+ghost use Rattle.rtc_sdp_reader.specs.Reading.{reading};
+ghost use Rattle.rtc_peer_core.specs.Meanings.{meanings};
+ghost use Rattle.rtc.specs.OtherStacks.{AcceptsForeignText, AnswersLeft, LeavesOf, WritesFilled};
+
+use crate::signalling::accept_offer;
+use crate::{Parts, Peer};
+use rtc_peer::{CodecConfig, RtcError, SdpAnswer, SdpOffer};
+use rtc_wire::Text;
+use rtc_wire_drops::release;
+use std::alloc::Global;
+
+// What is left of an offer once the live lines are rejected that share no codec with these.
+fn reject_lines(
+    alloc: Global,
+    codecs: &CodecConfig,
+    offer: &SdpOffer,
+) -> Result<Option<SdpOffer>, RtcError>
+    ensures { LeavesOf codecs.now.rows offer.now.0 result }
+{
+    let mids = offer.lines_without_codec(alloc, codecs)?;
+    let left = offer.rejecting(alloc, mids.as_slice())?;
+    Ok(left)
+}
+
+// The text of an answer, with a format on each m-line.
+fn write_filled(answer: SdpAnswer) -> Result<Option<Text>, RtcError>
+    ensures { WritesFilled answer.0 result }
+{
+    match answer.to_sdp_string_with_formats() {
+        Ok(text) => release(answer, Ok(Some(text))),
+        Err(_) => release(answer, Err(RtcError::Alloc)),
+    }
+}
+
+fn answer_left<P: Parts>(
+    alloc: Global,
+    peer: &mut Peer<P>,
+    offer: &SdpOffer,
+) -> Result<Option<Text>, RtcError>
+    ensures answers { AnswersLeft (meanings P.Ice.ice P.Dtls.dtls P.Sctp.association P.Media.media P.Ids.ids)
+        offer.now.0 peer.old.core result peer.new.core }
+    ensures connection { peer.new.transport ≡ peer.old.transport }
+{
+    let left = reject_lines(alloc, peer.codec_config(), offer)?;
+    let Some(left) = left else {
+        return Ok(None);
+    };
+    match accept_offer::<P>(peer, left) {
+        Ok(answer) => write_filled(answer),
+        Err(error) => Err(error),
+    }
+}
+
+/// Accepts the offer in a text of another stack, and returns the text of the answer, as `accept_offer_text` does but for
+/// m-lines without a format, which browsers refuse. Each live line that shares no codec with the peer is rejected (RFC 3264,
+/// section 6), and a line with port 0 has a format (RFC 8866, section 5.14).
+///
+/// If no live line would be left, it returns None, and the peer is unchanged. `Alloc` may be returned after the offer was
+/// accepted.
+pub fn accept_foreign_offer_text<P: Parts>(
+    alloc: Global,
+    peer: &mut Peer<P>,
+    text: &str,
+) -> Result<Option<Text>, RtcError>
+    ensures accepts { AcceptsForeignText (meanings P.Ice.ice P.Dtls.dtls P.Sctp.association P.Media.media P.Ids.ids)
+        (reading text.now) peer.old.core result peer.new.core }
+    ensures connection { peer.new.transport ≡ peer.old.transport }
+{
+    match SdpOffer::from_sdp_string(alloc, text) {
+        Ok(offer) => {
+            let answered = answer_left::<P>(alloc, peer, &offer);
+            release(offer, answered)
+        }
+        Err(error) => Err(RtcError::from(error)),
+    }
+}
