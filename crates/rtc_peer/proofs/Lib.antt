@@ -1,2 +1,3 @@
-mod HandleLoans
+pub mod HandleLoans
 mod LiveOffers
+mod NestedLoans
