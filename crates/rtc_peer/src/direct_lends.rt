@@ -18,7 +18,7 @@ impl<I: IceAgent, D: DtlsInstance, S: Association, M: MediaSession, N: Ids> Rtc<
     /// if the media part has none.
     pub fn writer(&mut self, mid: Mid) -> Option<&mut M::Writer>
         ensures* leaves { sem 𝓛 (LendsSo
-            (the_row I.row D.row S.row M.row N.row)
+            (the_row I.row D.row S.row M.row N.row S.Association)
             M.Writer.row self.entry result
             (λ n x. IfSome result (λ lent. LendsWriter M.media mid self.old lent.now x n)) (λ n. n ≡ self.old)) }
         ensures found { is_some result ≡ gives_writer M.media mid self.old }

@@ -38,7 +38,7 @@ impl<'a, I: IceAgent, D: DtlsInstance, S: Association, M: MediaSession, N: Ids> 
         rid: Option<Rid>,
     ) -> Result<&mut M::Rx, NoStream>
         ensures* leaves { sem 𝓛 (LendsSoOk
-            (the_row (record { mir = named 1; lft = [] }) I.row D.row S.row M.row N.row)
+            (the_row (record { mir = named 1; lft = [] }) I.row D.row S.row M.row N.row S.Association)
             M.Rx.row self.entry result
             (λ n x. IfOk result (λ lent. (n.rtc.ghost_name ≡ self.old.rtc.ghost_name)
             × ExpectsRx M.media ssrc rtx mid rid self.old.rtc.now lent.now x n.rtc.now))
@@ -58,7 +58,7 @@ impl<'a, I: IceAgent, D: DtlsInstance, S: Association, M: MediaSession, N: Ids> 
         rid: Option<Rid>,
     ) -> Result<&mut M::Tx, NoStream>
         ensures* leaves { sem 𝓛 (LendsSoOk
-            (the_row (record { mir = named 1; lft = [] }) I.row D.row S.row M.row N.row)
+            (the_row (record { mir = named 1; lft = [] }) I.row D.row S.row M.row N.row S.Association)
             M.Tx.row self.entry result
             (λ n x. IfOk result (λ lent. (n.rtc.ghost_name ≡ self.old.rtc.ghost_name)
             × DeclaresTx M.media ssrc rtx mid rid self.old.rtc.now lent.now x n.rtc.now))
@@ -78,7 +78,7 @@ impl<'a, I: IceAgent, D: DtlsInstance, S: Association, M: MediaSession, N: Ids> 
         rid: Option<Rid>,
     ) -> Result<Option<&mut M::Rx>, AllocError>
         ensures* leaves { sem 𝓛 (LendsStream
-            (the_row (record { mir = named 1; lft = [] }) I.row D.row S.row M.row N.row)
+            (the_row (record { mir = named 1; lft = [] }) I.row D.row S.row M.row N.row S.Association)
             M.Rx.row self.entry result
             (λ n x. IfLent result (λ lent. (n.rtc.ghost_name ≡ self.old.rtc.ghost_name)
             × ExpectsRx M.media ssrc rtx mid rid self.old.rtc.now lent.now x n.rtc.now))
@@ -97,7 +97,7 @@ impl<'a, I: IceAgent, D: DtlsInstance, S: Association, M: MediaSession, N: Ids> 
         rid: Option<Rid>,
     ) -> Result<Option<&mut M::Tx>, AllocError>
         ensures* leaves { sem 𝓛 (LendsStream
-            (the_row (record { mir = named 1; lft = [] }) I.row D.row S.row M.row N.row)
+            (the_row (record { mir = named 1; lft = [] }) I.row D.row S.row M.row N.row S.Association)
             M.Tx.row self.entry result
             (λ n x. IfLent result (λ lent. (n.rtc.ghost_name ≡ self.old.rtc.ghost_name)
             × DeclaresTx M.media ssrc rtx mid rid self.old.rtc.now lent.now x n.rtc.now))
@@ -110,7 +110,7 @@ impl<'a, I: IceAgent, D: DtlsInstance, S: Association, M: MediaSession, N: Ids> 
     /// The received stream of an SSRC.
     pub fn stream_rx(&mut self, ssrc: Ssrc) -> Option<&mut M::Rx>
         ensures* leaves { sem 𝓛 (LendsSo
-            (the_row (record { mir = named 1; lft = [] }) I.row D.row S.row M.row N.row)
+            (the_row (record { mir = named 1; lft = [] }) I.row D.row S.row M.row N.row S.Association)
             M.Rx.row self.entry result
             (λ n x. IfSome result (λ lent. (n.rtc.ghost_name ≡ self.old.rtc.ghost_name)
             × LendsRx M.media ssrc self.old.rtc.now lent.now x n.rtc.now))
@@ -124,7 +124,7 @@ impl<'a, I: IceAgent, D: DtlsInstance, S: Association, M: MediaSession, N: Ids> 
     /// The sent stream of an SSRC.
     pub fn stream_tx(&mut self, ssrc: Ssrc) -> Option<&mut M::Tx>
         ensures* leaves { sem 𝓛 (LendsSo
-            (the_row (record { mir = named 1; lft = [] }) I.row D.row S.row M.row N.row)
+            (the_row (record { mir = named 1; lft = [] }) I.row D.row S.row M.row N.row S.Association)
             M.Tx.row self.entry result
             (λ n x. IfSome result (λ lent. (n.rtc.ghost_name ≡ self.old.rtc.ghost_name)
             × LendsTx M.media ssrc self.old.rtc.now lent.now x n.rtc.now))
@@ -138,7 +138,7 @@ impl<'a, I: IceAgent, D: DtlsInstance, S: Association, M: MediaSession, N: Ids> 
     /// The stream of a line and a layer that is received.
     pub fn stream_rx_by_mid(&mut self, mid: Mid, rid: Option<Rid>) -> Option<&mut M::Rx>
         ensures* leaves { sem 𝓛 (LendsSo
-            (the_row (record { mir = named 1; lft = [] }) I.row D.row S.row M.row N.row)
+            (the_row (record { mir = named 1; lft = [] }) I.row D.row S.row M.row N.row S.Association)
             M.Rx.row self.entry result
             (λ n x. IfSome result (λ lent. (n.rtc.ghost_name ≡ self.old.rtc.ghost_name)
             × LendsNamedRx M.media mid rid self.old.rtc.now lent.now x n.rtc.now))
@@ -152,7 +152,7 @@ impl<'a, I: IceAgent, D: DtlsInstance, S: Association, M: MediaSession, N: Ids> 
     /// The stream of a line and a layer that is sent.
     pub fn stream_tx_by_mid(&mut self, mid: Mid, rid: Option<Rid>) -> Option<&mut M::Tx>
         ensures* leaves { sem 𝓛 (LendsSo
-            (the_row (record { mir = named 1; lft = [] }) I.row D.row S.row M.row N.row)
+            (the_row (record { mir = named 1; lft = [] }) I.row D.row S.row M.row N.row S.Association)
             M.Tx.row self.entry result
             (λ n x. IfSome result (λ lent. (n.rtc.ghost_name ≡ self.old.rtc.ghost_name)
             × LendsNamedTx M.media mid rid self.old.rtc.now lent.now x n.rtc.now))
@@ -173,7 +173,7 @@ impl<'a, I: IceAgent, D: DtlsInstance, S: Association, M: MediaSession, N: Ids> 
         new_rtx: Option<Ssrc>,
     ) -> Option<&mut M::Tx>
         ensures* leaves { sem 𝓛 (LendsSo
-            (the_row (record { mir = named 1; lft = [] }) I.row D.row S.row M.row N.row)
+            (the_row (record { mir = named 1; lft = [] }) I.row D.row S.row M.row N.row S.Association)
             M.Tx.row self.entry result
             (λ n x. IfSome result (λ lent. (n.rtc.ghost_name ≡ self.old.rtc.ghost_name)
             × ResetsTx M.media mid rid new_ssrc new_rtx self.old.rtc.now lent.now x n.rtc.now))

@@ -19,7 +19,7 @@ impl<I: IceAgent, D: DtlsInstance, S: Association, M: MediaSession, N: Ids> Rtc<
     /// An open data channel. None if the peer is closing or closed, if the channel has no stream, and if that is not open.
     pub fn channel(&mut self, id: ChannelId) -> Option<Channel<'_, I, D, S, M, N>>
         ensures* none { sem 𝓛 (RestsIfNone
-            (the_row I.row D.row S.row M.row N.row)
+            (the_row I.row D.row S.row M.row N.row S.Association)
             self.entry (λ c. c.rtc.ghost_name) result (λ n. n ≡ self.old)) }
         ensures open { IsSome result ↔ IsSome (open_stream_under id self.old) }
         ensures same_reference { IfSome result (λ c. c.rtc.ghost_name ≡ self.entry.ghost_name) }

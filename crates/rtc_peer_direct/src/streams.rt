@@ -31,7 +31,7 @@ pub fn make_stream_rx<I, D, S: Association, M: MediaSession, N>(
     mid: Mid,
     rid: Option<Rid>,
 ) -> Result<&mut M::Rx, NoStream>
-    ensures* leaves { sem 𝓛 (LendsSoOk (the_row I.row D.row S.row M.row N.row) M.Rx.row peer.entry result
+    ensures* leaves { sem 𝓛 (LendsSoOk (the_row I.row D.row S.row M.row N.row S.Association) M.Rx.row peer.entry result
         (λ n x. IfOk result (λ lent. ExpectsRx M.media ssrc rtx mid rid peer.old lent.now x n)) (λ n. n ≡ peer.old)) }
     ensures answer { StreamAnswers (gives_no_rx M.media ssrc rtx mid rid peer.old) result }
 {
@@ -50,7 +50,7 @@ pub fn make_stream_tx<I, D, S: Association, M: MediaSession, N>(
     mid: Mid,
     rid: Option<Rid>,
 ) -> Result<&mut M::Tx, NoStream>
-    ensures* leaves { sem 𝓛 (LendsSoOk (the_row I.row D.row S.row M.row N.row) M.Tx.row peer.entry result
+    ensures* leaves { sem 𝓛 (LendsSoOk (the_row I.row D.row S.row M.row N.row S.Association) M.Tx.row peer.entry result
         (λ n x. IfOk result (λ lent. DeclaresTx M.media ssrc rtx mid rid peer.old lent.now x n)) (λ n. n ≡ peer.old)) }
     ensures answer { StreamAnswers (gives_no_tx M.media ssrc rtx mid rid peer.old) result }
 {
@@ -86,7 +86,7 @@ pub fn lend_stream_rx<I, D, S: Association, M: MediaSession, N>(
     peer: &mut PolledPeer<I, D, S, M, N>,
     ssrc: Ssrc,
 ) -> Option<&mut M::Rx>
-    ensures* leaves { sem 𝓛 (LendsSo (the_row I.row D.row S.row M.row N.row) M.Rx.row peer.entry result
+    ensures* leaves { sem 𝓛 (LendsSo (the_row I.row D.row S.row M.row N.row S.Association) M.Rx.row peer.entry result
         (λ n x. IfSome result (λ lent. LendsRx M.media ssrc peer.old lent.now x n)) (λ n. n ≡ peer.old)) }
     ensures found { is_some result ≡ M.media.has_rx peer.old.core.media ssrc }
 {
@@ -99,7 +99,7 @@ pub fn lend_stream_tx<I, D, S: Association, M: MediaSession, N>(
     peer: &mut PolledPeer<I, D, S, M, N>,
     ssrc: Ssrc,
 ) -> Option<&mut M::Tx>
-    ensures* leaves { sem 𝓛 (LendsSo (the_row I.row D.row S.row M.row N.row) M.Tx.row peer.entry result
+    ensures* leaves { sem 𝓛 (LendsSo (the_row I.row D.row S.row M.row N.row S.Association) M.Tx.row peer.entry result
         (λ n x. IfSome result (λ lent. LendsTx M.media ssrc peer.old lent.now x n)) (λ n. n ≡ peer.old)) }
     ensures found { is_some result ≡ M.media.has_tx peer.old.core.media ssrc }
 {
@@ -113,7 +113,7 @@ pub fn lend_stream_rx_by_mid<I, D, S: Association, M: MediaSession, N>(
     mid: Mid,
     rid: Option<Rid>,
 ) -> Option<&mut M::Rx>
-    ensures* leaves { sem 𝓛 (LendsSo (the_row I.row D.row S.row M.row N.row) M.Rx.row peer.entry result
+    ensures* leaves { sem 𝓛 (LendsSo (the_row I.row D.row S.row M.row N.row S.Association) M.Rx.row peer.entry result
         (λ n x. IfSome result (λ lent. LendsNamedRx M.media mid rid peer.old lent.now x n)) (λ n. n ≡ peer.old)) }
     ensures found { is_some result ≡ M.media.has_rx_named peer.old.core.media mid rid }
 {
@@ -127,7 +127,7 @@ pub fn lend_stream_tx_by_mid<I, D, S: Association, M: MediaSession, N>(
     mid: Mid,
     rid: Option<Rid>,
 ) -> Option<&mut M::Tx>
-    ensures* leaves { sem 𝓛 (LendsSo (the_row I.row D.row S.row M.row N.row) M.Tx.row peer.entry result
+    ensures* leaves { sem 𝓛 (LendsSo (the_row I.row D.row S.row M.row N.row S.Association) M.Tx.row peer.entry result
         (λ n x. IfSome result (λ lent. LendsNamedTx M.media mid rid peer.old lent.now x n)) (λ n. n ≡ peer.old)) }
     ensures found { is_some result ≡ M.media.has_tx_named peer.old.core.media mid rid }
 {
@@ -144,7 +144,7 @@ pub fn reset_stream_tx<I, D, S: Association, M: MediaSession, N>(
     new_ssrc: Ssrc,
     new_rtx: Option<Ssrc>,
 ) -> Option<&mut M::Tx>
-    ensures* leaves { sem 𝓛 (LendsSo (the_row I.row D.row S.row M.row N.row) M.Tx.row peer.entry result
+    ensures* leaves { sem 𝓛 (LendsSo (the_row I.row D.row S.row M.row N.row S.Association) M.Tx.row peer.entry result
         (λ n x. IfSome result (λ lent. ResetsTx M.media mid rid new_ssrc new_rtx peer.old lent.now x n)) (λ n. n ≡ peer.old)) }
     ensures found { is_some result ≡ M.media.resets_tx peer.old.core.media mid rid new_ssrc new_rtx }
 {
@@ -157,7 +157,7 @@ pub fn lend_writer<I, D, S: Association, M: MediaSession, N>(
     peer: &mut PolledPeer<I, D, S, M, N>,
     mid: Mid,
 ) -> Option<&mut M::Writer>
-    ensures* leaves { sem 𝓛 (LendsSo (the_row I.row D.row S.row M.row N.row) M.Writer.row peer.entry result
+    ensures* leaves { sem 𝓛 (LendsSo (the_row I.row D.row S.row M.row N.row S.Association) M.Writer.row peer.entry result
         (λ n x. IfSome result (λ lent. LendsWriter M.media mid peer.old lent.now x n)) (λ n. n ≡ peer.old)) }
     ensures found { is_some result ≡ gives_writer M.media mid peer.old }
 {

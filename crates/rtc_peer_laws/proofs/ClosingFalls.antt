@@ -80,7 +80,7 @@ module _ {I D S M E X T W N : Type 0} (m : Meanings I D S M E X T W N) (laws : P
       let held = laws.media.shut_held p.core.media q.core.media (Ok tt) h.0 in
       (omega (arith, ap (base m laws) h.1, held), (ap (λ (x : PolledPeer I D S M N). x.core.dtls) h.1, (ap (λ (x : PolledPeer I D S M N). x.core.sctp) h.1, (ap (λ (x : PolledPeer I D S M N). x.core.phase) h.1, (ap (λ (x : PolledPeer I D S M N). x.core.greatest) h.1, ap (λ (x : PolledPeer I D S M N). x.transport) h.1)))))
 
-  units_shut : (p q : SctpStreams S) (r : Result (Unit {0}) AssocError) → m.association.shut p.association r q.association → q ≡ record p { association = q.association }
+  units_shut : (p q : SctpStreams S) (r : Result (Unit {0}) AssocError) → m.association.shut p.association r q.association → q ≡ record p { association = q.association; rests = false }
       → (streams_live m.association laws.association q ≤ streams_live m.association laws.association p + 2)
       × (AreUnset m.association laws.association p → AreUnset m.association laws.association q)
   units_shut p q r h is =

@@ -1,9 +1,9 @@
 -- Which events equal themselves.
 use Rattle.std.specs.Prelude.{Bool, true}
 use Rattle.rtc_peer_transport.specs.declared.event.Event.{Event}
-use Rattle.rtc_peer_transport.specs.declared.event.Event.TheVariants.{Connected, IceConnectionStateChange, ChannelOpen, ChannelData, ChannelClose}
-use Rattle.rtc_peer_transport.specs.declared.event.Event.TheVariants.{ChannelBufferedAmountLow, PeerStats, MediaIngressStats, MediaEgressStats}
-use Rattle.rtc_peer_transport.specs.declared.event.Event.TheVariants.{Media, Closed}
+use Rattle.rtc_peer_transport.specs.declared.event.Event.TheVariants.{Connected, IceConnectionStateChange, ChannelOpen, ChannelData}
+use Rattle.rtc_peer_transport.specs.declared.event.Event.TheVariants.{ChannelClose, ChannelBufferedAmountLow, PeerStats, MediaIngressStats}
+use Rattle.rtc_peer_transport.specs.declared.event.Event.TheVariants.{MediaEgressStats, Media, Closed}
 
 -- each does, but for a media event that differs from itself by what media events are compared by
 abbrev pub equals_itself : {E : Type 0} → (E → E → Bool) → Event E → Bool

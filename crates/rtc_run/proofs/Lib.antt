@@ -2,3 +2,5 @@ pub mod Sized
 pub mod ReadMoments
 pub mod Paired
 pub mod FaultlessSdps
+pub mod GoingOn
+pub mod KeptCounts

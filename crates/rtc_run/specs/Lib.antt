@@ -1,2 +1,4 @@
 pub mod Completeness
 pub mod ConnectionSteps
+pub mod ExtendsRun
+pub mod OwnPackets

@@ -1,12 +1,13 @@
 //! Pairs of peers.
 ghost use Rattle.std.specs.Prelude.{◌≡◌, ◌+◌, ◌<◌, ◌≤◌, ◌^◌, ◌-◌, [], IsTrue, ◌↔◌, length, Some, None, All};
+ghost use Rattle.std.specs.Option.{option_copied};
 ghost use Rattle.rtc_peer_core.specs.Meanings.{meanings};
 
 use crate::performing::perform_step;
-use rtc_part_association::Association;
 use rtc_peer::{Association, DtlsInstance, IceAgent, Ids, MediaSession, Rtc};
 use rtc_run_history::{Kept, Reply, SentPacket, Side, Step};
-use rtc_wire::Addr;
+use rtc_run_steps::is_same_side;
+use rtc_wire::{Addr, Transmit};
 use std::alloc::Global;
 use std::marker::Model;
 
@@ -39,6 +40,7 @@ impl<I: Drop, D: Drop, S: Association + Drop, M: Drop, N: Drop> Drop for Pair<I,
 }
 
 impl<I, D, S: Association, M, N> Model for Pair<I, D, S, M, N> {
+    ghost use Rattle.std.specs.Prelude.{◌≤◌, length};
     ghost use Rattle.rtc_run_history.specs.PairState.{PairState};
 
     ghost Value = { PairState I D S M N };
@@ -52,12 +54,17 @@ impl<I, D, S: Association, M, N> Model for Pair<I, D, S, M, N> {
       packets = pair.packets.items;
       size = pair.size;
     } };
+
+    // Each session description was made in a step.
+    ghost invariant = { λ pair. length pair.sdps.items ≤ pair.size };
 }
 
 impl<I: IceAgent, D: DtlsInstance, S: Association, M: MediaSession, N: Ids> Pair<I, D, S, M, N> {
     ghost use Rattle.rtc_run_history.specs.PairState.{PairState};
     ghost use Rattle.rtc_run_history.specs.Performs.{Performs};
     ghost use Rattle.rtc_run_history.specs.Sizes.{step_size};
+    ghost use Rattle.rtc_run.specs.ExtendsRun.{ExtendsRun};
+    ghost use Rattle.rtc_run.specs.OwnPackets.{own_packet};
 
     /// A pair of peers that made no session description and sent no datagram yet.
     pub fn new(
@@ -110,10 +117,43 @@ impl<I: IceAgent, D: DtlsInstance, S: Association, M: MediaSession, N: Ids> Pair
         self.size == 0
     }
 
-    /// Performs one step.
-    pub(crate) fn perform(&mut self, step: &Step) -> Reply<M::E>
-        requires count { length self.old.sdps < 2 ^ 32 }
-        requires size { self.old.size + step_size step.now < 2 ^ 32 }
+    /// The sum of the sizes of the steps performed so far.
+    pub fn size(&self) -> u64
+        ensures { result ≡ self.now.size }
+    {
+        self.size
+    }
+
+    /// Lends the datagram of a number, if the peer at this side sent it.
+    pub fn packet(&self, at: Side, packet: u64) -> Option<&Transmit>
+        ensures { option_copied result ≡ own_packet self.now.packets at packet }
+    {
+        match self.packets.as_slice().get(packet as usize) {
+            None => None,
+            Some(sent) => {
+                if is_same_side(sent.at, at) {
+                    Some(&sent.transmit)
+                } else {
+                    None
+                }
+            }
+        }
+    }
+
+    /// Performs one step by the public calls of the acting peer, and returns its reply. A run of a fresh pair that led here goes on by it.
+    pub fn perform(&mut self, step: &Step) -> Reply<M::E>
+        requires { self.old.size + step_size step.now < 2 ^ 32 }
+        ensures performs { Performs (meanings I.ice D.dtls S.association M.media N.ids) I.stun
+            self.old step.now result.outcome result.table self.new }
+        ensures runs { ExtendsRun (meanings I.ice D.dtls S.association M.media N.ids) I.stun
+            self.old step.now result.outcome result.table self.new }
+    {
+        self.act(step)
+    }
+
+    // Performs one step.
+    fn act(&mut self, step: &Step) -> Reply<M::E>
+        requires { self.old.size + step_size step.now < 2 ^ 32 }
         ensures { Performs (meanings I.ice D.dtls S.association M.media N.ids) I.stun
             self.old step.now result.outcome result.table self.new }
     {

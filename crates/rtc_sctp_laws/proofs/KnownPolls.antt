@@ -63,8 +63,7 @@ module _ {S : Type 0} (m : AssociationMeaning S) (sound : S → Type 0) (w : Ass
   }
 
   -- a step over the same entries and state
-  quiet_over : (outs : List (List ℕ)) (p n q : SctpStreams S) → q ≡ n → n.entries ≡ p.entries → n.state ≡ p.state
-      → AssociationDid m [] outs [] [] [] p.association q.association → QuietGoes p q
+  quiet_over : (outs : List (List ℕ)) (p n q : SctpStreams S) → q ≡ n → n.entries ≡ p.entries → n.state ≡ p.state → AssociationDid m [] outs [] [] [] p.association q.association → QuietGoes p q
   quiet_over outs p n q is entries state d =
       quiet_by outs p q d (λ s h. has_is s p.entries q.entries (ap (λ (x : SctpStreams S). x.entries) is ∙ entries) h)
       (λ e. ap is_established (sym (ap (λ (x : SctpStreams S). x.state) is ∙ state)) ∙ e)
@@ -79,8 +78,7 @@ module _ {S : Type 0} (m : AssociationMeaning S) (sound : S → Type 0) (w : Ass
   dropped : (p : SctpStreams S) → QuietGoes p (unclosed_streams p)
   dropped p = quiet_by [] p (unclosed_streams p) (did_same m p.association p.association refl) (λ s h. has_unclosed s p.entries h) (λ e. e)
 
-  packet_quiet : (p : SctpStreams S) (met : Met) (q : SctpStreams S) → q ≡ record p { association = q.association }
-      → TakesPacket m p.association met q.association → QuietGoes p q
+  packet_quiet : (p : SctpStreams S) (met : Met) (q : SctpStreams S) → q ≡ record p { association = q.association } → TakesPacket m p.association met q.association → QuietGoes p q
   packet_quiet p Nothing q is h = quiet_over (packet_polled None) p _ q is refl refl (gave_did m w p.association q.association None h)
   packet_quiet p (Output (event.Transmit packets)) q is h =
       quiet_over (packet_polled (Some h.0)) p _ q is refl refl (gave_did m w p.association q.association (Some h.0) h.1)
@@ -109,8 +107,7 @@ module _ {S : Type 0} (m : AssociationMeaning S) (sound : S → Type 0) (w : Ass
   abbrev Tour : List StreamEntry → S → List StreamEntry → Type 0
   Tour es a es' = (s : ℕ) → HasEntry s es → HasEntry s es' ⊎ IsSilent m sound s a
 
-  visited_first : (s : ℕ) (e e' : StreamEntry) (a : S) (es : List StreamEntry) → (e'.id ≡ s) × ((is_closed_state e'.state ≡ false) ⊎ IsSilent m sound s a)
-      → HasEntry s (e' ∷ es) ⊎ IsSilent m sound s a
+  visited_first : (s : ℕ) (e e' : StreamEntry) (a : S) (es : List StreamEntry) → (e'.id ≡ s) × ((is_closed_state e'.state ≡ false) ⊎ IsSilent m sound s a) → HasEntry s (e' ∷ es) ⊎ IsSilent m sound s a
   visited_first s e e' a es (id, inl free) = inl (inl (id, free))
   visited_first s e e' a es (id, inr silent) = inr silent
 
@@ -121,8 +118,7 @@ module _ {S : Type 0} (m : AssociationMeaning S) (sound : S → Type 0) (w : Ass
   backed_by a b met d h = moved_backed m sound w v u d.did.acts a b d.did.went h
 
   -- the first gives something
-  stopped : (now : ℕ) (e : StreamEntry) (es : List StreamEntry) (a : S) (rs : List ℕ) (own : Met) (b : Turn S) → AreBacked m sound a
-      → Visits m now (turn a e rs) own b → Tour (e ∷ es) b.association (b.entry ∷ es)
+  stopped : (now : ℕ) (e : StreamEntry) (es : List StreamEntry) (a : S) (rs : List ℕ) (own : Met) (b : Turn S) → AreBacked m sound a → Visits m now (turn a e rs) own b → Tour (e ∷ es) b.association (b.entry ∷ es)
   stopped now e es a rs own b k h s (inl here) =
       visited_first s e b.entry b.association es
       (visit_left m sound w v u s now (turn a e rs) own b h (record { id_is = here.0; unclosed = here.1; backed = k }))
@@ -133,8 +129,7 @@ module _ {S : Type 0} (m : AssociationMeaning S) (sound : S → Type 0) (w : Ass
 
   -- it gives nothing, and the others are visited
   went_on : (now : ℕ) (e : StreamEntry) (es : List StreamEntry) (a : S) (rs : List ℕ) (own : Met) (b : Turn S) (met : Met) (a' : S)
-      (tail : List StreamEntry) → AreBacked m sound a → Visits m now (turn a e rs) own b → VisitDid m b.association met a' → Tour es a' tail
-      → Tour (e ∷ es) a' (b.entry ∷ tail)
+      (tail : List StreamEntry) → AreBacked m sound a → Visits m now (turn a e rs) own b → VisitDid m b.association met a' → Tour es a' tail → Tour (e ∷ es) a' (b.entry ∷ tail)
   went_on now e es a rs own b met a' tail k h d rest = by
     where
       first : (s : ℕ) → HasEntry s (b.entry ∷ es) ⊎ IsSilent m sound s b.association → HasEntry s es ⊎ (IsSilent m sound s a' ⊎ HasEntry s (b.entry ∷ tail))
@@ -154,9 +149,7 @@ module _ {S : Type 0} (m : AssociationMeaning S) (sound : S → Type 0) (w : Ass
       by : Tour (e ∷ es) a' (b.entry ∷ tail)
       by s x = join s (first s (stopped now e es a rs own b k h s x))
 
-  then_goes : (now : ℕ) (es : List StreamEntry)
-      → ((a : S) (rs : List ℕ) (met : Met) (a' : S) (rs' : List ℕ) (es' : List StreamEntry) → AreBacked m sound a
-      → VisitsAll m now es a rs met a' rs' es' → Tour es a' es')
+  then_goes : (now : ℕ) (es : List StreamEntry) → ((a : S) (rs : List ℕ) (met : Met) (a' : S) (rs' : List ℕ) (es' : List StreamEntry) → AreBacked m sound a → VisitsAll m now es a rs met a' rs' es' → Tour es a' es')
       → (own : Met) (e : StreamEntry) (a : S) (rs : List ℕ) (b : Turn S) (met : Met) (a' : S) (rs' : List ℕ) (es' : List StreamEntry) → AreBacked m sound a
       → Visits m now (turn a e rs) own b → VisitedThen m (VisitsAll m now es) own es b met a' rs' es' → Tour (e ∷ es) a' es'
   then_goes now es rest Nothing e a rs b met a' rs' es' k h t =
@@ -171,8 +164,7 @@ module _ {S : Type 0} (m : AssociationMeaning S) (sound : S → Type 0) (w : Ass
   then_goes now es rest OutOfMemory e a rs b met a' rs' es' k h t =
       tour_is (e ∷ es) b.association a' (b.entry ∷ es) es' t.1 t.3 (stopped now e es a rs OutOfMemory b k h)
 
-  tour_goes : (now : ℕ) (es : List StreamEntry) (a : S) (rs : List ℕ) (met : Met) (a' : S) (rs' : List ℕ) (es' : List StreamEntry) → AreBacked m sound a
-      → VisitsAll m now es a rs met a' rs' es' → Tour es a' es'
+  tour_goes : (now : ℕ) (es : List StreamEntry) (a : S) (rs : List ℕ) (met : Met) (a' : S) (rs' : List ℕ) (es' : List StreamEntry) → AreBacked m sound a → VisitsAll m now es a rs met a' rs' es' → Tour es a' es'
   tour_goes now [] a rs met a' rs' es' k h = λ s x. absurd x
   tour_goes now (e ∷ es) a rs met a' rs' es' k h = then_goes now es (tour_goes now es) h.0 e a rs h.1 met a' rs' es' k h.2 h.3
 
@@ -224,8 +216,7 @@ module _ {S : Type 0} (m : AssociationMeaning S) (sound : S → Type 0) (w : Ass
       of_due s (inl is) = inl (expected s is)
       of_due s (inr due) = inr (inl due)
 
-      by : (s : ℕ) → HasEntry s p.entries ⊎ (Member (assoc.Readable s) (m.due a) ⊎ (is_spent_stream m s a ≡ true))
-          → HasEntry s q.entries ⊎ (Member (assoc.Readable s) (m.due b) ⊎ (is_spent_stream m s b ≡ true))
+      by : (s : ℕ) → HasEntry s p.entries ⊎ (Member (assoc.Readable s) (m.due a) ⊎ (is_spent_stream m s a ≡ true)) → HasEntry s q.entries ⊎ (Member (assoc.Readable s) (m.due b) ⊎ (is_spent_stream m s b ≡ true))
       by s (inl there) = inl (has_after e s (book_of p) (book_of q) after there)
       by s (inr (inl due)) = of_due s (subst (λ (l : List AssocEvent). Member (assoc.Readable s) l) (w.poll_head a b e h) due)
       by s (inr (inr spent)) = inr (inr (spent_kept m s a b (acts_keep m v s d.acts a b d.given_is d.went) spent))
@@ -239,8 +230,7 @@ module _ {S : Type 0} (m : AssociationMeaning S) (sound : S → Type 0) (w : Ass
       (λ s h. has_is s p.entries q.entries (ap (λ (x : Book). x.entries) is) h)
       (λ e. ap is_established (sym (ap (λ (x : Book). x.state) is)) ∙ e)
 
-  event_known : (p : SctpStreams S) (met : Met) (q : SctpStreams S) → TakesEvent m p.association (book_of p) met q.association (book_of q)
-      → (NoneClosed p.entries) × AreKnown m sound p → AreKnown m sound q
+  event_known : (p : SctpStreams S) (met : Met) (q : SctpStreams S) → TakesEvent m p.association (book_of p) met q.association (book_of q) → (NoneClosed p.entries) × AreKnown m sound p → AreKnown m sound q
   event_known p met q (NotStarted s e a b) k = quiet_known p q (same_book p q a b) k.1
   event_known p met q (NoRoom e a b) k = quiet_known p q (same_book p q a b) k.1
   event_known p met q (NoEvent begun h e b) k = quiet_known p q (same_book p q (w.event_none p.association q.association h) b) k.1
@@ -248,10 +238,8 @@ module _ {S : Type 0} (m : AssociationMeaning S) (sound : S → Type 0) (w : Ass
 
   -- ---- passes
 
-  else_by : (P Q R : SctpStreams S → Type 0) (A B : SctpStreams S → Met → SctpStreams S → Type 0) → ((q : SctpStreams S) → Q q → R q)
-      → ((p : SctpStreams S) (met : Met) (q : SctpStreams S) → A p met q → P p → Q q)
-      → ((p : SctpStreams S) (met : Met) (q : SctpStreams S) → B p met q → Q p → R q) → (p : SctpStreams S) (met : Met) (q : SctpStreams S)
-      → Else A B p met q → P p → R q
+  else_by : (P Q R : SctpStreams S → Type 0) (A B : SctpStreams S → Met → SctpStreams S → Type 0) → ((q : SctpStreams S) → Q q → R q) → ((p : SctpStreams S) (met : Met) (q : SctpStreams S) → A p met q → P p → Q q)
+      → ((p : SctpStreams S) (met : Met) (q : SctpStreams S) → B p met q → Q p → R q) → (p : SctpStreams S) (met : Met) (q : SctpStreams S) → Else A B p met q → P p → R q
   else_by P Q R A B weak f g p met q h k = then_step h.0 h.1.0 (f p h.0 h.1.0 h.1.1.0 k) h.1.1.1
     where
       at : (between : SctpStreams S) → Q between → q ≡ between → R q

@@ -147,7 +147,7 @@ module _ {S : Type 0} (m : AssociationMeaning S) (w : AssociationLaws m) where
   transmit_of (Some packets) p met q e h = back_did packets p met q e h.0 h.1
 
   -- events
-  event_sent : (e : AssocEvent) → packets_met (event_met e) ≡ []
+  pub event_sent : (e : AssocEvent) → packets_met (event_met e) ≡ []
   event_sent assoc.Connected = refl
   event_sent assoc.Lost = refl
   event_sent (assoc.Readable id) = refl

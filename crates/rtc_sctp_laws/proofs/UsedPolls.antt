@@ -20,7 +20,7 @@ use Rattle.rtc_sctp_laws.specs.StreamMessages.{StreamMessage, shown_messages, da
 use Rattle.rtc_sctp_laws.specs.StreamActs.{AssociationDid}
 use Rattle.rtc_sctp_laws.proofs.ActLemmas.{did_join, did_same, gave_did, told_did, packet_polled}
 use Rattle.rtc_sctp_laws.proofs.MessageLemmas.{dcep_join, shown-append}
-use Rattle.rtc_sctp_laws.proofs.PollActs.{met_by}
+use Rattle.rtc_sctp_laws.proofs.PollActs.{event_sent, met_by}
 use Rattle.rtc_sctp_laws.specs.StreamUses.{entries_of, IsUsedIn, IsUsedBy, EntryUsed, NoneUsed, AreUsedIn, IsUsed, HasOpenInBand, IsLive, LeavesLive, OpensRightly, LeavesUse, TellsStreamOpen}
 use Rattle.rtc_sctp_laws.specs.UsedCalls.{PollUses}
 use Rattle.rtc_sctp_laws.proofs.KeptUses.{did_keeps, unclosed_used}
@@ -182,15 +182,6 @@ module _ {S : Type 0} (m : AssociationMeaning S) where
     event_shown (assoc.ResetComplete id) = refl
     event_shown (assoc.BufferedAmountLow id) = refl
 
-    event_sent : (e : AssocEvent) → packets_met (event_met e) ≡ []
-    event_sent assoc.Connected = refl
-    event_sent assoc.Lost = refl
-    event_sent (assoc.Readable id) = refl
-    event_sent (assoc.Writable id) = refl
-    event_sent (assoc.Finished id) = refl
-    event_sent (assoc.ResetComplete id) = refl
-    event_sent (assoc.BufferedAmountLow id) = refl
-
     event_opens : (e : AssocEvent) → TellsNoOpen (event_met e)
     event_opens assoc.Connected = tt
     event_opens assoc.Lost = tt
@@ -212,7 +203,7 @@ module _ {S : Type 0} (m : AssociationMeaning S) where
     event_uses p met q same (Event event begun k e b) =
         quiet p met q [] (event ∷ []) (told_did m w p.association q.association event k) (ap data_met e ∙ event_shown event) (subst (λ (x : Met). TellsNoOpen x) (sym e) (event_opens event))
         (λ s ws hs. used_after event (book_of p) (book_of q) s q.association ws hs b) (λ s g. live_after event (book_of p) (book_of q) s g b) (λ s o. open_after event (book_of p) (book_of q) s o b)
-        (sends_none (event_met event) p met q e (event_sent event) same)
+        (sends_none (event_met event) p met q e (event_sent m w event) same)
 
     -- visits
     tour_step : (p : SctpStreams S) (met : Met) (q : SctpStreams S) → q.pushed ≡ p.pushed → TourUses m p.association p.entries met q.association q.entries → PollUses m p met q

@@ -11,11 +11,8 @@ use Rattle.rtc_run.proofs.Sized.{run_begins, run_has_room, run_goes_on}
 use Rattle.rtc_peer_core.specs.Meanings.{meanings}
 use Rattle.rtc_run.proofs.running.run_pair.Goals as goal
 
-pub perform-reply-requires-clause-count : goal.perform-reply-requires-clause-count
-perform-reply-requires-clause-count g c = (run_has_room (meanings g.I.IceAgent.ice g.D.DtlsInstance.dtls g.S.Association.association g.M.MediaSession.media g.N.Ids.ids) g.I.StunReader.stun (record { ice = g.met.I.IceAgent.laws; dtls = g.met.D.DtlsInstance.laws; association = g.met.S.Association.laws; media = g.met.M.MediaSession.laws }) c.args.pair.now c.loop-step.pair c.args.steps.now c.loop-step.step-index c.step-item.result c.loop-step.replies.items c.requires.fresh c.loop-step-test.true c.step-item.is c.requires.sizes c.loop-step.invariant.runs).0
-
-pub perform-reply-requires-clause-size : goal.perform-reply-requires-clause-size
-perform-reply-requires-clause-size g c = (run_has_room (meanings g.I.IceAgent.ice g.D.DtlsInstance.dtls g.S.Association.association g.M.MediaSession.media g.N.Ids.ids) g.I.StunReader.stun (record { ice = g.met.I.IceAgent.laws; dtls = g.met.D.DtlsInstance.laws; association = g.met.S.Association.laws; media = g.met.M.MediaSession.laws }) c.args.pair.now c.loop-step.pair c.args.steps.now c.loop-step.step-index c.step-item.result c.loop-step.replies.items c.requires.fresh c.loop-step-test.true c.step-item.is c.requires.sizes c.loop-step.invariant.runs).1
+pub perform-reply-requires : goal.perform-reply-requires
+perform-reply-requires g c = (run_has_room (meanings g.I.IceAgent.ice g.D.DtlsInstance.dtls g.S.Association.association g.M.MediaSession.media g.N.Ids.ids) g.I.StunReader.stun (record { ice = g.met.I.IceAgent.laws; dtls = g.met.D.DtlsInstance.laws; association = g.met.S.Association.laws; media = g.met.M.MediaSession.laws }) c.args.pair.now c.loop-step.pair c.args.steps.now c.loop-step.step-index c.step-item.result c.loop-step.replies.items c.requires.fresh c.loop-step-test.true c.step-item.is c.requires.sizes c.loop-step.invariant.runs).1
 
 pub loop-step-init : goal.loop-step-init
 loop-step-init g c =
@@ -29,7 +26,7 @@ loop-step-init g c =
 pub loop-step-preserved : goal.loop-step-preserved
 loop-step-preserved g c =
     record {
-      runs = run_goes_on (meanings g.I.IceAgent.ice g.D.DtlsInstance.dtls g.S.Association.association g.M.MediaSession.media g.N.Ids.ids) g.I.StunReader.stun (record { ice = g.met.I.IceAgent.laws; dtls = g.met.D.DtlsInstance.laws; association = g.met.S.Association.laws; media = g.met.M.MediaSession.laws }) c.args.pair.now c.loop-step.pair c.perform-reply.new.self c.args.steps.now c.loop-step.step-index c.step-item.result c.loop-step.replies.items c.push_reserved.new.self.items c.perform-reply.result c.requires.fresh c.loop-step-test.true c.step-item.is c.requires.sizes c.loop-step.invariant.runs c.perform-reply.ensures c.push_reserved.ensures.items;
+      runs = run_goes_on (meanings g.I.IceAgent.ice g.D.DtlsInstance.dtls g.S.Association.association g.M.MediaSession.media g.N.Ids.ids) g.I.StunReader.stun (record { ice = g.met.I.IceAgent.laws; dtls = g.met.D.DtlsInstance.laws; association = g.met.S.Association.laws; media = g.met.M.MediaSession.laws }) c.args.pair.now c.loop-step.pair c.perform-reply.new.self c.args.steps.now c.loop-step.step-index c.step-item.result c.loop-step.replies.items c.push_reserved.new.self.items c.perform-reply.result c.requires.fresh c.loop-step-test.true c.step-item.is c.requires.sizes c.loop-step.invariant.runs c.perform-reply.ensures.performs c.push_reserved.ensures.items;
       count = search rules;
       room = search rules;
       moments = moments_more c.args.steps.now c.loop-step.step-index c.step-item.result c.loop-step-test.true c.step-item.is c.read_moment.ensures c.loop-step.invariant.moments;

@@ -40,10 +40,10 @@ module _ (Y D C V N E X U W : RattleType) (gi : IceGhosts Y.Denot) (di : Dict) (
   end = T.ended Y D C V N E X U W gi di gr dr gd dd ga da gm dm ge de gn dn
 
   abbrev Handle : Lfts 11 → RattleType
-  Handle κs = D-type.the_row (named_lft 11 1 tt κs) (param 0 Y) (param 1 D) (param 2 C) (param 3 V) (param 4 N)
+  Handle κs = D-type.the_row (named_lft 11 1 tt κs) (param 0 Y) (param 1 D) (param 2 C) (param 3 V) (param 4 N) ga
 
   abbrev Row : RattleType
-  Row = D-type.the_row (record { mir = named 1; lft = [] }) (param 0 Y) (param 1 D) (param 2 C) (param 3 V) (param 4 N)
+  Row = D-type.the_row (record { mir = named 1; lft = [] }) (param 0 Y) (param 1 D) (param 2 C) (param 3 V) (param 4 N) ga
 
   abbrev Stream : RattleType
   Stream = param 7 U
@@ -59,7 +59,7 @@ module _ (Y D C V N E X U W : RattleType) (gi : IceGhosts Y.Denot) (di : Dict) (
     spec = T.clauses Y D C V N E X U W gi di gr dr gd dd ga da gm dm ge de gn dn 𝓛 at_mem run
 
     abbrev One : Contract 𝓤
-    One = triple_of 𝓛 (F.signature Y D C V N E X U W) (F.spec Y D C V N E X U W gi di gr dr gd dd ga da gm dm ge de gn dn 𝓛 at_mem run)
+    One = triple_of 𝓛 (F.signature Y D C V N E X U W gi di gr dr gd dd ga da gm dm ge de gn dn) (F.spec Y D C V N E X U W gi di gr dr gd dd ga da gm dm ge de gn dn 𝓛 at_mem run)
 
     abbrev Two : Contract 𝓤
     Two = triple_of 𝓛 (S.signature U) (S.spec U 𝓛 at_mem run)
