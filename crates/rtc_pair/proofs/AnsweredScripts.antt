@@ -1,12 +1,10 @@
 -- Runs answer each operation by its kind.
 use Rattle.std.specs.List.{AllZip}
-use Rattle.std.proofs.Common.{◌≡◌, ◌++◌, ◌∷◌, ℕ, Bool, true, false, true≢false, List, [], length, Option, Some, None, sym, ap, subst}
-use Rattle.rtc_wire.specs.declared.addr.Addr.{Addr}
+use Rattle.std.proofs.Common.{◌≡◌, ◌++◌, ◌∷◌, ℕ, Bool, true, false, true≢false, List, [], length, Option, Some, None, sym, subst}
 use Rattle.rtc_sdp_values.specs.declared.line_row.LineRow.{LineRow}
 use Rattle.rtc_change.specs.Held.{Asked, Held}
 use Rattle.rtc_peer_core.specs.Meanings.{Meanings}
 use Rattle.rtc_peer_core.specs.Stance.{held_by}
-use Rattle.rtc_peer_transport.specs.declared.polled_peer.PolledPeer.{PolledPeer}
 use Rattle.rtc_run_history.specs.declared.made.Made.{Made}
 use Rattle.rtc_run_history.specs.declared.op_answer.OpAnswer.{OpAnswer}
 use Rattle.rtc_run_history.specs.declared.outcome.Outcome.{Outcome}
@@ -17,7 +15,7 @@ use Rattle.rtc_run_history.specs.declared.step.Step.TheVariants.{Negotiate, Acce
 use Rattle.rtc_run_history.specs.declared.table.Table.{Table}
 use Rattle.rtc_run_history.specs.PairState.{PairState, addr_at, rtc_at, stances_of}
 use Rattle.rtc_run_history.specs.Past.{Entry, MadeSdp, holds_token, is_right, remote_sdp, replies_of, reply_of, sdps, steps_of}
-use Rattle.rtc_run_history.specs.Performs.{Acts, Enters, lent}
+use Rattle.rtc_run_history.specs.Performs.{Acts, lent}
 use Rattle.rtc_run_history.specs.Runs.{EntersSoundly, Runs, Went}
 use Rattle.rtc_run_history.specs.Sides.{other_side, side_of}
 use Rattle.rtc_run_history.specs.Signalled.{NotMade, Readable, Signalled, Unreadable, foreign}

@@ -1,8 +1,7 @@
 -- The answers to operations are of their kinds, and what is drawn is a name.
-use Rattle.std.specs.Prelude.{codes}
 use Rattle.std.specs.Fmt.{decimal, digits, digits_onto, digit_glyph}
 use Rattle.std.specs.List.{list_all}
-use Rattle.std.proofs.Common.{◌≡◌, ◌+◌, ◌/◌, ◌%◌, ◌<◌, ◌^◌, ◌++◌, ◌∷◌, ℕ, zero, suc, Bool, true, false, cond, eqb, List, [], get_or, Ok, refl, sym, ap, subst, arith}
+use Rattle.std.proofs.Common.{◌≡◌, ◌+◌, ◌/◌, ◌%◌, ◌<◌, ◌^◌, ◌∷◌, ℕ, zero, suc, Bool, true, false, cond, eqb, List, [], get_or, refl, sym, ap, subst, arith}
 use Rattle.std.proofs.lemmas.Bool.Decides.{nat_tests}
 use Rattle.rtc_wire_text.specs.Tokens.{is_token_byte}
 use Rattle.rtc_peer_core.proofs.Alls.{all_token}

@@ -5,7 +5,6 @@ use Rattle.std.proofs.Common.{◌≡◌, ◌++◌, ◌∷◌, ℕ, false, List, 
 use Rattle.rtc_wire.specs.declared.io_text.IoText.TheVariants.{EmptyDatagram, UnknownDatagram}
 use Rattle.rtc_wire.specs.declared.net_error.NetError.{NetError}
 use Rattle.rtc_wire.specs.declared.net_error.NetError.TheVariants.{Stun, Io}
-use Rattle.rtc_sdp_values.specs.declared.inconsistent.Inconsistent.{Inconsistent as Cause}
 use Rattle.rtc_sdp_values.specs.declared.inconsistent.Inconsistent.TheVariants.{NoGroup, ManyGroups, EmptyGroup, UnknownMid, LineNotInGroup, RepeatedMid}
 use Rattle.rtc_sdp_values.specs.declared.line_kind.LineKind.{LineKind}
 use Rattle.rtc_sdp_values.specs.declared.line_kind.LineKind.TheVariants.{Audio, Video, Application, Unknown}
@@ -27,7 +26,7 @@ use Rattle.rtc_peer_rows.specs.declared.new_line.NewLine.{NewLine}
 use Rattle.rtc_peer_rows.specs.declared.new_line.NewLine.TheVariants.{Count, NotMedia, NotChannel, NotOffered, OtherKind, OtherPlace}
 use Rattle.rtc_peer_rows.specs.declared.why.Why.{Why}
 use Rattle.rtc_peer_rows.specs.declared.why.Why.TheVariants.{NoLines, BothLite, NoCredentials, UnaskedRestart, NoFingerprint, SctpInitChanged, SctpInitMissing, MovedLine, PlaceTaken, AnswerRecycles, WrongNewLines, NoMatch, UnknownHash, NoneAnnounced}
-use Rattle.rtc_peer_rows.specs.WhyText.{kind_name, moved_text, new_line_text, why_text}
+use Rattle.rtc_peer_rows.specs.WhyText.{kind_name, new_line_text, why_text}
 use Rattle.rtc_peer_core.specs.RtcErrorText.{net_error_text, rtc_error_text}
 use Rattle.rtc_peer_core.specs.declared.rtc_error.RtcError.{RtcError}
 use Rattle.rtc_peer_core.specs.declared.rtc_error.RtcError.TheVariants.{RemoteSdp, Sdp, Net, Dtls, Sctp, Media as MediaFailed, ChangesOutOfOrder, BadChannel, Alloc as PeerAlloc, Glare}
