@@ -17,24 +17,26 @@ const OTHER_CERTIFICATE: &str =
 // One by a function that peers do not know.
 const UNKNOWN_HASH: &str = "md5 90:01:50:98:3C:D2:4F:B0:D6:96:3F:7D:28:E1:7F:72";
 
-// Whether two peers do not connect, and the one that got the answer reports this cause.
-fn is_refused<P: Signals + Polled>(
+// Whether two peers do not connect, and the one that got the answer reports this cause; or do, if there is none.
+fn ends<P: Signals + Polled>(
     alloc: Global,
     left: &mut P,
     right: &mut P,
     announced: &str,
-    fault: Fault,
+    fault: Option<Fault>,
 ) -> Result<bool, AllocError> {
     let mut texts = Texts::new(alloc);
     texts.announce(announced)?;
     let mut wire = Wire::new(alloc, Way::plain());
     let met = meet(alloc, left, right, 1, &mut texts);
     exchange(left, right, &mut wire);
-    let connected = left.holds(Ask::IsConnected) | right.holds(Ask::IsConnected);
-    Ok(met & !connected & (wire.left.fault == Some(fault)))
+    let near = left.holds(Ask::IsConnected);
+    let far = right.holds(Ask::IsConnected);
+    let taken = fault.is_none();
+    Ok(met & (near == taken) & (far == taken) & (wire.left.fault == fault))
 }
 
-/// Whether two peers do not connect, and one of them reports why.
+/// Whether two peers do not connect, and one of them reports why; or do, if the certificate is not verified.
 pub fn does_refuse<P: Signals + Polled>(
     alloc: Global,
     left: &mut P,
@@ -43,15 +45,16 @@ pub fn does_refuse<P: Signals + Polled>(
 ) -> Result<bool, AllocError> {
     match call {
         "of another certificate" => {
-            is_refused(
-                alloc,
-                left,
-                right,
-                OTHER_CERTIFICATE,
-                Fault::OtherCertificate,
-            )
+            let fault = Some(Fault::OtherCertificate);
+            ends(alloc, left, right, OTHER_CERTIFICATE, fault)
         }
-        "of an unknown hash" => is_refused(alloc, left, right, UNKNOWN_HASH, Fault::UnknownHash),
+        "of another certificate that is not verified" => {
+            ends(alloc, left, right, OTHER_CERTIFICATE, None)
+        }
+        "of an unknown hash" => {
+            let fault = Some(Fault::UnknownHash);
+            ends(alloc, left, right, UNKNOWN_HASH, fault)
+        }
         _ => Ok(false),
     }
 }

@@ -2,6 +2,7 @@
 ghost use Rattle.rtc_peer_core.specs.Built.{AreFresh};
 ghost use Rattle.rtc_peer_core.specs.Meanings.{meanings};
 
+use crate::peer_parts::PeerParts;
 use rtc_peer::{Association, DtlsInstance, IceAgent, Ids, MediaSession, Rtc, RtcConfig};
 use rtc_wire::Moment;
 use std::alloc::{AllocError, Global};
@@ -17,14 +18,18 @@ pub fn build<
 >(
     alloc: Global,
     config: Result<Option<RtcConfig>, AllocError>,
-    ice: I,
-    dtls: D,
-    association: S,
-    media: M,
-    ids: N,
+    parts: PeerParts<I, D, S, M, N>,
 ) -> Result<Rtc<I, D, S, M, N>, AllocError>
-    requires fresh { AreFresh (meanings I.ice D.dtls S.association M.media N.ids) ice dtls association media }
+    requires fresh { AreFresh (meanings I.ice D.dtls S.association M.media N.ids)
+        parts.ice parts.dtls parts.association parts.media }
 {
+    let PeerParts {
+        ice,
+        dtls,
+        association,
+        media,
+        ids,
+    } = parts;
     match config? {
         Some(config) => Rtc::build(
             alloc,

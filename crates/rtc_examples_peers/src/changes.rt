@@ -1,5 +1,5 @@
 //! Staged changes: the lines that they add, and the channels that are taken out of them.
-use rtc_change::{AddMedia, Change, Changes, count_added};
+use rtc_change::{AddMedia, Change, Changes, Lines, Plan, count_added};
 use rtc_examples_cases::{is_ok, is_true};
 use rtc_lines::{Direction, LineRow, MediaKind, Mid, Msid};
 use rtc_wire::{ChannelConfig, ChannelId, Seq, Text, TryCopy};
@@ -61,6 +61,19 @@ fn is_channel_taken(changes: &mut Changes) -> Result<bool, AllocError> {
     }
 }
 
+// Whether there is room for a plan that leaves no row.
+fn is_room_made(alloc: Global) -> bool {
+    let plan = Plan {
+        rows: Seq::empty(alloc),
+        removed: Seq::empty(alloc),
+        added: Seq::empty(alloc),
+        restart: false,
+        snap: false,
+    };
+    let mut lines = Lines::new(alloc);
+    is_ok(lines.reserve(&plan))
+}
+
 // Whether the lines that are added have places that count up, and a channel between them has none, and is taken out alone. That a copy is
 // equal is a clause of `copy`.
 fn are_places_given(alloc: Global, mid: Mid, other: Mid) -> bool {
@@ -69,7 +82,7 @@ fn are_places_given(alloc: Global, mid: Mid, other: Mid) -> bool {
     let copied = is_ok(changes.copy());
     let placed = is_true(have_places(&changes, mid, other));
     let taken = is_true(is_channel_taken(&mut changes));
-    added & copied & placed & taken & (changes.0.len() == 2)
+    added & copied & placed & taken & (changes.0.len() == 2) & is_room_made(alloc)
 }
 
 /// Whether an example of changes gives what is expected.

@@ -1,6 +1,6 @@
 //! Questions to two peers that are connected.
 use crate::ask::Ask;
-use crate::exchanging::{meet, pass};
+use crate::exchanging::{drain, meet, pass};
 use crate::polled::Polled;
 use crate::signals::Signals;
 use crate::texts::Texts;
@@ -52,6 +52,18 @@ fn fill<P: Polled>(
     Ok(taken & !over & empty & came)
 }
 
+// Whether the first datagram of a message of 1,000 bytes has 489: of datagrams of 576 bytes, 88 are for DTLS and SCTP, and a packet has a
+// mark of a byte before it.
+fn cut<P: Polled>(left: &mut P, wire: &mut Wire) -> bool {
+    let taken = left.write(ChannelId::new(0), true, &[5u8; 1000]);
+    drain(left, &mut wire.left);
+    let length = match wire.left.sent.first() {
+        Some(transmit) => transmit.contents.as_slice().len(),
+        None => 0,
+    };
+    taken & (length == 489)
+}
+
 /// Whether two peers connect, and return what is expected.
 pub fn does_succeed<P: Signals + Polled>(
     alloc: Global,
@@ -66,6 +78,7 @@ pub fn does_succeed<P: Signals + Polled>(
     let told = match example {
         "know it" => left.holds(Ask::IsConnected) & right.holds(Ask::IsConnected),
         "take packets of each other" => accept(left, right),
+        "cut messages for short datagrams" => cut(left, &mut wire),
         "fill a channel" => is_true(fill(alloc, left, right, &mut wire)),
         _ => false,
     };

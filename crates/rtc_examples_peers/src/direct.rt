@@ -1,82 +1,44 @@
 //! What examples ask of a peer that is driven without session descriptions.
-use rtc_peer::{Candidate, Fingerprint, IceCreds, MediaKind, Mid, SctpInitData};
+use crate::introduction::Introduction;
+use rtc_peer::{Candidate, IceCreds, Mid, SctpInitData};
 use rtc_wire::ChannelConfig;
-use std::alloc::AllocError;
 
-/// What examples ask of a peer without session descriptions, a call or two each. A function over it is checked without what a peer consists
-/// of.
+/// What examples ask of a peer without session descriptions. Each method makes its calls in a row, with numbers of its own; it returns
+/// whether all of them return what is expected. A function over it is checked without what a peer consists of.
 pub trait Direct {
-    /// Takes the controlling role in ICE and these credentials, and returns whether they have this user fragment.
-    fn set_own(&mut self, own: IceCreds, ufrag: &str) -> bool;
+    /// The parts take what they are given; an address that was not added is none to withdraw.
+    fn takes_parts(&mut self, given: Introduction, ufrag: &str, here: &Candidate) -> bool;
 
-    /// Takes the credentials of the other side.
-    fn set_other(&mut self, other: IceCreds);
+    /// Credentials and an address of the other side are taken.
+    fn learns(&mut self, other: IceCreds, there: Candidate) -> bool;
 
-    /// Takes the fingerprint of the other side. It returns whether the own one is by SHA-256, and no certificate of the
-    /// other side and no version is known yet.
-    fn announce(&mut self, announced: Fingerprint) -> bool;
+    /// The parts, the association and a channel, which is the first one, begin with what they are given.
+    fn begins(&mut self, given: Introduction, active: bool, channel: ChannelConfig) -> bool;
 
-    /// Whether an address of the other side is taken.
-    fn add_remote(&mut self, there: Candidate) -> bool;
+    /// One SNAP INIT chunk starts nothing, both start the association, and so does any start behind it.
+    fn starts(&mut self, half: SctpInitData, halves: SctpInitData) -> bool;
 
-    /// Whether an address of this side was there, which it is no longer.
-    fn withdraw(&mut self, here: &Candidate) -> bool;
+    /// Channels are numbered from 0. One that is negotiated for a stream that another claims is refused. None has a stream before a poll.
+    fn makes_channels(
+        &mut self,
+        first: ChannelConfig,
+        again: ChannelConfig,
+        other: ChannelConfig,
+    ) -> bool;
 
-    /// Whether DTLS starts as the active side, or as the passive one.
-    fn begin_dtls(&mut self, active: bool) -> bool;
+    /// The first channel is closed.
+    fn closes_channel(&mut self) -> bool;
 
-    /// Whether the association starts as a client, or as a server.
-    fn begin_sctp(&mut self, client: bool) -> bool;
+    /// A second DTLS role is Ok, too.
+    fn takes_roles(&mut self) -> bool;
 
-    /// Whether it starts with the SNAP INIT chunks of a description.
-    fn begin_with(&mut self, client: bool, halves: SctpInitData) -> bool;
+    /// Feedback is sent: on transport, of the application with the bytes 5 and 6, and a wish for a picture. A line that there is not sends
+    /// no redundancy.
+    fn sends_feedback(&mut self, mid: Mid) -> bool;
 
-    /// Whether a channel is made with a number.
-    fn create(&mut self, config: ChannelConfig, number: u64) -> bool;
+    /// A mid is declared once. The first line is stopped and keeps its mid; the last one is removed once, and may be declared again.
+    fn declares_lines(&mut self, first: Mid, last: Mid) -> bool;
 
-    /// Whether a stream has a channel, or a channel has a stream.
-    fn is_used(&mut self, stream: u16, number: u64) -> bool;
-
-    fn close_one(&mut self, number: u64) -> bool;
-
-    /// Declares a line. It returns whether its mid is new.
-    fn declare(&mut self, mid: Mid, kind: MediaKind) -> Result<bool, AllocError>;
-
-    fn remove(&mut self, mid: Mid) -> bool;
-
-    /// The next unused SSRC.
-    fn draw(&mut self) -> u32;
-
-    /// Whether a stream that is received is expected, which is then marked.
-    fn expect(&mut self, mid: Mid, ssrc: u32, mark: u64) -> bool;
-
-    /// Whether a stream that is sent is declared, which is then marked.
-    fn declare_sent(&mut self, mid: Mid, ssrc: u32, rtx: Option<u32>, mark: u64) -> bool;
-
-    /// Whether a stream that is received is made, and one that is sent.
-    fn make_both(&mut self, mid: Mid, received: u32, sent: u32) -> bool;
-
-    /// Whether an SSRC is received with a mark, by its number and by its line.
-    fn has_received(&mut self, mid: Mid, ssrc: u32, mark: u64) -> bool;
-
-    /// Whether an SSRC is sent with a mark, by its number and by its line.
-    fn has_sent(&mut self, mid: Mid, ssrc: u32, mark: u64) -> bool;
-
-    /// Whether the stream that a line sends gets another SSRC.
-    fn renumber(&mut self, mid: Mid, ssrc: u32) -> bool;
-
-    fn is_sent(&mut self, ssrc: u32) -> bool;
-
-    fn drop_received(&mut self, ssrc: u32) -> bool;
-
-    fn drop_sent(&mut self, ssrc: u32) -> bool;
-
-    /// Whether feedback is sent: on transport, of the application with the bytes 5 and 6, and a wish for a picture.
-    fn send_feedback(&mut self) -> bool;
-
-    /// Whether a line sends redundancy from now on.
-    fn send_redundancy(&mut self, mid: Mid) -> bool;
-
-    /// Whether a peer that was alive ends.
-    fn end(&mut self) -> bool;
+    /// A peer ends once.
+    fn ends(&mut self) -> bool;
 }

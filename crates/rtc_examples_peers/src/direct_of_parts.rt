@@ -1,11 +1,11 @@
 //! Peers that are driven without session descriptions.
 use crate::direct::Direct;
-use rtc_examples_cases::{gives, is_ok};
+use crate::introduction::Introduction;
+use rtc_examples_cases::{every, gives, is_ok};
 use rtc_peer::{
-    Association, Candidate, DtlsInstance, Fingerprint, IceAgent, IceCreds, Ids, MediaKind,
-    MediaSession, Mid, Rtc, SctpInitData, Ssrc,
+    Association, Candidate, DtlsInstance, IceAgent, IceCreds, Ids, MediaKind, MediaSession, Mid,
+    Rtc, SctpInitData, Ssrc,
 };
-use rtc_plain::PlainMark;
 use rtc_wire::{ChannelConfig, ChannelId};
 use std::alloc::AllocError;
 
@@ -16,174 +16,117 @@ fn has_ufrag(creds: Result<IceCreds, AllocError>, ufrag: &str) -> bool {
     }
 }
 
-// Whether there is a stream, which is marked.
-fn marks(mark: Option<&mut PlainMark>, count: u64) -> bool {
-    match mark {
-        Some(mark) => {
-            mark.count = count;
-            true
-        }
-        None => false,
-    }
-}
-
-// Whether there is a stream with this mark.
-fn counts(mark: Option<&mut PlainMark>, count: u64) -> bool {
-    match mark {
-        Some(mark) => mark.count == count,
-        None => false,
-    }
-}
-
-fn source(ssrc: Option<u32>) -> Option<Ssrc> {
-    match ssrc {
-        Some(ssrc) => Some(Ssrc(ssrc)),
-        None => None,
-    }
-}
-
-impl<
-    I: IceAgent,
-    D: DtlsInstance,
-    S: Association,
-    M: MediaSession<Rx = PlainMark, Tx = PlainMark>,
-    N: Ids,
-> Direct for Rtc<I, D, S, M, N> {
-    fn set_own(&mut self, own: IceCreds, ufrag: &str) -> bool {
+impl<I: IceAgent, D: DtlsInstance, S: Association, M: MediaSession, N: Ids> Direct
+    for Rtc<I, D, S, M, N> {
+    fn takes_parts(&mut self, given: Introduction, ufrag: &str, here: &Candidate) -> bool {
+        let Introduction {
+            own,
+            other,
+            announced,
+            there,
+        } = given;
+        let added = is_ok(self.add_remote_candidate(there));
         let mut api = self.direct_api();
         api.set_ice_controlling(true);
         api.set_ice_lite(false);
         api.set_local_ice_credentials(own);
-        has_ufrag(api.local_ice_credentials(), ufrag)
-    }
-
-    fn set_other(&mut self, other: IceCreds) {
-        self.direct_api().set_remote_ice_credentials(other)
-    }
-
-    fn announce(&mut self, announced: Fingerprint) -> bool {
-        let mut api = self.direct_api();
+        let set = has_ufrag(api.local_ice_credentials(), ufrag);
+        api.set_remote_ice_credentials(other);
         api.set_remote_fingerprint(announced);
         let hashed = api.local_dtls_fingerprint().hash_func.as_str() == "sha-256";
         let unknown = api.remote_dtls_fingerprint().is_none();
-        hashed & unknown & api.dtls_protocol_version().is_none()
+        let unversioned = api.dtls_protocol_version().is_none();
+        let withdrawn = api.invalidate_candidate(here);
+        every(&[added, set, hashed, unknown, unversioned, !withdrawn])
     }
 
-    fn add_remote(&mut self, there: Candidate) -> bool {
+    fn learns(&mut self, other: IceCreds, there: Candidate) -> bool {
+        self.direct_api().set_remote_ice_credentials(other);
         is_ok(self.add_remote_candidate(there))
     }
 
-    fn withdraw(&mut self, here: &Candidate) -> bool {
-        self.direct_api().invalidate_candidate(here)
-    }
-
-    fn begin_dtls(&mut self, active: bool) -> bool {
-        is_ok(self.direct_api().start_dtls(active))
-    }
-
-    fn begin_sctp(&mut self, client: bool) -> bool {
-        is_ok(self.direct_api().start_sctp(client))
-    }
-
-    fn begin_with(&mut self, client: bool, halves: SctpInitData) -> bool {
-        is_ok(self.direct_api().start_sctp_with_snap(client, halves))
-    }
-
-    fn create(&mut self, config: ChannelConfig, number: u64) -> bool {
-        gives(
-            self.direct_api().create_data_channel(config),
-            &ChannelId::new(number),
-        )
-    }
-
-    fn is_used(&mut self, stream: u16, number: u64) -> bool {
-        let api = self.direct_api();
-        let channel = api.channel_id_by_sctp_stream_id(stream);
-        let used = api.sctp_stream_id_by_channel_id(ChannelId::new(number));
-        channel.is_some() | used.is_some()
-    }
-
-    fn close_one(&mut self, number: u64) -> bool {
-        is_ok(self.direct_api().close_data_channel(ChannelId::new(number)))
-    }
-
-    fn declare(&mut self, mid: Mid, kind: MediaKind) -> Result<bool, AllocError> {
-        self.direct_api().declare_media(mid, kind)
-    }
-
-    fn remove(&mut self, mid: Mid) -> bool {
-        self.direct_api().remove_media(mid)
-    }
-
-    fn draw(&mut self) -> u32 {
-        self.direct_api().new_ssrc().0
-    }
-
-    fn expect(&mut self, mid: Mid, ssrc: u32, mark: u64) -> bool {
+    fn begins(&mut self, given: Introduction, active: bool, channel: ChannelConfig) -> bool {
+        let Introduction {
+            own,
+            other,
+            announced,
+            there,
+        } = given;
+        let added = is_ok(self.add_remote_candidate(there));
         let mut api = self.direct_api();
-        match api.expect_stream_rx(Ssrc(ssrc), None, mid, None) {
-            Ok(made) => marks(made, mark),
-            Err(_) => false,
-        }
+        api.set_ice_controlling(active);
+        api.set_local_ice_credentials(own);
+        api.set_remote_ice_credentials(other);
+        api.set_remote_fingerprint(announced);
+        let secured = is_ok(api.start_dtls(active));
+        let started = is_ok(api.start_sctp(active));
+        let made = gives(api.create_data_channel(channel), &ChannelId::new(0));
+        every(&[added, secured, started, made])
     }
 
-    fn declare_sent(&mut self, mid: Mid, ssrc: u32, rtx: Option<u32>, mark: u64) -> bool {
+    fn starts(&mut self, half: SctpInitData, halves: SctpInitData) -> bool {
         let mut api = self.direct_api();
-        match api.declare_stream_tx(Ssrc(ssrc), source(rtx), mid, None) {
-            Ok(made) => marks(made, mark),
-            Err(_) => false,
-        }
+        let early = is_ok(api.start_sctp_with_snap(true, half));
+        let started = is_ok(api.start_sctp_with_snap(true, halves));
+        let again = is_ok(api.start_sctp(false));
+        every(&[!early, started, again])
     }
 
-    fn make_both(&mut self, mid: Mid, received: u32, sent: u32) -> bool {
+    fn makes_channels(
+        &mut self,
+        first: ChannelConfig,
+        again: ChannelConfig,
+        other: ChannelConfig,
+    ) -> bool {
         let mut api = self.direct_api();
-        let first = api.make_stream_rx(Ssrc(received), None, mid, None).is_ok();
-        first & api.make_stream_tx(Ssrc(sent), None, mid, None).is_ok()
+        let started = is_ok(api.start_sctp(true));
+        let one = gives(api.create_data_channel(first), &ChannelId::new(0));
+        let refused = is_ok(api.create_data_channel(again));
+        let two = gives(api.create_data_channel(other), &ChannelId::new(1));
+        let used = api.channel_id_by_sctp_stream_id(4).is_some();
+        let has = api
+            .sctp_stream_id_by_channel_id(ChannelId::new(0))
+            .is_some();
+        every(&[started, one, !refused, two, !used, !has])
     }
 
-    fn has_received(&mut self, mid: Mid, ssrc: u32, mark: u64) -> bool {
+    fn closes_channel(&mut self) -> bool {
+        is_ok(self.direct_api().close_data_channel(ChannelId::new(0)))
+    }
+
+    fn takes_roles(&mut self) -> bool {
         let mut api = self.direct_api();
-        let by_number = counts(api.stream_rx(Ssrc(ssrc)), mark);
-        by_number & counts(api.stream_rx_by_mid(mid, None), mark)
+        let first = is_ok(api.start_dtls(false));
+        first & is_ok(api.start_dtls(true))
     }
 
-    fn has_sent(&mut self, mid: Mid, ssrc: u32, mark: u64) -> bool {
-        let mut api = self.direct_api();
-        let by_number = counts(api.stream_tx(Ssrc(ssrc)), mark);
-        by_number & counts(api.stream_tx_by_mid(mid, None), mark)
-    }
-
-    fn renumber(&mut self, mid: Mid, ssrc: u32) -> bool {
-        let mut api = self.direct_api();
-        api.reset_stream_tx(mid, None, Ssrc(ssrc), None).is_some()
-    }
-
-    fn is_sent(&mut self, ssrc: u32) -> bool {
-        self.direct_api().stream_tx(Ssrc(ssrc)).is_some()
-    }
-
-    fn drop_received(&mut self, ssrc: u32) -> bool {
-        self.direct_api().remove_stream_rx(Ssrc(ssrc))
-    }
-
-    fn drop_sent(&mut self, ssrc: u32) -> bool {
-        self.direct_api().remove_stream_tx(Ssrc(ssrc))
-    }
-
-    fn send_feedback(&mut self) -> bool {
+    fn sends_feedback(&mut self, mid: Mid) -> bool {
         let mut api = self.direct_api();
         api.enable_twcc_feedback();
         let sent = is_ok(api.send_app_specific_feedback(Ssrc(1), Ssrc(2), b"\x05\x06"));
-        sent & is_ok(api.send_pli_feedback(Ssrc(1), Ssrc(2)))
+        let wished = is_ok(api.send_pli_feedback(Ssrc(1), Ssrc(2)));
+        let redundant = api.set_red_send(mid, true);
+        every(&[sent, wished, !redundant])
     }
 
-    fn send_redundancy(&mut self, mid: Mid) -> bool {
-        self.direct_api().set_red_send(mid, true)
+    fn declares_lines(&mut self, first: Mid, last: Mid) -> bool {
+        let mut api = self.direct_api();
+        let once = gives(api.declare_media(first, MediaKind::Audio), &true);
+        let twice = gives(api.declare_media(first, MediaKind::Video), &false);
+        let other = gives(api.declare_media(last, MediaKind::Audio), &true);
+        let stopped = api.remove_media(first);
+        let kept = gives(api.declare_media(first, MediaKind::Audio), &false);
+        let went = api.remove_media(last);
+        let gone = api.remove_media(last);
+        let again = gives(api.declare_media(last, MediaKind::Video), &true);
+        every(&[once, twice, other, stopped, kept, went, !gone, again])
     }
 
-    fn end(&mut self) -> bool {
+    fn ends(&mut self) -> bool {
         let alive = self.is_alive();
         self.disconnect();
-        alive & !self.is_alive()
+        let over = !self.is_alive();
+        self.disconnect();
+        every(&[alive, over, !self.is_alive()])
     }
 }

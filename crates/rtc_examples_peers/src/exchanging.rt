@@ -8,8 +8,8 @@ use crate::wire::Wire;
 use rtc_wire::{Moment, Span, Transmit};
 use std::alloc::Global;
 
-// Polls a peer up to a timeout or an error.
-fn drain<P: Polled>(peer: &mut P, outputs: &mut Outputs) {
+/// Polls a peer up to a timeout or an error.
+pub fn drain<P: Polled>(peer: &mut P, outputs: &mut Outputs) {
     for _ in 0..u32::MAX {
         if !peer.give_next(outputs) {
             return;

@@ -3,7 +3,7 @@ use crate::fault::Fault;
 use rtc_examples_cases::is_ok;
 use rtc_peer::{ChannelData, Event, Output, RtcError, Why};
 use rtc_plain::PlainMediaEvent;
-use rtc_wire::{Bytes, Transmit};
+use rtc_wire::{Bytes, Moment, Transmit};
 use rtc_wire_drops::release;
 use std::alloc::Global;
 
@@ -17,6 +17,15 @@ pub struct Outputs {
     pub texts: usize,
     /// How many channels are open.
     pub opened: usize,
+    /// How many of them were closed.
+    pub closed: usize,
+    /// How often what a channel has buffered fell to its threshold.
+    pub lows: usize,
+    /// How many events of the media part there were, and how many of them have the bytes of a packet.
+    pub media: usize,
+    pub raws: usize,
+    /// The moment of the last timeout.
+    pub timeout: Moment,
     pub fault: Option<Fault>,
 }
 
@@ -36,6 +45,11 @@ impl Outputs {
             messages: Vec::new(alloc),
             texts: 0,
             opened: 0,
+            closed: 0,
+            lows: 0,
+            media: 0,
+            raws: 0,
+            timeout: Moment::FAR_FUTURE,
             fault: None,
         }
     }
@@ -73,6 +87,12 @@ impl Outputs {
         self.note(kept)
     }
 
+    fn count_raw(&mut self, event: &Event<PlainMediaEvent>) {
+        if event.as_raw_packet().is_some() {
+            self.raws = self.raws.saturating_add(1);
+        }
+    }
+
     fn keep_event(&mut self, event: Event<PlainMediaEvent>) -> bool {
         match event {
             Event::ChannelOpen(_, _) => {
@@ -80,26 +100,41 @@ impl Outputs {
                 true
             }
             Event::ChannelData(message) => self.keep_message(message),
+            Event::ChannelClose(_) => {
+                self.closed = self.closed.saturating_add(1);
+                true
+            }
+            Event::ChannelBufferedAmountLow(_) => {
+                self.lows = self.lows.saturating_add(1);
+                true
+            }
             Event::Connected
             | Event::IceConnectionStateChange(_)
-            | Event::ChannelClose(_)
-            | Event::ChannelBufferedAmountLow(_)
             | Event::PeerStats(_)
             | Event::MediaIngressStats(_)
             | Event::MediaEgressStats(_)
-            | Event::Media(_)
             | Event::Closed => true,
+            Event::Media(_) => {
+                self.media = self.media.saturating_add(1);
+                true
+            }
         }
     }
 
     fn keep_output(&mut self, output: Output<PlainMediaEvent>) -> bool {
         match output {
-            Output::Timeout(_) => false,
+            Output::Timeout(moment) => {
+                self.timeout = moment;
+                false
+            }
             Output::Transmit(transmit) => {
                 let kept = is_ok(self.sent.push(transmit));
                 self.note(kept)
             }
-            Output::Event(event) => self.keep_event(event),
+            Output::Event(event) => {
+                self.count_raw(&event);
+                self.keep_event(event)
+            }
         }
     }
 

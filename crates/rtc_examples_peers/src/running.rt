@@ -1,21 +1,25 @@
 //! Examples that are run over peers with parts in memory.
+ghost use Rattle.rtc_peer_core.specs.Built.{AreFresh};
+ghost use Rattle.rtc_peer_core.specs.Meanings.{meanings};
+
 use crate::building::build;
+use crate::built::Built;
 use crate::configs::{left_config, right_config};
 use crate::direct::Direct;
 use crate::examples::ask;
+use crate::marks::Marks;
+use crate::peer_parts::PeerParts;
 use crate::polled::Polled;
 use crate::reading::read_turns;
 use crate::signals::Signals;
 use rtc_assoc_end::PlainAssociation;
-use rtc_peer::{Mid, Rtc};
-use rtc_plain::{CountIds, PlainDtls, PlainIce, PlainMedia};
-use std::alloc::{AllocError, Global};
+use rtc_peer::{Association, DtlsInstance, IceAgent, Ids, MediaSession, Mid, Rtc};
+use rtc_plain::{CountIds, PlainDtls, PlainIce, PlainMark, PlainMedia, PlainMediaEvent};
+use std::alloc::AllocError;
 use std::rt::Files;
 
-type Peer = Rtc<PlainIce, PlainDtls, PlainAssociation, PlainMedia, CountIds>;
-
 // Whether an example gives what is expected, if its files are there.
-fn agrees<R: Files + AllocGlobal, P: Signals + Polled + Direct>(
+fn agrees<R: Files + AllocGlobal, P: Signals + Polled + Direct + Marks + Built>(
     rt: &R,
     left: &mut P,
     right: &mut P,
@@ -38,7 +42,7 @@ fn agrees<R: Files + AllocGlobal, P: Signals + Polled + Direct>(
 }
 
 // The same if there was memory for both peers.
-fn agrees_made<R: Files + AllocGlobal, P: Signals + Polled + Direct + Drop>(
+fn agrees_made<R: Files + AllocGlobal, P: Signals + Polled + Direct + Marks + Built + Drop>(
     rt: &R,
     left: Result<P, AllocError>,
     right: Result<P, AllocError>,
@@ -50,31 +54,55 @@ fn agrees_made<R: Files + AllocGlobal, P: Signals + Polled + Direct + Drop>(
     Ok(agrees(rt, &mut left, &mut right, subject, name))
 }
 
+// The same with peers that are built over these parts.
+fn agrees_over<
+    R: Files + AllocGlobal,
+    I: IceAgent + Drop,
+    D: DtlsInstance + Drop,
+    S: Association + Drop,
+    M: MediaSession<E = PlainMediaEvent, Rx = PlainMark, Tx = PlainMark> + Drop,
+    N: Ids + Drop,
+>(
+    rt: &R,
+    left: PeerParts<I, D, S, M, N>,
+    right: PeerParts<I, D, S, M, N>,
+    subject: &str,
+    name: &str,
+) -> Result<bool, AllocError>
+    requires left { AreFresh (meanings I.ice D.dtls S.association M.media N.ids)
+        left.ice left.dtls left.association left.media }
+    requires right { AreFresh (meanings I.ice D.dtls S.association M.media N.ids)
+        right.ice right.dtls right.association right.media }
+{
+    let alloc = rt.alloc();
+    let left = build(alloc, left_config(alloc, subject, name), left);
+    let right = build(alloc, right_config(alloc, subject), right);
+    agrees_made::<R, Rtc<I, D, S, M, N>>(rt, left, right, subject, name)
+}
+
 /// Whether an example gives what is expected, with peers that draw numbers from 1 and from 1,000,001 on. This function
-/// alone names parts in memory. It passes peers over them to one over any peers, which is costly to check.
+/// alone names parts in memory, and no peer over them.
 pub fn does_agree<R: Files + AllocGlobal>(
     rt: &R,
     subject: &str,
     name: &str,
 ) -> Result<bool, AllocError> {
     let alloc = rt.alloc();
-    let left = build(
-        alloc,
-        left_config(alloc, subject, name),
-        PlainIce::new(alloc),
-        PlainDtls::new(alloc),
-        PlainAssociation::new(alloc),
-        PlainMedia::new(alloc),
-        CountIds::starting(1),
-    );
-    let right = build(
-        alloc,
-        right_config(alloc, subject),
-        PlainIce::new(alloc),
-        PlainDtls::new(alloc),
-        PlainAssociation::new(alloc),
-        PlainMedia::new(alloc),
-        CountIds::starting(1_000_001),
-    );
-    agrees_made::<R, Peer>(rt, left, right, subject, name)
+    let left = PeerParts {
+        ice: PlainIce::new(alloc),
+        dtls: PlainDtls::new(alloc),
+        association: PlainAssociation::new(alloc),
+        media: PlainMedia::new(alloc),
+        ids: CountIds::starting(1),
+    };
+    let right = PeerParts {
+        ice: PlainIce::new(alloc),
+        dtls: PlainDtls::new(alloc),
+        association: PlainAssociation::new(alloc),
+        media: PlainMedia::new(alloc),
+        ids: CountIds::starting(1_000_001),
+    };
+    agrees_over::<R, PlainIce, PlainDtls, PlainAssociation, PlainMedia, CountIds>(
+        rt, left, right, subject, name,
+    )
 }

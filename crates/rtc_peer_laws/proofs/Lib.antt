@@ -73,3 +73,4 @@ pub mod ToldHandshakes
 pub mod ToldCalls
 pub mod Drains
 pub mod SetsNone
+pub mod PassedReads

@@ -12,3 +12,4 @@ pub mod MediaRows
 pub mod Weight
 pub mod PeerCalls
 pub mod EventEquality
+pub mod PassedReads
