@@ -1,3 +1,4 @@
 pub mod Bare
 pub mod Driven
+mod LeftOffers
 pub mod Signalled
