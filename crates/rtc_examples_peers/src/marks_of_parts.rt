@@ -3,19 +3,15 @@ use crate::marks::Marks;
 use rtc_examples_cases::{every, gives};
 use rtc_peer::{Association, DtlsInstance, IceAgent, Ids, MediaKind, MediaSession, Mid, Rtc, Ssrc};
 use rtc_plain::PlainMark;
-use std::alloc::AllocError;
 
 // Whether there is a stream, which is marked.
-fn marks(made: Result<Option<&mut PlainMark>, AllocError>, count: u64) -> bool {
-    match made {
-        Ok(mark) => match mark {
-            Some(mark) => {
-                mark.count = count;
-                true
-            }
-            None => false,
-        },
-        Err(_) => false,
+fn marks(mark: Option<&mut PlainMark>, count: u64) -> bool {
+    match mark {
+        Some(mark) => {
+            mark.count = count;
+            true
+        }
+        None => false,
     }
 }
 
@@ -37,16 +33,25 @@ impl<
     fn passes_over(&mut self, mid: Mid) -> bool {
         let mut api = self.direct_api();
         let line = gives(api.declare_media(mid, MediaKind::Audio), &true);
-        let made = marks(api.declare_stream_tx(Ssrc(4), Some(Ssrc(5)), mid, None), 0);
+        let made = match api.declare_stream_tx(Ssrc(4), Some(Ssrc(5)), mid, None) {
+            Ok(mark) => marks(mark, 0),
+            Err(_) => false,
+        };
         let drawn = api.new_ssrc().0 == 6;
         every(&[line, made, drawn])
     }
 
     fn marks_received(&mut self, mid: Mid) -> bool {
         let mut api = self.direct_api();
-        let early = marks(api.expect_stream_rx(Ssrc(7), None, mid, None), 5);
+        let early = match api.expect_stream_rx(Ssrc(7), None, mid, None) {
+            Ok(mark) => marks(mark, 5),
+            Err(_) => false,
+        };
         let line = gives(api.declare_media(mid, MediaKind::Video), &true);
-        let expected = marks(api.expect_stream_rx(Ssrc(7), None, mid, None), 5);
+        let expected = match api.expect_stream_rx(Ssrc(7), None, mid, None) {
+            Ok(mark) => marks(mark, 5),
+            Err(_) => false,
+        };
         let numbered = counts(api.stream_rx(Ssrc(7)), 5);
         let named = counts(api.stream_rx_by_mid(mid, None), 5);
         let made = api.make_stream_rx(Ssrc(10), None, mid, None).is_ok();
@@ -55,7 +60,10 @@ impl<
 
     fn marks_sent(&mut self, mid: Mid) -> bool {
         let mut api = self.direct_api();
-        let declared = marks(api.declare_stream_tx(Ssrc(8), None, mid, None), 6);
+        let declared = match api.declare_stream_tx(Ssrc(8), None, mid, None) {
+            Ok(mark) => marks(mark, 6),
+            Err(_) => false,
+        };
         let numbered = counts(api.stream_tx(Ssrc(8)), 6);
         let named = counts(api.stream_tx_by_mid(mid, None), 6);
         let same = api.reset_stream_tx(mid, None, Ssrc(8), None).is_some();
@@ -69,8 +77,14 @@ impl<
     fn drops_streams(&mut self, mid: Mid) -> bool {
         let mut api = self.direct_api();
         let line = gives(api.declare_media(mid, MediaKind::Audio), &true);
-        let expected = marks(api.expect_stream_rx(Ssrc(7), None, mid, None), 0);
-        let declared = marks(api.declare_stream_tx(Ssrc(8), None, mid, None), 0);
+        let expected = match api.expect_stream_rx(Ssrc(7), None, mid, None) {
+            Ok(mark) => marks(mark, 0),
+            Err(_) => false,
+        };
+        let declared = match api.declare_stream_tx(Ssrc(8), None, mid, None) {
+            Ok(mark) => marks(mark, 0),
+            Err(_) => false,
+        };
         let dropped = api.remove_stream_rx(Ssrc(7));
         let again = api.remove_stream_rx(Ssrc(7));
         let stopped = api.remove_media(mid);
