@@ -176,8 +176,8 @@ mod OpenedRows
 mod StepRows
 mod ConfirmedRuns
 mod DtlsFinishes
-mod ConnectedPolls
-mod ConnectedRuns
+pub mod ConnectedPolls
+pub mod ConnectedRuns
 mod ConfirmedSides
 mod ClosingRows
 mod ClosingSettled
