@@ -1,6 +1,6 @@
 -- The peers of the program were just built, and make session descriptions that are read back.
-use Rattle.std.proofs.Common.{◌≡◌, ◌∙◌, ℕ, Bool, true, false, List, [], ◌∷◌, ◌++◌, Option, None, Result, Ok, Err, refl, sym, ap, subst, arith}
-use Rattle.std.specs.Prelude.{IfOk, IfSome}
+use Rattle.std.proofs.Common.{◌≡◌, ◌≤◌, ◌∙◌, ◌+◌, ◌*◌, ℕ, Bool, true, false, List, [], ◌∷◌, ◌++◌, Option, None, Result, Ok, Err, refl, sym, ap, subst, arith}
+use Rattle.std.specs.Prelude.{IfOk, IfSome, codes}
 use Rattle.std.specs.declared.alloc.Global.{Global}
 use Rattle.rtc_wire.specs.declared.addr.Addr.{Addr}
 use Rattle.rtc_sdp_values.specs.declared.candidate.Candidate.{Candidate}
@@ -19,11 +19,13 @@ use Rattle.rtc_peer_core.specs.Built.{Builds, payload_of_mtu, creds_or, session_
 use Rattle.rtc_peer_core.specs.Formats.{config_formats, AreFormedFormats}
 use Rattle.rtc_peer_core.specs.Formed.{AreSdpCreds, IsFormed, IsHostCandidate}
 use Rattle.rtc_peer_core.specs.Stance.{stance_of}
+use Rattle.rtc_peer_transport.specs.Connection.{no_transport}
 use Rattle.rtc_run_history.specs.declared.side.Side.{Side}
 use Rattle.rtc_run_history.specs.declared.side.Side.TheVariants.{Left, Right}
 use Rattle.rtc_run_history.specs.Fresh.{IsFresh, IsJustBuilt}
 use Rattle.rtc_run_history.specs.PairState.{peer_at, stances_of}
 use Rattle.rtc_run_plain.specs.ProgramPair.{PlainPeer, PlainPairState, counting, plain_parts, host_at, left_address, right_address, program_config, IsProgramPeer}
+use Rattle.rtc_run_plain.specs.NumberedPair.{IsNumberedPair, default_settings, numbered_address}
 use Rattle.rtc_run_plain.specs.declared.peer_settings.PeerSettings.{PeerSettings}
 
 -- no candidate and no credentials of the other side are there after the first three calls
@@ -176,6 +178,18 @@ right_host = record {
   kind = refl;
 }
 
+pub numbered_host : (number : ℕ) → number ≤ 255 → IsHostCandidate (host_at (numbered_address number))
+numbered_host number small = record {
+  foundation = refl;
+  component = omega arith;
+  proto = refl;
+  priority = omega arith;
+  four = refl;
+  bytes = (omega arith, (omega arith, (omega arith, (small, tt))));
+  port = omega arith;
+  kind = refl;
+}
+
 fresh_at : (pair : PlainPairState) (at : Side) → IsJustBuilt (stance_of plain_parts pair.left.core) → IsJustBuilt (stance_of plain_parts pair.right.core)
     → IsJustBuilt (stances_of plain_parts pair at)
 fresh_at pair Left left right = left
@@ -205,3 +219,22 @@ pub formed_without_creds : {R F : Type 0} (creds : Option IceCreds) (built : Res
     → IfOk built (λ rtc. IfSome creds AreSdpCreds → P rtc) → IfOk built (λ rtc. creds ≡ None → P rtc)
 formed_without_creds creds (Ok rtc) P formed = λ none. formed (subst (λ (c : Option IceCreds). IfSome c AreSdpCreds) (sym none) tt)
 formed_without_creds creds (Err error) P formed = tt
+
+-- a numbered pair, by peers that were made with such settings
+pub numbered_state : (alloc : Global) (number : ℕ) (one two : PeerSettings) (pair : PlainPairState) → one ≡ default_settings → two ≡ default_settings
+    → IsProgramPeer alloc one (codes "abc") (2000000 * number + 1) left_address pair.left.core
+    → IsProgramPeer alloc two (codes "def") (2000000 * number + 1000001) (numbered_address number) pair.right.core
+    → pair.left.transport ≡ no_transport true false one.stats_interval → pair.right.transport ≡ no_transport true false two.stats_interval
+    → pair.left_addr ≡ left_address → pair.right_addr ≡ numbered_address number → pair.sdps ≡ [] → pair.packets ≡ [] → pair.size ≡ 0
+    → IsNumberedPair alloc number pair
+numbered_state alloc number one two pair is is' left right left_transport right_transport left_addr right_addr sdps packets size = record {
+  left = subst (λ (s : PeerSettings). IsProgramPeer alloc s (codes "abc") (2000000 * number + 1) left_address pair.left.core) is left;
+  right = subst (λ (s : PeerSettings). IsProgramPeer alloc s (codes "def") (2000000 * number + 1000001) (numbered_address number) pair.right.core) is' right;
+  left_transport = left_transport ∙ ap (λ (s : PeerSettings). no_transport true false s.stats_interval) is;
+  right_transport = right_transport ∙ ap (λ (s : PeerSettings). no_transport true false s.stats_interval) is';
+  left_addr = left_addr;
+  right_addr = right_addr;
+  sdps = sdps;
+  packets = packets;
+  size = size;
+}

@@ -1,1 +1,2 @@
 pub mod ProgramPair
+pub mod NumberedPair

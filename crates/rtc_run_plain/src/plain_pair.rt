@@ -80,8 +80,8 @@ fn add_address(alloc: Global, rtc: &mut PlainPeer, addr: Addr) -> Result<(), All
     Ok(())
 }
 
-// A peer with the certificate `name` and an address, whose numbers count up from `first`.
-fn make_peer(
+/// A peer with the certificate `name` and an address, whose numbers count up from `first`.
+pub fn make_peer(
     alloc: Global,
     settings: PeerSettings,
     name: &str,
