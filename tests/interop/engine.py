@@ -1,0 +1,51 @@
+"""The engine: the program rtc_talk, driven by lines."""
+import subprocess
+
+from browsers import Refused
+
+
+class Engine:
+    def __init__(self, program):
+        self.process = subprocess.Popen([program], stdin=subprocess.PIPE, stdout=subprocess.PIPE, text=True, newline="\n", encoding="utf-8")
+
+    # A reply is a line; one that begins a description or rows goes on to a line that is a dot.
+    def ask(self, line):
+        self.process.stdin.write(line + "\n")
+        self.process.stdin.flush()
+        head = self.process.stdout.readline().rstrip("\n")
+        if head.split(" ")[0] not in ("offer", "answer", "rows"):
+            return head, None
+        lines = []
+        while (line := self.process.stdout.readline().rstrip("\n")) != ".":
+            lines.append(line)
+        return head, "\n".join(lines) + "\n"
+
+    def begin(self, settings):
+        self.ask("peer " + settings)
+
+    # The offer of changes, and the mids of the lines that they add.
+    def offer(self, changes):
+        head, text = self.ask("offer " + " ".join(":".join(change) for change in changes))
+        if text is None:
+            raise Refused(head)
+        return text, [word for word in head.split()[1:] if word not in ("true", "false")]
+
+    def answer(self, text, call):
+        head, answer = self.ask(f"{call} {text.encode().hex()}")
+        if answer is None:
+            raise Refused(head)
+        return answer
+
+    def take(self, text):
+        head, _ = self.ask("take " + text.encode().hex())
+        if head != "finished":
+            raise Refused(head)
+
+    # Mid, kind, direction and state of each media line.
+    def rows(self):
+        _, text = self.ask("rows")
+        return [line.split() for line in text.splitlines() if line and not line.endswith(" application")]
+
+    def end(self):
+        self.process.stdin.close()
+        self.process.wait()
