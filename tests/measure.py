@@ -1,7 +1,7 @@
 #!/usr/bin/env python3
 """Counts instructions of the proved programs by valgrind --tool=callgrind, so that growth is seen. It is no part of the gate.
 
-usage: tests/measure.py [PART..]     PART is descriptions, rounds, orderly, associations, streams, channels, forged, lookups,
+usage: tests/measure.py [PART..]     PART is descriptions, rounds, orderly, associations, streams, channels, boundary, forged, lookups,
 frames, polls, connecting or demos; without one all are counted
 
 The programs are those that the gate left in crates/*/out/. Each figure is a difference of two runs, so that the start of the
@@ -185,6 +185,22 @@ def channels():
         print(f"| {open_channels:,} | {more:,} | {more // open_channels:,} |")
 
 
+# A message through two peers over one channel: in Rattle, and the same over libgondyru, which tools/build-c built, from C and from Python.
+def boundary():
+    many, archive = 10, os.path.join(TOP, "crates", "rtc_c", "out", "libgondyru.a")
+    with tempfile.TemporaryDirectory() as folder:
+        from_c = os.path.join(folder, "messages")
+        source, include = os.path.join(TOP, "tests", "c", "messages.c"), os.path.join(TOP, "include")
+        subprocess.run(["cc", "-std=c11", "-O2", f"-I{include}", source, archive, "-o", from_c], check=True)
+        from_python = [sys.executable, os.path.join(TOP, "tests", "python_messages.py")]
+        print("| Bytes | In Rattle, a message | From C | From Python |\n|---|---|---|---|")
+        for size in (1_024, 65_536):
+            costs = [count_peers("one", 1, many, size) - count_peers("one", 1, 0, size)]
+            for words in ([from_c], from_python):
+                costs.append(count([*words, str(many), str(size)], b"")[0] - count([*words, "0", str(size)], b"")[0])
+            print(f"| {size:,} | " + " | ".join(f"{cost // many:,}" for cost in costs) + " |")
+
+
 # The greatest memory of a program, in KiB. Its parent is small, since the memory of a parent before the program starts counts too.
 def memory(words, given=b""):
     done = subprocess.run(["/usr/bin/time", "-f", "%M", *words], input=given, capture_output=True)
@@ -290,7 +306,7 @@ def demos():
 def main():
     parts = {
         "descriptions": descriptions, "rounds": rounds, "orderly": orderly, "associations": associations,
-        "streams": streams, "channels": channels, "forged": forged, "lookups": lookups, "frames": frames, "polls": polls,
+        "streams": streams, "channels": channels, "boundary": boundary, "forged": forged, "lookups": lookups, "frames": frames, "polls": polls,
         "connecting": connecting, "demos": demos,
     }
     wanted = sys.argv[1:] or list(parts)
