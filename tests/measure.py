@@ -154,12 +154,12 @@ def count_peers(how, channels, messages, size):
 # answer of the latter is the stream of the last channel.
 def streams():
     print("| Open channels | Opening them at once | A channel | A moment with nothing due, at both |\n|---|---|---|---|")
-    start = count_peers("one", 0, 0, 0)
-    for channels in (1, 10, 100, 1_000, 10_000):
+    start = count_peers("one", 1, 0, 0)
+    for channels in (10, 100, 1_000, 10_000):
         opened = count_peers("idle", channels, 1, 0)
         idle = (count_peers("idle", channels, 11, 0) - opened) // 10
         more = opened - idle - start
-        print(f"| {channels:,} | {more:,} | {more // channels:,} | {idle:,} |")
+        print(f"| {channels:,} | {more:,} | {more // (channels - 1):,} | {idle:,} |")
     print("\n| Channels given streams at once | Instructions | A channel |\n|---|---|---|")
     for channels in (100, 1_000, 10_000, 30_000):
         more = count_work(2 * (channels - 1), "channels", "allocate", channels, 1) - count_work(0, "channels", "allocate", channels, 0)
