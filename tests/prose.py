@@ -14,7 +14,7 @@ import sys
 TOP = os.path.dirname(os.path.dirname(os.path.abspath(__file__)))
 README_WORDS, DOCS_WORDS, CRATE_WORDS = 900, 15_000, 250
 MEAN_SENTENCE, SENTENCE = 25, 40
-MADE = ["docs/PROMISES.md", "docs/api/"]
+MADE = ["docs/PROMISES.md", "docs/INTEROP.md", "docs/api/"]
 CLAIMS = ("Claim", "Clause", "Call", "Law", "Definition", "Subject")
 
 

@@ -6,19 +6,25 @@ from browsers import Refused
 
 class Engine:
     def __init__(self, program):
-        self.process = subprocess.Popen([program], stdin=subprocess.PIPE, stdout=subprocess.PIPE, text=True, newline="\n", encoding="utf-8")
+        self.process = subprocess.Popen([program], stdin=subprocess.PIPE, stdout=subprocess.PIPE)
 
     # A reply is a line; one that begins a description or rows goes on to a line that is a dot.
     def ask(self, line):
-        self.process.stdin.write(line + "\n")
+        self.process.stdin.write(line.encode() + b"\n")
         self.process.stdin.flush()
-        head = self.process.stdout.readline().rstrip("\n")
+        head = self.line()
         if head.split(" ")[0] not in ("offer", "answer", "rows"):
             return head, None
         lines = []
-        while (line := self.process.stdout.readline().rstrip("\n")) != ".":
+        while (line := self.line()) != ".":
             lines.append(line)
         return head, "\n".join(lines) + "\n"
+
+    def line(self):
+        data = self.process.stdout.readline()
+        if not data:
+            raise RuntimeError("rtc_talk has ended")
+        return data.decode().rstrip("\n")
 
     def begin(self, settings):
         self.ask("peer " + settings)
