@@ -29,12 +29,12 @@ class Engine:
     def begin(self, settings):
         self.ask("peer " + settings)
 
-    # The offer of changes, and the mids of the lines that they add.
+    # The offer of changes; None if they change nothing, as a direction that a line has.
     def offer(self, changes):
         head, text = self.ask("offer " + " ".join(":".join(change) for change in changes))
-        if text is None:
+        if text is None and not head.startswith("no offer"):
             raise Refused(head)
-        return text, [word for word in head.split()[1:] if word not in ("true", "false")]
+        return text
 
     def answer(self, text, call):
         head, answer = self.ask(f"{call} {text.encode().hex()}")

