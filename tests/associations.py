@@ -354,12 +354,13 @@ class Streams:
         message = stream.read()
         return self.read(number, entry, *message) if message else None
 
+    # An opening is given up ten seconds after it was refused first, and not at that moment itself, even if no later one follows.
     def visit_opening(self, number, entry):
         stream = self.association.stream(number)
         if stream.there or stream.close:
             if entry.refused is None:
                 entry.refused = self.last
-            elif after(entry.refused, 10 * SECOND) <= self.last:
+            elif entry.refused < self.last and after(entry.refused, 10 * SECOND) <= self.last:
                 return self.end(number, entry)
             return None
         if self.association.is_ending():

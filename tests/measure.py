@@ -1,7 +1,7 @@
 #!/usr/bin/env python3
 """Counts instructions of the proved programs by valgrind --tool=callgrind, so that growth is seen. It is no part of the gate.
 
-usage: tests/measure.py [PART..]     PART is descriptions, rounds, orderly, associations, streams, channels, forged, lookups,
+usage: tests/measure.py [PART..]     PART is descriptions, rounds, orderly, associations, streams, channels, boundary, forged, lookups,
 frames, polls, connecting or demos; without one all are counted
 
 The programs are those that the gate left in crates/*/out/. Each figure is a difference of two runs, so that the start of the
@@ -154,12 +154,12 @@ def count_peers(how, channels, messages, size):
 # answer of the latter is the stream of the last channel.
 def streams():
     print("| Open channels | Opening them at once | A channel | A moment with nothing due, at both |\n|---|---|---|---|")
-    start = count_peers("one", 0, 0, 0)
-    for channels in (1, 10, 100, 1_000, 10_000):
+    start = count_peers("one", 1, 0, 0)
+    for channels in (10, 100, 1_000, 10_000):
         opened = count_peers("idle", channels, 1, 0)
         idle = (count_peers("idle", channels, 11, 0) - opened) // 10
         more = opened - idle - start
-        print(f"| {channels:,} | {more:,} | {more // channels:,} | {idle:,} |")
+        print(f"| {channels:,} | {more:,} | {more // (channels - 1):,} | {idle:,} |")
     print("\n| Channels given streams at once | Instructions | A channel |\n|---|---|---|")
     for channels in (100, 1_000, 10_000, 30_000):
         more = count_work(2 * (channels - 1), "channels", "allocate", channels, 1) - count_work(0, "channels", "allocate", channels, 0)
@@ -183,6 +183,24 @@ def channels():
     for open_channels in (10, 100, 1_000):
         more = count_peers("turn", open_channels, open_channels, 1_024) - count_peers("turn", open_channels, 0, 1_024)
         print(f"| {open_channels:,} | {more:,} | {more // open_channels:,} |")
+
+
+# A message through two peers over one channel: in Rattle, and the same over libgondyru, which tools/build-c built, from C and from Python.
+# The C library is not to copy by an instruction that valgrind counts once for each byte.
+def boundary():
+    many, archive = 10, os.path.join(TOP, "crates", "rtc_c", "out", "libgondyru.a")
+    os.environ["GLIBC_TUNABLES"] = "glibc.cpu.x86_rep_movsb_threshold=1000000"
+    with tempfile.TemporaryDirectory() as folder:
+        from_c = os.path.join(folder, "messages")
+        source, include = os.path.join(TOP, "tests", "c", "messages.c"), os.path.join(TOP, "include")
+        subprocess.run(["cc", "-std=c11", "-O2", f"-I{include}", source, archive, "-o", from_c], check=True)
+        from_python = [sys.executable, os.path.join(TOP, "tests", "python_messages.py")]
+        print("| Bytes | In Rattle, a message | From C | From Python |\n|---|---|---|---|")
+        for size in (1_024, 65_536):
+            costs = [count_peers("one", 1, many, size) - count_peers("one", 1, 0, size)]
+            for words in ([from_c], from_python):
+                costs.append(count([*words, str(many), str(size)], b"")[0] - count([*words, "0", str(size)], b"")[0])
+            print(f"| {size:,} | " + " | ".join(f"{cost // many:,}" for cost in costs) + " |")
 
 
 # The greatest memory of a program, in KiB. Its parent is small, since the memory of a parent before the program starts counts too.
@@ -290,7 +308,7 @@ def demos():
 def main():
     parts = {
         "descriptions": descriptions, "rounds": rounds, "orderly": orderly, "associations": associations,
-        "streams": streams, "channels": channels, "forged": forged, "lookups": lookups, "frames": frames, "polls": polls,
+        "streams": streams, "channels": channels, "boundary": boundary, "forged": forged, "lookups": lookups, "frames": frames, "polls": polls,
         "connecting": connecting, "demos": demos,
     }
     wanted = sys.argv[1:] or list(parts)

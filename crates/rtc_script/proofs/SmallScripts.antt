@@ -50,7 +50,7 @@ token_fits side verb number text =
     )
 
 -- a line has a word for its side, one for its verb, one for each op, and two digits for each byte of a text
-words_small : (found : List (List ℕ)) (step : Step) → AreStepWords found step → step_size step ≤ length (join_with_byte 32 found)
+pub words_small : (found : List (List ℕ)) (step : Step) → AreStepWords found step → step_size step ≤ length (join_with_byte 32 found)
 words_small [] step h = absurd h
 words_small (side ∷ []) step h = absurd h
 words_small (side ∷ verb ∷ rest) (Negotiate at ops apply) h =

@@ -27,6 +27,7 @@ pub use cutting::{cut_lines, cut_parts, cut_words};
 pub use directions::read_direction;
 pub use kinds::read_kind;
 pub use labels::read_bytes;
+pub use lines::{read_step, read_step_words};
 pub use numbers::{read_long, read_one, read_two, read_two_long, read_u32, read_u64};
 pub use reading::read_script;
 pub use script::Script;

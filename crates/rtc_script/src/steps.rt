@@ -4,7 +4,7 @@ ghost use Rattle.rtc_script.specs.Script.{HaveSteps};
 ghost use Rattle.rtc_script.specs.Steps.{IsStepsError};
 ghost use Rattle.rtc_script.specs.declared.steps.StepsError.TheVariants.{Alloc};
 
-use crate::lines::read_line;
+use crate::lines::read_step;
 use rtc_run_history::Step;
 use std::alloc::{AllocError, AllocFailed, Global};
 
@@ -39,7 +39,7 @@ pub fn read_steps(alloc: Global, lines: &[&[u8]]) -> Result<Vec<Step>, StepsErro
 {
     let mut steps = Vec::new(alloc);
     for (i, line) in lines.iter().enumerate() {
-        let Some(step) = read_line(alloc, line)? else {
+        let Some(step) = read_step(alloc, line)? else {
             return Err(StepsError::NotStep(i));
         };
         steps.push(step)?;

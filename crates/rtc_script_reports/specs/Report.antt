@@ -17,6 +17,10 @@ abbrev pub table_lines : Option Table → List ℕ
 table_lines None = []
 table_lines (Some table) = row_lines table.lines ++ channel_lines table.channels
 
+-- the text of a reply, from the words of its outcome on
+abbrev pub reply_text : Reply PlainMediaEvent → List ℕ
+reply_text reply = outcome_text reply.outcome ++ codes "\n" ++ polled_lines reply.outcome ++ table_lines reply.table
+
 -- the line of a step: its number, its side and its outcome
 unfoldable pub step_line : {E : Type 0} → ℕ → Step → Outcome E → List ℕ
 step_line number step outcome =

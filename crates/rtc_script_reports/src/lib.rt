@@ -14,4 +14,4 @@ mod rows;
 mod words;
 
 pub use laws::reports_tell_replies;
-pub use reports::write_report;
+pub use reports::{write_reply, write_report};

@@ -1,7 +1,7 @@
 //! Whole reports.
 ghost use Rattle.std.specs.Prelude.{◌≡◌, ◌++◌, OnOk, IfOk, string_bytes};
 ghost use Rattle.rtc_script_reports.specs.Fits.{AreFit, FitsReply, FitsTable, FitsWords};
-ghost use Rattle.rtc_script_reports.specs.Report.{table_lines, step_line, step_lines, report};
+ghost use Rattle.rtc_script_reports.specs.Report.{table_lines, reply_text, step_line, step_lines, report};
 
 use crate::channels::push_channels;
 use crate::outcomes::push_outcome;
@@ -11,6 +11,7 @@ use crate::rows::push_rows;
 use crate::words::side_word;
 use rtc_plain_media::PlainMediaEvent;
 use rtc_run_history::{Outcome, Reply, Step, Table};
+use rtc_wire::Bytes;
 use std::alloc::{AllocError, Global};
 
 fn push_table(out: &mut String, table: &Option<Table>) -> Result<(), AllocError>
@@ -57,6 +58,33 @@ fn push_step(
     push_step_line(out, number, step, &reply.outcome)?;
     push_polled(alloc, out, &reply.outcome)?;
     push_table(out, &reply.table)
+}
+
+fn push_reply(
+    alloc: Global,
+    out: &mut String,
+    reply: &Reply<PlainMediaEvent>,
+) -> Result<(), AllocError>
+    ensures { OnOk result (string_bytes out.new ≡ string_bytes out.old ++ reply_text reply.now) }
+{
+    push_outcome(out, &reply.outcome)?;
+    out.push_str("\n")?;
+    push_polled(alloc, out, &reply.outcome)?;
+    push_table(out, &reply.table)
+}
+
+/// The text of a step's reply, from the words of its outcome on: these, what its polls gave, and the lines and channels of the peer that
+/// acted.
+pub fn write_reply(
+    alloc: Global,
+    _step: &Step,
+    reply: &Reply<PlainMediaEvent>,
+) -> Result<Bytes, AllocError>
+    ensures { IfOk result (λ text. text ≡ reply_text reply.now) }
+{
+    let mut out = String::new(alloc);
+    push_reply(alloc, &mut out, reply)?;
+    Ok(Bytes::new(out.into_bytes()))
 }
 
 /// The report of steps and their replies: a line for each reply, followed by what its polls gave, and by the lines and channels of the

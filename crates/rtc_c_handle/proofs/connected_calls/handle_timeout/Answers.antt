@@ -1,0 +1,7 @@
+use Rattle.std.proofs.Common.{Some, ap, sym, ◌∙◌}
+use Rattle.rtc_c_handle.specs.Calls.{IsCalled}
+use Rattle.rtc_c_handle.specs.declared.held.Held.{Held}
+use Rattle.rtc_c_handle.proofs.connected_calls.handle_timeout.Goals as goal
+
+pub returns-in-Some : goal.returns-in-Some
+returns-in-Some c = IsCalled c.deref_mut.result.now c.handle_timeout-status.new.self (sym c.in-Some.ensures.value ∙ ap (λ (held : Held). Some held) (sym c.deref_mut.ensures.value)) c.of_box.ensures c.handle_timeout-status.ensures

@@ -1,0 +1,14 @@
+pub mod Calls
+pub mod ChannelSettings
+pub mod Negotiation
+pub mod Numbers
+pub mod Outputs
+pub mod Owned
+pub mod PlainPeer
+pub mod Rows
+pub mod Settings
+pub mod Statuses
+pub mod StatusTexts
+pub mod Transport
+pub mod WantedChanges
+pub mod WantedReads

@@ -1,0 +1,16 @@
+-- Peers over the parts in memory.
+use Rattle.std.specs.Prelude.{ℕ}
+use Rattle.rtc_plain_ice.specs.Contents.{IceContents}
+use Rattle.rtc_plain_dtls.specs.Contents.{DtlsContents}
+use Rattle.rtc_plain_media.specs.MediaContents.{MediaContents}
+use Rattle.rtc_assoc_state.specs.Contents.{Contents}
+use Rattle.rtc_peer_core.specs.declared.peer.Peer.{Peer}
+use Rattle.rtc_peer_transport.specs.declared.polled_peer.PolledPeer.{PolledPeer}
+
+-- a peer over the parts in memory, as negotiation sees it
+abbrev pub PlainPeer : Type 0
+PlainPeer = Peer IceContents DtlsContents Contents MediaContents ℕ
+
+-- the same with its connection
+abbrev pub HeldRtc : Type 0
+HeldRtc = PolledPeer IceContents DtlsContents Contents MediaContents ℕ
