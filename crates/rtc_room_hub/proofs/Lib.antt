@@ -1,0 +1,9 @@
+mod Addressed
+mod SentQueues
+mod HeardMembers
+mod RoomMoves
+mod RoomWithin
+mod RoomSoFar
+mod SentSoFar
+mod PerformedHere
+mod TakenSteps
