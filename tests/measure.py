@@ -2,7 +2,7 @@
 """Counts instructions of the proved programs by valgrind --tool=callgrind, so that growth is seen. It is no part of the gate.
 
 usage: tests/measure.py [PART..]     PART is descriptions, rounds, orderly, associations, streams, channels, boundary, forged, lookups,
-frames, polls, connecting or demos; without one all are counted
+frames, polls, connecting, demos, room or forwarding; without one all are counted
 
 The programs are those that the gate left in crates/*/out/. Each figure is a difference of two runs, so that the start of the
 program is not in it. docs/PERFORMANCE.md has the tables.
@@ -305,11 +305,81 @@ def demos():
         print(f"| {rounds} | {cost - start:,} | {(cost - start) // lines:,} | {min(times):.3f} s | {memory(words):,} KiB |")
 
 
+# What connects a member of a room and opens its line, the number of the member aside: the datagrams of both peers are numbered together.
+JOINING = "do R offer channel:61|do L accept 0|do R answer 0 1|TURN|do R datagram 0 0|arrive 1 0|TURN|do R datagram 2 0|arrive 3 0|TURN"
+JOINING += "|arrive 4 0|TURN|do R datagram 5 0|TURN|arrive 6 0|arrive 7 0|TURN|do R datagram 8 0|TURN|arrive 9 0|TURN"
+JOINING += "|do R datagram 10 0|do R datagram 11 0|TURN|arrive 12 0|TURN"
+# Both peers of the member are given a moment and drained.
+TURN = "do L time 0|do L drain|do R time 0|do R drain"
+# It says something, which the hub hears and acknowledges.
+SAYING = "do R write 0 text 6869|TURN|arrive 13 0|TURN|do R datagram 14 0|TURN"
+
+
+# Members of rooms, each of whom connects, says something once, and is sent what each other one of its room said.
+def room_script(members, rooms):
+    lines = ["str0m-room 1"] + [f"join {k % rooms}" for k in range(members)]
+    for part in (JOINING, SAYING):
+        for k in range(members):
+            lines += [f"{k} {step}" for step in part.replace("TURN", TURN).split("|")]
+    for k in range(members):
+        others = members // rooms - 1
+        heard = [f"do R datagram {15 + i} 0" for i in range(others)]
+        lines += [f"{k} {step}" for step in ["forward", "do L time 0", "do L drain", *heard, "do R drain"]]
+    return "".join(f"{line}\n" for line in lines).encode()
+
+
+def room():
+    print("| Members | Rooms | Bytes of the script | Wall time | Greatest memory |\n|---|---|---|---|---|")
+    for members, rooms in ((32, 2), (256, 16)):
+        words, given = [program("rtc_room"), "run"], room_script(members, rooms)
+        if len(given) > 1_048_576:
+            sys.exit("measure: the script of rooms is too long")
+        times = []
+        for _ in range(5):
+            begin = time.perf_counter()
+            report = subprocess.run(words, input=given, capture_output=True, check=True).stdout
+            times.append(time.perf_counter() - begin)
+        heard = report.count(b"out event data 0 binary ")
+        if heard != members * (members // rooms - 1) or b"nomember" in report or b"putout" in report:
+            sys.exit(f"measure: the members of rooms heard {heard} messages")
+        print(f"| {members} | {rooms} | {len(given):,} | {min(times):.3f} s | {memory(words, given):,} KiB |")
+
+
+# Messages of member 0 that member 1 is sent, in batches. All are acknowledged at once. Further members are in rooms of their own.
+def forwarding_script(members, batches):
+    lines = ["str0m-room 1", "join 0", "join 0"] + [f"join {k}" for k in range(2, members)]
+    lines += [f"{k} {step}" for k in range(2) for step in JOINING.replace("TURN", TURN).split("|")]
+    packet = 13
+    for number, size in enumerate(batches):
+        there, back = range(packet, packet + size), range(packet + size, packet + 2 * size)
+        lines += ["0 do R write 0 text 68"] * size + ["0 do R drain", *(f"0 arrive {p} 0" for p in there), "0 do L drain"]
+        lines += [f"0 do R datagram {p} 0" for p in back]
+        if number < len(batches) - 1:
+            lines += ["1 forward", "1 do L drain", *(f"1 do R datagram {p} 0" for p in there), "1 do R drain"]
+            lines += [f"1 arrive {p} 0" for p in back]
+        packet += 2 * size
+    return "".join(f"{line}\n" for line in lines).encode()
+
+
+# A forward of ten messages, with few and with many members, and after few and after many messages.
+def forwarding():
+    print("| Members | Messages before | A forward of ten |\n|---|---|---|")
+    for members, before in ((2, [10]), (256, [10]), (2, [500] * 20)):
+        given = forwarding_script(members, before + [10])
+        if len(given) > 1_048_576:
+            sys.exit("measure: the script of forwards is too long")
+        words = [program("rtc_room"), "run"]
+        (without, _), (cost, report) = count(words, given), count(words, given + b"1 forward\n")
+        if not report.endswith(b" forwarded 10\n") or report.count(b" forwarded ") != len(before) + 1:
+            sys.exit("measure: the messages are not forwarded")
+        print(f"| {members} | {sum(before):,} | {cost - without:,} |")
+
+
 def main():
     parts = {
         "descriptions": descriptions, "rounds": rounds, "orderly": orderly, "associations": associations,
         "streams": streams, "channels": channels, "boundary": boundary, "forged": forged, "lookups": lookups, "frames": frames, "polls": polls,
-        "connecting": connecting, "demos": demos,
+        "connecting": connecting, "demos": demos, "room": room, "forwarding": forwarding,
     }
     wanted = sys.argv[1:] or list(parts)
     if any(name not in parts for name in wanted):

@@ -7,7 +7,7 @@ import time
 from concurrent.futures import ThreadPoolExecutor
 
 TOP = os.path.dirname(os.path.dirname(os.path.abspath(__file__)))
-NAMES = ["rtc_pair", "rtc_sdp_text", "rtc_gate", "rtc_files"]
+NAMES = ["rtc_pair", "rtc_room", "rtc_sdp_text", "rtc_gate", "rtc_files"]
 CASES = 5
 
 # The folder of programs that are compiled and not proved, if these are to be tried.

@@ -4,10 +4,11 @@ each. tests/run does so over the programs as both compilers build them.
 
 usage: tests/stored_examples.py
 
-- `PATH.script` of examples/ and tests/data/scripts/ is performed by `rtc_pair run`, and gives `PATH.report`.
+- `PATH.script` of examples/ and tests/data/scripts/ is performed by `rtc_pair run`, or by `rtc_room run` if it begins with the header of
+  a room, and gives `PATH.report`.
 - `NAME.orderly` of tests/data/scripts/orderly/ goes round by round. The list `rounds` there says how many of its steps accept an
   answer, and each of them is finished.
-- `PATH.script` of tests/data/gate/ is performed by `rtc_gate run`, and gives `PATH.report`.
+- `PATH.script` of tests/data/gate/ is performed by `rtc_gate run`, and gives `PATH.report`, and one of tests/data/room/ by `rtc_room run`.
 - `PATH.sdp` of tests/data/descriptions/ is read and written again by `rtc_sdp_text offer`, as `PATH.expected` says: `refused N`; or
   `read`, and behind it lines `has LINE`, which stands once in what is written, and `lacks FRONT`, by which no line begins.
 """
@@ -50,10 +51,15 @@ def script_status(report):
     return 3 if report.startswith(b"script refused at line ") else 0
 
 
+# The program that performs a script: a header tells rooms apart.
+def performer(name, script):
+    return "rtc_room" if script.startswith(b"str0m-room ") else name
+
+
 def reports(name, folder):
     for stem in stems(folder, ".script", ".report"):
         script, report = read(f"{stem}.script"), read(f"{stem}.report")
-        for program in builds(name):
+        for program in builds(performer(name, script)):
             yield stem, perform(program, "run", script) == (script_status(report), report)
 
 
@@ -103,7 +109,8 @@ def descriptions():
 def results():
     scripts = [os.path.join(TOP, "examples"), os.path.join(DATA, "scripts")]
     tables = [*(reports("rtc_pair", folder) for folder in scripts), orderly()]
-    for table in [*tables, reports("rtc_gate", os.path.join(DATA, "gate")), descriptions()]:
+    others = [reports(name, os.path.join(DATA, name.removeprefix("rtc_"))) for name in ("rtc_gate", "rtc_room")]
+    for table in [*tables, *others, descriptions()]:
         for path, agrees in table:
             if not agrees:
                 print(f"WRONG {os.path.relpath(path, TOP) if os.path.isabs(path) else path}")

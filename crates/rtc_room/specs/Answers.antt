@@ -1,0 +1,42 @@
+-- What the program does and returns.
+use Rattle.std.specs.Prelude.{◌≡◌, ℕ, List, codes, Option}
+use Rattle.std.specs.Io.KnownBytes.{Appends}
+use Rattle.std.specs.declared.alloc.Global.{Global}
+use Rattle.rtc_io.specs.Programs.{Program, ReadsInput}
+use Rattle.rtc_run_plain.specs.ProgramPair.{PlainPairState}
+use Rattle.rtc_room_hub.specs.RoomRuns.{RoomRuns}
+use Rattle.rtc_room_hub.specs.declared.room_reply.RoomReply.{RoomReply}
+use Rattle.rtc_room_hub.specs.declared.room_step.RoomStep.{RoomStep}
+use Rattle.rtc_room.specs.RoomReport.{room_report}
+use Rattle.rtc_room.specs.RoomScript.{IsRoomScript, IsRefusedScript}
+use Rattle.rtc_room.specs.declared.script_error.ScriptError.TheVariants.{Line}
+
+-- This text is the report of a room that was empty over these steps.
+pub record IsRoomReport (alloc : Global) (steps : List RoomStep) (text : List ℕ) : Type 0 where
+  pub replies : List RoomReply
+  pub pairs : List PlainPairState
+  pub runs : RoomRuns alloc steps replies pairs
+  pub is : text ≡ room_report replies
+
+-- the texts of the program: it reads scripts, and prints for each the report of its steps
+abbrev pub room_program : Global → Program (List RoomStep)
+room_program alloc = record {
+  usage = codes "usage: rtc_room run\n";
+  subject = codes "script";
+  IsRead = IsRoomScript;
+  IsRefusedAt = λ bytes line. IsRefusedScript bytes (Line line);
+  IsAnswer = IsRoomReport alloc;
+}
+
+-- A room that was empty took these steps, and the report of its replies was written.
+pub record WritesReport (alloc : Global) (steps : List RoomStep) (written written' : Option (List ℕ)) : Type 0 where
+  pub replies : List RoomReply
+  pub pairs : List PlainPairState
+  pub runs : RoomRuns alloc steps replies pairs
+  pub told : Appends written written' (room_report replies)
+
+-- A script was read to the end of the input, and its steps were taken.
+pub record RunsRoomScript (alloc : Global) (left left' written written' : Option (List ℕ)) : Type 0 where
+  pub steps : List RoomStep
+  pub read : ReadsInput left left' (λ bytes. IsRoomScript bytes steps)
+  pub writes : WritesReport alloc steps written written'

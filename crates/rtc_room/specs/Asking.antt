@@ -1,0 +1,8 @@
+-- The words of the command line.
+use Rattle.std.specs.Prelude.{ℕ, Bool, false, List, [], ◌∷◌, codes}
+use Rattle.std.specs.Str.{bytes_eq}
+
+-- the words are one, `run`
+abbrev pub asks_to_run : List (List ℕ) → Bool
+asks_to_run (word ∷ []) = bytes_eq word (codes "run")
+asks_to_run _ = false

@@ -1,0 +1,6 @@
+pub mod Answers
+pub mod Asking
+pub mod LinesRead
+pub mod RoomLines
+pub mod RoomReport
+pub mod RoomScript
