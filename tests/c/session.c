@@ -34,7 +34,7 @@ void __wrap_free(void *at) {
     __real_free(at);
 }
 
-/* Ends the session that makes the call at a status that is not the expected one. */
+/* Returns the status of a call from the calling function, if it is not the expected one. */
 #define MUST(call) do { uint32_t status = call; if (status != GONDYRU_DONE) return status; } while (0)
 #define REFUSES(expected, call) do { uint32_t status = call; if (status != expected) return status ? status : GONDYRU_NO_ROW; } while (0)
 
