@@ -70,10 +70,14 @@ impl PlainAssociation {
     pub(crate) fn buffered(&self, id: u16) -> usize
         ensures { result ≡ buffered_of self.now id }
     {
-        if !self.has(id) {
+        let amount = amount_in(&self.amounts, id);
+        if amount == 0 {
             return 0;
         }
-        amount_in(&self.amounts, id)
+        if self.has(id) {
+            return amount;
+        }
+        0
     }
 
     /// Whether a message of so many bytes is longer than the other end takes. One that is not has fewer than 2^32.
