@@ -5,7 +5,7 @@ ghost use Rattle.rtc_assoc_packets.specs.Headers.{item_with};
 ghost use Rattle.rtc_assoc_packets.specs.declared.item_part.ItemPart.TheVariants.{More, Last, Close};
 ghost use Rattle.rtc_assoc_state.specs.declared.close_state.CloseState.TheVariants.{Unclosed};
 ghost use Rattle.rtc_assoc_state.specs.Streams.{put, reset_row};
-ghost use Rattle.rtc_assoc_state.specs.StreamTable.{SoundTable, HasRowRoom, stream_rows};
+ghost use Rattle.rtc_assoc_state.specs.StreamTable.{SoundTable, HasPlaceRoom};
 ghost use Rattle.rtc_assoc_state.specs.Contents.{is_ending};
 ghost use Rattle.rtc_assoc_state.specs.Calls.{answered, item_counted, more_kept, last_kept, piece_came};
 ghost use Rattle.rtc_assoc_state.specs.Calls.{close_came_at, finished, reset_told};
@@ -29,15 +29,14 @@ fn count_item(
     answer: Packet,
 )
     requires number { received.old + 1 < 2 ^ 64 }
-    requires sound { SoundTable (stream_rows streams.old.states streams.old.generations.items) streams.old.places streams.old.at_last }
-    requires rows { vec_len streams.old.generations < vec_capacity streams.old.generations }
-    requires place { HasRowRoom row.stream (stream_rows streams.old.states streams.old.generations.items)
-        streams.old.places streams.old.states }
+    requires sound { SoundTable streams.old.rows.items streams.old.places streams.old.at_last }
+    requires rows { vec_len streams.old.rows < vec_capacity streams.old.rows }
+    requires place { HasPlaceRoom row.stream streams.old.places }
     requires room { deque_len packets.old < deque_capacity packets.old }
     ensures received { received.new ≡ received.old + 1 }
-    ensures streams { stream_rows streams.new.states streams.new.generations.items
-        ≡ put row (stream_rows streams.old.states streams.old.generations.items) }
-    ensures sound { SoundTable (stream_rows streams.new.states streams.new.generations.items) streams.new.places streams.new.at_last }
+    ensures streams { streams.new.rows.items
+        ≡ put row streams.old.rows.items }
+    ensures sound { SoundTable streams.new.rows.items streams.new.places streams.new.at_last }
     ensures packets { packets.new.items ≡ packets.old.items ++ answer ∷ [] }
 {
     *received += 1;

@@ -40,7 +40,6 @@ pub struct PlainAssociation {
 
 impl Model for PlainAssociation {
     ghost use Rattle.rtc_assoc_state.specs.Contents.{Contents};
-    ghost use Rattle.rtc_assoc_state.specs.StreamTable.{stream_rows};
     ghost use Rattle.rtc_assoc_end.specs.SoundContents.{SoundContents};
 
     ghost Value = { Contents };
@@ -51,7 +50,7 @@ impl Model for PlainAssociation {
       clock = a.clock;
       outbox = record { acked = a.acked; items = a.items.items };
       inbox = record { received = a.received; parts = a.parts; unread = a.unread; ahead = a.ahead };
-      streams = stream_rows a.streams.states a.streams.generations.items;
+      streams = a.streams.rows.items;
       events = a.events.items;
       packets = a.packets.items;
     } };
@@ -59,7 +58,7 @@ impl Model for PlainAssociation {
     ghost use Rattle.std.specs.VecDeque.{deque_len};
 
     ghost invariant = { λ a. SoundContents a.limits.max_payload a.acked (deque_len a.items) a.amounts a.items.items
-        (stream_rows a.streams.states a.streams.generations.items) a.streams.places a.streams.at_last };
+        a.streams.rows.items a.streams.places a.streams.at_last };
 }
 
 // Written out, so that the proof of what owns an association sees one call and not the drop of each field.

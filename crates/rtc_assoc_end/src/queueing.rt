@@ -8,7 +8,7 @@ ghost use Rattle.rtc_assoc_packets.specs.Packets.{frame_in, data_bytes, acknowle
 ghost use Rattle.rtc_assoc_packets.specs.Pieces.{close_of};
 ghost use Rattle.rtc_assoc_state.specs.Amounts.{amount_of};
 ghost use Rattle.rtc_assoc_state.specs.Inbox.{without_part, without_messages};
-ghost use Rattle.rtc_assoc_state.specs.StreamTable.{SoundTable, HasRowRoom, stream_rows};
+ghost use Rattle.rtc_assoc_state.specs.StreamTable.{SoundTable, HasPlaceRoom};
 
 use rtc_assoc_packets::{Outgoing, Packet};
 use rtc_assoc_state::{Parts, StreamRow, StreamTable, Unread, append_all, enqueue, raise};
@@ -25,15 +25,15 @@ pub(crate) fn make_ready(
     events: &mut VecDeque<AssocEvent>,
     packets: &mut VecDeque<Packet>,
 ) -> Result<Packet, AllocError>
-    requires { SoundTable (stream_rows streams.old.states streams.old.generations.items) streams.old.places streams.old.at_last }
+    requires { SoundTable streams.old.rows.items streams.old.places streams.old.at_last }
     ensures bytes { IfOk result (λ answer. answer ≡ acknowledgement_bytes number) }
     ensures reads { OnOk result (frame_in (acknowledgement_bytes number) ≡ Some (Acknowledgement number)) }
-    ensures rows { stream_rows streams.new.states streams.new.generations.items
-        ≡ stream_rows streams.old.states streams.old.generations.items }
-    ensures sound { SoundTable (stream_rows streams.new.states streams.new.generations.items) streams.new.places streams.new.at_last }
-    ensures row { OnOk result (vec_len streams.new.generations < vec_capacity streams.new.generations) }
+    ensures rows { streams.new.rows.items
+        ≡ streams.old.rows.items }
+    ensures sound { SoundTable streams.new.rows.items streams.new.places streams.new.at_last }
+    ensures row { OnOk result (vec_len streams.new.rows < vec_capacity streams.new.rows) }
     ensures place { OnOk result
-        (HasRowRoom id (stream_rows streams.new.states streams.new.generations.items) streams.new.places streams.new.states) }
+        (HasPlaceRoom id streams.new.places) }
     ensures events { events.new.items ≡ events.old.items }
     ensures event_room { OnOk result (deque_len events.new + 2 ≤ deque_capacity events.new) }
     ensures packets { packets.new.items ≡ packets.old.items }

@@ -1,6 +1,6 @@
 pub mod Firsts
 pub mod RowLemmas
-pub mod StateLemmas
+pub mod PlaceLemmas
 pub mod TableLemmas
 pub mod AmountLemmas
 pub mod InboxLemmas

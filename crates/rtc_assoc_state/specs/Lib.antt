@@ -1,5 +1,6 @@
 pub mod MessagePart
 pub mod Streams
+pub mod Places
 pub mod StreamTable
 pub mod Inbox
 pub mod Outbox

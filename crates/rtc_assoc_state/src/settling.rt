@@ -3,7 +3,7 @@ ghost use Rattle.std.specs.Prelude.{◌≡◌, ◌+◌, ◌≤◌, ◌<◌, List
 ghost use Rattle.rtc_assoc_packets.specs.declared.item.Item.{Item};
 ghost use Rattle.std.specs.VecDeque.{deque_len, deque_capacity};
 ghost use Rattle.rtc_assoc_state.specs.Amounts.{Agree};
-ghost use Rattle.rtc_assoc_state.specs.StreamTable.{SoundTable, stream_rows};
+ghost use Rattle.rtc_assoc_state.specs.StreamTable.{SoundTable};
 ghost use Rattle.rtc_assoc_state.specs.Streams.{stream_of, is_unclosed};
 ghost use Rattle.rtc_assoc_state.specs.declared.close_state.CloseState.TheVariants.{Queued};
 ghost use Rattle.rtc_part_association.specs.declared.assoc_event.AssocEvent.TheVariants.{BufferedAmountLow};
@@ -30,11 +30,11 @@ fn is_reached(threshold: Option<usize>, before: usize, after: usize) -> bool
 /// This end's close of a stream, which was queued, was acknowledged.
 fn settle_queued(mut row: StreamRow, streams: &mut StreamTable, events: &mut VecDeque<AssocEvent>)
     requires room { deque_len events.old < deque_capacity events.old }
-    requires sound { SoundTable (stream_rows streams.old.states streams.old.generations.items) streams.old.places streams.old.at_last }
-    requires queued { is_unclosed (stream_of row.stream (stream_rows streams.old.states streams.old.generations.items)).close ≡ false }
-    ensures told { told_of (stream_rows streams.new.states streams.new.generations.items) events.new.items
-        ≡ close_settled Queued row (told_of (stream_rows streams.old.states streams.old.generations.items) events.old.items) }
-    ensures sound { SoundTable (stream_rows streams.new.states streams.new.generations.items) streams.new.places streams.new.at_last }
+    requires sound { SoundTable streams.old.rows.items streams.old.places streams.old.at_last }
+    requires queued { is_unclosed (stream_of row.stream streams.old.rows.items).close ≡ false }
+    ensures told { told_of streams.new.rows.items events.new.items
+        ≡ close_settled Queued row (told_of streams.old.rows.items events.old.items) }
+    ensures sound { SoundTable streams.new.rows.items streams.new.places streams.new.at_last }
     ensures len { deque_len events.new ≤ deque_len events.old + 1 }
     ensures capacity { deque_capacity events.old ≤ deque_capacity events.new }
 {
@@ -50,11 +50,11 @@ fn settle_queued(mut row: StreamRow, streams: &mut StreamTable, events: &mut Vec
 /// This end's close of a stream was acknowledged.
 fn settle_close(stream: u16, streams: &mut StreamTable, events: &mut VecDeque<AssocEvent>)
     requires room { deque_len events.old < deque_capacity events.old }
-    requires sound { SoundTable (stream_rows streams.old.states streams.old.generations.items) streams.old.places streams.old.at_last }
-    ensures sound { SoundTable (stream_rows streams.new.states streams.new.generations.items) streams.new.places streams.new.at_last }
-    ensures told { told_of (stream_rows streams.new.states streams.new.generations.items) events.new.items
-        ≡ (let row = stream_of stream (stream_rows streams.old.states streams.old.generations.items) in
-        close_settled row.close row (told_of (stream_rows streams.old.states streams.old.generations.items) events.old.items)) }
+    requires sound { SoundTable streams.old.rows.items streams.old.places streams.old.at_last }
+    ensures sound { SoundTable streams.new.rows.items streams.new.places streams.new.at_last }
+    ensures told { told_of streams.new.rows.items events.new.items
+        ≡ (let row = stream_of stream streams.old.rows.items in
+        close_settled row.close row (told_of streams.old.rows.items events.old.items)) }
     ensures len { deque_len events.new ≤ deque_len events.old + 1 }
     ensures capacity { deque_capacity events.old ≤ deque_capacity events.new }
 {
@@ -74,9 +74,9 @@ fn settle_piece(
     events: &mut VecDeque<AssocEvent>,
 )
     requires room { deque_len events.old < deque_capacity events.old }
-    requires sound { SoundTable (stream_rows streams.now.states streams.now.generations.items) streams.now.places streams.now.at_last }
+    requires sound { SoundTable streams.now.rows.items streams.now.places streams.now.at_last }
     ensures items { events.new.items
-        ≡ (if reaches (stream_of stream (stream_rows streams.now.states streams.now.generations.items)).threshold before after
+        ≡ (if reaches (stream_of stream streams.now.rows.items).threshold before after
         then events.old.items ++ BufferedAmountLow stream ∷ [] else events.old.items) }
     ensures len { deque_len events.new ≤ deque_len events.old + 1 }
     ensures capacity { deque_capacity events.old ≤ deque_capacity events.new }
@@ -95,12 +95,12 @@ fn settle_item(
     events: &mut VecDeque<AssocEvent>,
 )
     requires room { deque_len events.old < deque_capacity events.old }
-    requires sound { SoundTable (stream_rows streams.old.states streams.old.generations.items) streams.old.places streams.old.at_last }
+    requires sound { SoundTable streams.old.rows.items streams.old.places streams.old.at_last }
     ensures told { (behind : List Item) → Agree amounts.old (item.now ∷ behind)
-        → told_of (stream_rows streams.new.states streams.new.generations.items) events.new.items
-        ≡ item_settled item.now behind (told_of (stream_rows streams.old.states streams.old.generations.items) events.old.items) }
+        → told_of streams.new.rows.items events.new.items
+        ≡ item_settled item.now behind (told_of streams.old.rows.items events.old.items) }
     ensures agree { (behind : List Item) → Agree amounts.old (item.now ∷ behind) → Agree amounts.new behind }
-    ensures sound { SoundTable (stream_rows streams.new.states streams.new.generations.items) streams.new.places streams.new.at_last }
+    ensures sound { SoundTable streams.new.rows.items streams.new.places streams.new.at_last }
     ensures len { deque_len events.new ≤ deque_len events.old + 1 }
     ensures capacity { deque_capacity events.old ≤ deque_capacity events.new }
 {
@@ -127,12 +127,12 @@ pub fn settle(
     requires count { count ≤ deque_len items.old }
     requires room { deque_len events.old + count ≤ deque_capacity events.old }
     requires agree { Agree amounts.old items.old.items }
-    requires sound { SoundTable (stream_rows streams.old.states streams.old.generations.items) streams.old.places streams.old.at_last }
-    ensures told { told_of (stream_rows streams.new.states streams.new.generations.items) events.new.items
-        ≡ settled count items.old.items (told_of (stream_rows streams.old.states streams.old.generations.items) events.old.items) }
+    requires sound { SoundTable streams.old.rows.items streams.old.places streams.old.at_last }
+    ensures told { told_of streams.new.rows.items events.new.items
+        ≡ settled count items.old.items (told_of streams.old.rows.items events.old.items) }
     ensures items { items.new.items ≡ drop count items.old.items }
     ensures agree { Agree amounts.new items.new.items }
-    ensures sound { SoundTable (stream_rows streams.new.states streams.new.generations.items) streams.new.places streams.new.at_last }
+    ensures sound { SoundTable streams.new.rows.items streams.new.places streams.new.at_last }
 {
     for _ in 0..count {
         let Some(item) = items.pop_front() else {

@@ -1,11 +1,8 @@
 //! What an end knows of a stream.
 ghost use Rattle.std.specs.Prelude.{◌≡◌, ◌<◌};
 ghost use Rattle.rtc_assoc_state.specs.Streams.{is_closed_here, takes_messages, reset_row, is_at_last_generation};
-ghost use Rattle.rtc_assoc_state.specs.StreamTable.{generation_in, state_in_row};
 
 use crate::close_state::CloseState;
-use crate::stream_generation::StreamGeneration;
-use crate::stream_state::StreamState;
 
 /// What an end knows of a stream, also of one that is gone: its generation is kept.
 #[derive(Clone, Copy, Debug, PartialEq, Eq)]
@@ -33,28 +30,6 @@ impl StreamRow {
             close: CloseState::Unclosed,
             finished: false,
             threshold: None,
-        }
-    }
-
-    /// How many resets were completed, with the stream.
-    pub fn reset_count(&self) -> StreamGeneration
-        ensures { result ≡ generation_in self.now }
-    {
-        StreamGeneration {
-            stream: self.stream,
-            generation: self.generation,
-        }
-    }
-
-    /// What is kept beside the generation, until the stream is gone.
-    pub fn state(&self) -> StreamState
-        ensures { result ≡ state_in_row self.now }
-    {
-        StreamState {
-            there: self.there,
-            close: self.close,
-            finished: self.finished,
-            threshold: self.threshold,
         }
     }
 

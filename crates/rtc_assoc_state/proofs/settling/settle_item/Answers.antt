@@ -1,5 +1,4 @@
 use Rattle.std.proofs.Common.{sym, ap, ◌∙◌, length}
-use Rattle.rtc_assoc_state.specs.StreamTable.{stream_rows}
 use Rattle.rtc_assoc_state.proofs.AmountLemmas.{agree-lent}
 use Rattle.rtc_assoc_state.proofs.SettlingLemmas.{item_settled-More, item_settled-Last, settled-piece, settled-close}
 use Rattle.rtc_assoc_state.proofs.settling.settle_item.Goals as goal
@@ -10,7 +9,7 @@ returns-in-Close-clause-told c = λ behind agree.
 
 pub returns-in-More-clause-told : goal.returns-in-More-clause-told
 returns-in-More-clause-told c = λ behind agree.
-    settled-piece c.item-item.result.now c.args.item.now behind c.args.amounts.now c.lower.new.amounts (stream_rows c.args.streams.now.states c.args.streams.now.generations.items) c.args.events.now.items _ _ _
+    settled-piece c.item-item.result.now c.args.item.now behind c.args.amounts.now c.lower.new.amounts c.args.streams.now.rows.items c.args.events.now.items _ _ _
     c.item-item.ensures.value agree
     (agree-lent c.args.amounts.now c.lower.new.amounts c.item-item.result.now c.args.item.now _ _ c.item-item.ensures.value (ap length c.as_slice.ensures) agree c.lower.ensures)
     c.amount_in-before.ensures
@@ -20,7 +19,7 @@ returns-in-More-clause-told c = λ behind agree.
 
 pub returns-in-Last-clause-told : goal.returns-in-Last-clause-told
 returns-in-Last-clause-told c = λ behind agree.
-    settled-piece c.item-item.result.now c.args.item.now behind c.args.amounts.now c.lower.new.amounts (stream_rows c.args.streams.now.states c.args.streams.now.generations.items) c.args.events.now.items _ _ _
+    settled-piece c.item-item.result.now c.args.item.now behind c.args.amounts.now c.lower.new.amounts c.args.streams.now.rows.items c.args.events.now.items _ _ _
     c.item-item.ensures.value agree
     (agree-lent c.args.amounts.now c.lower.new.amounts c.item-item.result.now c.args.item.now _ _ c.item-item.ensures.value (ap length c.as_slice.ensures) agree c.lower.ensures)
     c.amount_in-before.ensures

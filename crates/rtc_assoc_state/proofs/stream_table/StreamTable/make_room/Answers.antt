@@ -1,22 +1,18 @@
-use Rattle.std.proofs.Common.{sym, ap, subst, ◌∙◌}
-use Rattle.std.specs.Prelude.{IsSome, is_some}
-use Rattle.std.specs.Ordering.{nat_cmp}
-use Rattle.std.specs.BTreeMap.{get}
-use Rattle.rtc_assoc_state.specs.StreamTable.{stream_rows, stream_place}
+use Rattle.std.proofs.Common.{subst, sym, List}
+use Rattle.rtc_assoc_state.specs.declared.stream_row.StreamRow.{StreamRow}
+use Rattle.rtc_assoc_state.specs.StreamTable.{SoundTable}
+use Rattle.rtc_assoc_state.proofs.TableLemmas.{sound-same}
 use Rattle.rtc_assoc_state.proofs.stream_table.StreamTable.make_room.Goals as goal
 
-pub returns-then-contains_key-clause-place : goal.returns-then-contains_key-clause-place
-returns-then-contains_key-clause-place c =
-    let rows_is = ap (stream_rows c.make_state.new.states) c.in_ok-reserve.ensures.items ∙ c.in_ok-make_state.ensures.same c.args.self.now.generations.items in
-    record {
-      place = sym c.contains_key.ensures ∙ c.if-contains_key.true;
-      state = subst (λ n. IsSome (get nat_cmp c.make_state.new.states n)) (c.place_for-place.ensures ∙ ap (stream_place c.args.id) (sym rows_is)) c.in_ok-make_state.ensures.room;
-    }
+pub returns-in_err-make_room-clause-sound : goal.returns-in_err-make_room-clause-sound
+returns-in_err-make_room-clause-sound c = sound-same c.args.self.now.rows.items c.args.self.now.places c.make_room.new.self c.args.self.now.at_last c.requires c.make_room.ensures.same
 
-pub returns-clause-place : goal.returns-clause-place
-returns-clause-place c =
-    let rows_is = ap (stream_rows c.make_state.new.states) c.in_ok-reserve.ensures.items ∙ c.in_ok-make_state.ensures.same c.args.self.now.generations.items in
-    record {
-      place = ap is_some c.in_ok-insert.ensures.updates.1;
-      state = subst (λ n. IsSome (get nat_cmp c.make_state.new.states n)) (c.place_for-place.ensures ∙ ap (stream_place c.args.id) (sym rows_is)) c.in_ok-make_state.ensures.room;
-    }
+pub returns-in_err-reserve-clause-sound : goal.returns-in_err-reserve-clause-sound
+returns-in_err-reserve-clause-sound c =
+    subst (λ (l : List StreamRow). SoundTable l c.make_room.new.self c.args.self.now.at_last) (sym c.reserve.ensures.items)
+    (sound-same c.args.self.now.rows.items c.args.self.now.places c.make_room.new.self c.args.self.now.at_last c.requires c.make_room.ensures.same)
+
+pub returns-clause-sound : goal.returns-clause-sound
+returns-clause-sound c =
+    subst (λ (l : List StreamRow). SoundTable l c.make_room.new.self c.args.self.now.at_last) (sym c.reserve.ensures.items)
+    (sound-same c.args.self.now.rows.items c.args.self.now.places c.make_room.new.self c.args.self.now.at_last c.requires c.make_room.ensures.same)

@@ -1,35 +1,23 @@
 use Rattle.std.proofs.Common.{sym, ◌∙◌, arith}
-use Rattle.rtc_assoc_state.specs.StreamTable.{state_at, row_with, stream_rows}
 use Rattle.rtc_assoc_state.proofs.TableLemmas.{placed-none, placed-here, placed-other, placed-beyond, same_id, other_id}
-use Rattle.rtc_assoc_state.proofs.StateLemmas.{length-stream_rows, row_found}
 use Rattle.rtc_assoc_state.proofs.stream_table.StreamTable.place_of.Goals as goal
 
 pub returns-in_default : goal.returns-in_default
-returns-in_default c =
-    placed-none c.args.id (stream_rows c.args.self.now.states c.args.self.now.generations.items) c.args.self.now.places c.args.self.now.at_last c.requires
-    (sym (c.copied.ensures ∙ c.get.ensures.value) ∙ c.in_default.is)
+returns-in_default c = placed-none c.args.id c.args.self.now.rows.items c.args.self.now.places c.args.self.now.at_last c.requires (sym c.find.ensures ∙ c.in_default.is)
 
 pub returns-then-index-id : goal.returns-then-index-id
 returns-then-index-id c =
-    let row = row_with c.index.result.now (state_at c.in-Some.place c.args.self.now.states) in
-    let rows = stream_rows c.args.self.now.states c.args.self.now.generations.items in
-    placed-here c.args.id c.in-Some.place rows c.args.self.now.places c.args.self.now.at_last row row c.requires
-    (sym (c.copied.ensures ∙ c.get.ensures.value) ∙ c.in-Some.is)
-    (omega (arith, c.if-place-len.true, c.len.ensures, length-stream_rows c.args.self.now.states c.args.self.now.generations.items))
-    (row_found c.in-Some.place c.args.self.now.states c.args.self.now.generations.items c.index.result.now c.index.result.now row (omega (arith, c.if-place-len.true, c.len.ensures)) c.index.ensures)
+    placed-here c.args.id c.in-Some.place c.args.self.now.rows.items c.args.self.now.places c.args.self.now.at_last c.index.result.now c.index.result.now c.requires
+    (sym c.find.ensures ∙ c.in-Some.is) (omega (arith, c.if-place-len.true, c.len.ensures)) c.index.ensures
     (same_id c.index.result.now.stream c.args.id c.if-index-id.true)
 
 pub returns-else-index-id : goal.returns-else-index-id
 returns-else-index-id c =
-    let row = row_with c.index.result.now (state_at c.in-Some.place c.args.self.now.states) in
-    let rows = stream_rows c.args.self.now.states c.args.self.now.generations.items in
-    placed-other c.args.id c.in-Some.place rows c.args.self.now.places c.args.self.now.at_last row row c.requires
-    (sym (c.copied.ensures ∙ c.get.ensures.value) ∙ c.in-Some.is)
-    (row_found c.in-Some.place c.args.self.now.states c.args.self.now.generations.items c.index.result.now c.index.result.now row (omega (arith, c.if-place-len.true, c.len.ensures)) c.index.ensures)
+    placed-other c.args.id c.in-Some.place c.args.self.now.rows.items c.args.self.now.places c.args.self.now.at_last c.index.result.now c.index.result.now c.requires
+    (sym c.find.ensures ∙ c.in-Some.is) c.index.ensures
     (other_id c.index.result.now.stream c.args.id c.if-index-id.false)
 
 pub returns-else-place-len : goal.returns-else-place-len
 returns-else-place-len c =
-    placed-beyond c.args.id c.in-Some.place (stream_rows c.args.self.now.states c.args.self.now.generations.items) c.args.self.now.places c.args.self.now.at_last c.requires
-    (sym (c.copied.ensures ∙ c.get.ensures.value) ∙ c.in-Some.is)
-    (λ l. omega (arith, l, c.if-place-len.false, c.len.ensures, length-stream_rows c.args.self.now.states c.args.self.now.generations.items))
+    placed-beyond c.args.id c.in-Some.place c.args.self.now.rows.items c.args.self.now.places c.args.self.now.at_last c.requires
+    (sym c.find.ensures ∙ c.in-Some.is) (λ l. omega (arith, l, c.if-place-len.false, c.len.ensures))
