@@ -20,7 +20,8 @@ AreSettled (suc n) [] = ⊥
 AreSettled (suc n) (channel ∷ channels) = (is_settled channel ≡ true) × AreSettled n channels
 
 -- what a handler keeps fits together, so many of its channels are settled, and its pools have what can be given
-pub record AreKept (given settled : ℕ) (rows : List (ℕ × Option ℕ)) (kept : List Kept) (grants : BTreeMap ℕ Grant) (pools : Pools) : Type 0 where
+pub record AreKept (given settled : ℕ) (rows : List (ℕ × Option ℕ)) (kept : List Kept) (grants : BTreeMap ℕ Grant) (pools : Pools)
+    : Type 0 where
   pub handled : AreHandled given rows kept grants
   pub settled_first : AreSettled settled (channels_of rows kept)
   pub pools_are : ArePools grants pools

@@ -1,5 +1,6 @@
 //! The streams that channels are given (RFC 8832, section 6).
-ghost use Rattle.std.specs.Prelude.{◌≡◌, ◌<◌, ◌==◌, ◌||◌, true, false, not, is_some, filter, drop, length, map, slice_get, IfSome, OnOk, OnErr};
+ghost use Rattle.std.specs.Prelude.{◌≡◌, ◌<◌, ◌==◌, ◌||◌, true, false, not, is_some, filter, drop, length, map, slice_get};
+ghost use Rattle.std.specs.Prelude.{IfSome, OnOk, OnErr};
 ghost use Rattle.std.specs.List.{list_any};
 ghost use Rattle.rtc_channels.specs.Ids.{parity_of as ParityOf, all_ids};
 ghost use Rattle.rtc_channels.specs.Granted.{is_granted as IsGranted, stream_of_free};

@@ -62,7 +62,8 @@ impl Model for ChannelHandler {
       holds = holds_of handler.grants;
     } };
 
-    ghost invariant = { λ handler. AreKept handler.given handler.settled handler.rows.items handler.kept.items handler.grants handler.pools };
+    ghost invariant = { λ handler.
+        AreKept handler.given handler.settled handler.rows.items handler.kept.items handler.grants handler.pools };
 }
 
 // Written out, so that the proof of what owns the channels sees one call and not the drop of each field.

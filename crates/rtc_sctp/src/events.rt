@@ -152,8 +152,9 @@ fn apply_event(
     }
 }
 
-/// Does what an event does, if there is room for what it adds, and makes room for the next one, if there is memory for it: a poll with nothing
-/// to give then allocates nothing.
+/// Does what an event does, if there is room for what it adds.
+///
+/// Then it makes room for the next one, if there is memory for it, so that a poll with nothing to give allocates nothing.
 pub fn apply_event_with_room(
     event: AssocEvent,
     state: &mut RtcSctpState,
