@@ -15,7 +15,7 @@ use Rattle.rtc.specs.Texts.{LeavesUnread}
 
 -- the offer with each live line rejected that has no codec of a peer (RFC 3264, section 6); None if no live line is left
 abbrev pub left_by : List PayloadRow → Sdp → Option Sdp
-left_by rows offer = offer_rejecting (mids_without_codec rows offer.lines) offer
+left_by rows offer = offer_rejecting (mids_without_codec rows offer.groups offer.lines) offer
 
 abbrev pub left_of_offer : {I D S M N : Type 0} → Peer I D S M N → Sdp → Option Sdp
 left_of_offer p offer = left_by p.formats.codecs.rows offer

@@ -1,6 +1,7 @@
 //! Offers of which lines are rejected before they are accepted.
 ghost use Rattle.std.specs.Prelude.{◌≡◌, IfOk, map, not};
 ghost use Rattle.rtc_lines.specs.Rejecting as spec;
+ghost use Rattle.rtc_sdp_values.specs.Mids.{is_bundled as IsBundled};
 
 use rtc_sdp_codecs::match_rows;
 use rtc_sdp_values::{LineKind, MediaKind, MediaLine, Mid, PayloadRow, Sdp};
@@ -38,10 +39,32 @@ fn shares_none(
     }
 }
 
-fn lacks_codec(alloc: Global, rows: &[PayloadRow], line: &MediaLine) -> Result<bool, AllocError>
-    ensures { IfOk result (λ lacks. lacks ≡ spec.lacks_codec rows.now line.now) }
+fn is_bundled(groups: &[Seq<Mid>], mid: Mid) -> bool
+    ensures { result ≡ IsBundled groups.now mid }
 {
-    if line.disabled {
+    for group in groups {
+        if mid.is_among(group.as_slice()) {
+            return true;
+        }
+    }
+    false
+}
+
+fn is_live(groups: &[Seq<Mid>], line: &MediaLine) -> bool
+    ensures { result ≡ spec.is_live_line groups.now line.now }
+{
+    !line.disabled || is_bundled(groups, line.mid)
+}
+
+fn lacks_codec(
+    alloc: Global,
+    rows: &[PayloadRow],
+    groups: &[Seq<Mid>],
+    line: &MediaLine,
+) -> Result<bool, AllocError>
+    ensures { IfOk result (λ lacks. lacks ≡ spec.lacks_codec rows.now groups.now line.now) }
+{
+    if !is_live(groups, line) {
         return Ok(false);
     }
     shares_none(alloc, line.kind, rows, line.payloads.as_slice())
@@ -51,13 +74,14 @@ fn lacks_codec(alloc: Global, rows: &[PayloadRow], line: &MediaLine) -> Result<b
 pub(crate) fn mids_without_codec(
     alloc: Global,
     rows: &[PayloadRow],
+    groups: &[Seq<Mid>],
     lines: &[MediaLine],
 ) -> Result<Vec<Mid>, AllocError>
-    ensures { IfOk result (λ mids. mids.items ≡ spec.mids_without_codec rows.now lines.now) }
+    ensures { IfOk result (λ mids. mids.items ≡ spec.mids_without_codec rows.now groups.now lines.now) }
 {
     let mut mids = Vec::new(alloc);
     for line in lines {
-        if lacks_codec(alloc, rows, line)? {
+        if lacks_codec(alloc, rows, groups, line)? {
             mids.push(line.mid)?;
         }
     }
@@ -75,11 +99,11 @@ fn names_mid(mids: &[Mid], mid: Mid) -> bool
     false
 }
 
-fn has_live(lines: &[MediaLine]) -> bool
-    ensures { result ≡ spec.has_live lines.now }
+fn has_live(groups: &[Seq<Mid>], lines: &[MediaLine]) -> bool
+    ensures { result ≡ spec.has_live groups.now lines.now }
 {
     for line in lines {
-        if !line.disabled {
+        if is_live(groups, line) {
             return true;
         }
     }
@@ -157,10 +181,10 @@ pub(crate) fn reject_lines(
     ensures { IfOk result (λ made. made ≡ spec.offer_rejecting mids.now sdp.now) }
 {
     let lines = copy_lines(alloc, mids, sdp.lines.as_slice())?;
-    if !has_live(lines.as_slice()) {
+    let groups = copy_groups(alloc, mids, sdp.groups.as_slice())?;
+    if !has_live(groups.as_slice(), lines.as_slice()) {
         return Ok(None);
     }
-    let groups = copy_groups(alloc, mids, sdp.groups.as_slice())?;
     let creds = sdp.creds.copy()?;
     let fingerprint = sdp.fingerprint.copy()?;
     Ok(Some(Sdp {

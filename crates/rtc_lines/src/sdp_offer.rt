@@ -48,16 +48,21 @@ impl SdpOffer {
         filled_text(&self.0)
     }
 
-    /// The mids of the live media lines that share no codec with a configuration. Its answer would leave them without
-    /// a format, which other readers refuse: see `rejecting`.
+    /// The mids of the live media lines that share no codec with a configuration: those with a port, and bundle-only ones
+    /// (RFC 8843, section 6). Its answer would leave them without a format, which other readers refuse: see `rejecting`.
     pub fn lines_without_codec(
         &self,
         alloc: Global,
         codecs: &CodecConfig,
     ) -> Result<Vec<Mid>, AllocError>
-        ensures { IfOk result (λ mids. mids.items ≡ mids_without_codec codecs.now.rows self.now.0.lines) }
+        ensures { IfOk result (λ mids. mids.items ≡ mids_without_codec codecs.now.rows self.now.0.groups self.now.0.lines) }
     {
-        find_mids(alloc, codecs.rows.as_slice(), self.0.lines.as_slice())
+        find_mids(
+            alloc,
+            codecs.rows.as_slice(),
+            self.0.groups.as_slice(),
+            self.0.lines.as_slice(),
+        )
     }
 
     /// The offer with the lines of these mids rejected: they have port 0 and are in no group (RFC 3264, section 6). None
