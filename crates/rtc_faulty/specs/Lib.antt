@@ -5,6 +5,7 @@ pub mod FaultyDtls
 pub mod FaultyDtlsLaws
 pub mod FaultyAssociation
 pub mod FaultyAssociationActs
+pub mod FaultyAssociationResults
 pub mod FaultyAssociationLaws
 pub mod RowLemmas
 pub mod FaultyMedia
