@@ -26,8 +26,8 @@ pub record Held : Type 0 where
   pub sctp_kept : Option (List ℕ)
 
 -- equal credentials, if there are any, and equal texts
-abbrev pub same_creds : Option IceCreds → Option IceCreds → Bool
-same_creds = option_eq (creds_eq.ghosts).eq
+abbrev pub same_known_creds : Option IceCreds → Option IceCreds → Bool
+same_known_creds = option_eq (creds_eq.ghosts).eq
 
 abbrev pub same_text : Option (List ℕ) → Option (List ℕ) → Bool
 same_text = option_eq (pointwise nat_eq)
@@ -37,7 +37,7 @@ abbrev pub same_held : Held → Held → Bool
 same_held =
     eq_of_both (on (λ (h : Held). h.lines) (pointwise (row_eq.ghosts).eq))
     (eq_of_both (on (λ (h : Held). h.lite) beq)
-    (eq_of_both (on (λ (h : Held). h.remote_creds) same_creds)
+    (eq_of_both (on (λ (h : Held). h.remote_creds) same_known_creds)
     (eq_of_both (on (λ (h : Held). h.has_fingerprint) beq)
     (eq_of_both (on (λ (h : Held). h.sctp_inited) beq) (on (λ (h : Held). h.sctp_kept) same_text)))))
 

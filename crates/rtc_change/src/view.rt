@@ -2,7 +2,7 @@
 ghost use Rattle.std.specs.Prelude.{◌≡◌, option_map};
 ghost use Rattle.std.specs.Option.{option_copied};
 ghost use Rattle.std.specs.Cmp.{partial_equiv_from_equiv};
-ghost use Rattle.rtc_change.specs.Held.{same_creds, same_text, same_held, same_held_equiv};
+ghost use Rattle.rtc_change.specs.Held.{same_known_creds, same_text, same_held, same_held_equiv};
 
 use rtc_peer_rows::Lines;
 use rtc_sdp_values::IceCreds;
@@ -42,7 +42,7 @@ impl<'a> Model for View<'a> {
 }
 
 fn have_same_creds(one: Option<&IceCreds>, other: Option<&IceCreds>) -> bool
-    ensures { result ≡ same_creds (option_copied one.entry) (option_copied other.entry) }
+    ensures { result ≡ same_known_creds (option_copied one.entry) (option_copied other.entry) }
 {
     match one {
         Some(creds) => match other {
