@@ -1,6 +1,6 @@
 -- A stream that a channel is given was not held.
 use Rattle.std.proofs.Common.{◌≡◌, ◌==◌, ◌||◌, ℕ, Bool, true, false, List, [], ◌∷◌, refl, ap, sym, ◌∙◌, arith, Option, Some, None}
-use Rattle.rtc_channels.specs.Channels.{Channel, Channels, has_id, is_of_stream}
+use Rattle.rtc_channels.specs.Channels.{Channel, Channels, has_channel_id, is_of_stream}
 use Rattle.rtc_channels.specs.Holds.{is_stream_held}
 use Rattle.rtc_channels.specs.Allocation.{is_given, is_taken, sought_by, stream_given, rows_given, all_allocated}
 use Rattle.rtc_channels.proofs.GivingLemmas.{sought_is_free}
@@ -8,13 +8,13 @@ use Rattle.rtc_channels.proofs.GivingLemmas.{sought_is_free}
 -- what one channel is given is the only stream that has a channel and had none
 given_one : (s id t : ℕ) (rows : List Channel) → is_given s rows ≡ false → is_given s (rows_given id t rows) ≡ true → t ≡ s
 given_one s id t [] none some = absurd cc
-given_one s id t (channel ∷ rest) none some = by (has_id id channel) refl (is_of_stream s channel.stream) refl (given_one s id t rest) none some
+given_one s id t (channel ∷ rest) none some = by (has_channel_id id channel) refl (is_of_stream s channel.stream) refl (given_one s id t rest) none some
   where
     own : (a : Bool) → (t == s) ≡ a → (a || is_given s rest) ≡ true → is_given s rest ≡ false → t ≡ s
     own true is some none = grind arith
     own false is some none = absurd cc
 
-    by : (here : Bool) → has_id id channel ≡ here → (first : Bool) → is_of_stream s channel.stream ≡ first
+    by : (here : Bool) → has_channel_id id channel ≡ here → (first : Bool) → is_of_stream s channel.stream ≡ first
         → (is_given s rest ≡ false → is_given s (rows_given id t rest) ≡ true → t ≡ s)
         → (is_of_stream s channel.stream || is_given s rest) ≡ false → is_given s (rows_given id t (channel ∷ rest)) ≡ true → t ≡ s
     by here is true had go none some = let wrong : true ≡ false = sym (rw had refl) ∙ none in absurd cc

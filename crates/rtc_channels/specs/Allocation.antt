@@ -28,7 +28,7 @@ use Rattle.std.specs.Prelude.{
 use Rattle.std.specs.List.{filter, list_any}
 use Rattle.std.specs.declared.alloc.AllocError.{AllocError}
 use Rattle.rtc_channels.specs.Ids.{all_ids}
-use Rattle.rtc_channels.specs.Channels.{Channel, Channels, has_id, is_of_stream, channel_of_stream}
+use Rattle.rtc_channels.specs.Channels.{Channel, Channels, has_channel_id, is_of_stream, channel_of_stream}
 use Rattle.rtc_channels.specs.Holds.{is_stream_held}
 
 -- whether a channel has a stream
@@ -53,7 +53,7 @@ stream_for None parity held = slice_get (free_streams parity held) 0
 abbrev pub rows_given : ℕ → ℕ → List Channel → List Channel
 rows_given id stream [] = []
 rows_given id stream (channel ∷ rest) =
-    if has_id id channel then record channel { stream = Some stream } ∷ rest else channel ∷ rows_given id stream rest
+    if has_channel_id id channel then record channel { stream = Some stream } ∷ rest else channel ∷ rows_given id stream rest
 
 abbrev pub stream_given : ℕ → Option ℕ → Channels → Channels
 stream_given id None held = held

@@ -53,12 +53,12 @@ pub record Channels : Type 0 where
 abbrev pub no_channels : Channels
 no_channels = record { given = 0; rows = []; holds = [] }
 
-abbrev pub has_id : ℕ → Channel → Bool
-has_id id channel = channel.id == id
+abbrev pub has_channel_id : ℕ → Channel → Bool
+has_channel_id id channel = channel.id == id
 
 -- whether a channel has a number
 abbrev pub has_channel : ℕ → List Channel → Bool
-has_channel id channels = list_any (has_id id) channels
+has_channel id channels = list_any (has_channel_id id) channels
 
 abbrev pub is_of_stream : ℕ → Option ℕ → Bool
 is_of_stream stream None = false
@@ -102,7 +102,8 @@ MakesChannel held config (Err Alloc) held' = held' ≡ held
 abbrev pub rows_confirmed : ℕ → ChannelConfig → List Channel → List Channel
 rows_confirmed id config [] = []
 rows_confirmed id config (channel ∷ rest) =
-    if has_id id channel then record channel { config = Some config; confirmed = true } ∷ rest else channel ∷ rows_confirmed id config rest
+    if has_channel_id id channel then record channel { config = Some config; confirmed = true } ∷ rest
+    else channel ∷ rows_confirmed id config rest
 
 abbrev pub confirmed : ℕ → ChannelConfig → Channels → Channels
 confirmed id config held = record held { rows = rows_confirmed id config held.rows }

@@ -3,7 +3,7 @@
 use Rattle.std.specs.Prelude.{◌+◌, ◌==◌, ◌&&◌, not, nat_lt, ℕ, Bool, true, false, List, [], ◌∷◌, map, if◌then◌else◌, Option, Some, None}
 use Rattle.std.specs.List.{list_any}
 use Rattle.rtc_wire.specs.declared.channel_config.ChannelConfig.{ChannelConfig}
-use Rattle.rtc_channels.specs.Channels.{Channel, Channels, has_id, numbered_stream, stream_of_channel}
+use Rattle.rtc_channels.specs.Channels.{Channel, Channels, has_channel_id, numbered_stream, stream_of_channel}
 
 -- one hold more of a stream, in its place
 abbrev pub with_hold : ℕ → List ℕ → List ℕ
@@ -34,7 +34,7 @@ holds_lost held = record held { holds = [] }
 -- the channels without that of a number, if there is one
 abbrev pub channels_without : ℕ → List Channel → List Channel
 channels_without id [] = []
-channels_without id (channel ∷ rest) = if has_id id channel then rest else channel ∷ channels_without id rest
+channels_without id (channel ∷ rest) = if has_channel_id id channel then rest else channel ∷ channels_without id rest
 
 -- a stream is held once more if its reset is pending
 abbrev pub held_pending : Bool → Option ℕ → List ℕ → List ℕ
@@ -51,7 +51,7 @@ removed_channel id pending held = record held {
 
 -- whether a channel is there and was never confirmed
 abbrev pub is_unconfirmed : ℕ → List Channel → Bool
-is_unconfirmed id channels = list_any (λ channel. has_id id channel && not channel.confirmed) channels
+is_unconfirmed id channels = list_any (λ channel. has_channel_id id channel && not channel.confirmed) channels
 
 abbrev pub cancelled_if : Bool → ℕ → Channels → Channels
 cancelled_if true id held = removed_channel id false held

@@ -27,7 +27,7 @@ use Rattle.rtc_ready.specs.Signals.{Signals, neither}
 use Rattle.rtc_sctp.specs.Streams.{SctpStreams}
 use Rattle.rtc_sctp.specs.StreamCalls.{OpensStream, ClosesDataStream}
 use Rattle.rtc_channels.specs.Ids.{parity_of}
-use Rattle.rtc_channels.specs.Channels.{Channel, Channels, has_id}
+use Rattle.rtc_channels.specs.Channels.{Channel, Channels, has_channel_id}
 use Rattle.rtc_channels.specs.Allocation.{Allocates, can_allocate}
 
 -- whether a channel has a stream and is confirmed, so that its stream can be opened
@@ -44,7 +44,8 @@ can_progress client held = can_open held.rows || can_allocate (parity_of client)
 -- the channels once the config of that of a number was passed on
 abbrev pub rows_opened : ℕ → List Channel → List Channel
 rows_opened id [] = []
-rows_opened id (channel ∷ rest) = if has_id id channel then record channel { config = None } ∷ rest else channel ∷ rows_opened id rest
+rows_opened id (channel ∷ rest) =
+    if has_channel_id id channel then record channel { config = None } ∷ rest else channel ∷ rows_opened id rest
 
 abbrev pub config_handed : ℕ → Channels → Channels
 config_handed id held = record held { rows = rows_opened id held.rows }

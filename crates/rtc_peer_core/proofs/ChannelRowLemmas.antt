@@ -16,7 +16,7 @@ use Rattle.rtc_sctp_values.specs.declared.sctp_error.SctpError.TheVariants as sc
 use Rattle.rtc_sctp_entries.specs.Entries.{has_open}
 use Rattle.rtc_peer_rows.specs.Table.{app_of}
 use Rattle.rtc_sctp.proofs.StartLemmas.{AlikeStreams, ShowsNone, inits_same}
-use Rattle.rtc_channels.specs.Channels.{Channel, Channels, has_id, unconfirmed, with_channel, rows_confirmed, confirmed, all_confirmed}
+use Rattle.rtc_channels.specs.Channels.{Channel, Channels, has_channel_id, unconfirmed, with_channel, rows_confirmed, confirmed, all_confirmed}
 use Rattle.rtc_channels.specs.declared.channel_row.ChannelRow.{ChannelRow}
 use Rattle.rtc_peer_core.specs.ChannelRows.{generation_over, is_open_over, channel_row, channel_rows}
 use Rattle.rtc_peer_core.specs.PartMoves.{StartsSctp, StartsWhere, needs_start, dropped_halves}
@@ -25,7 +25,7 @@ module _ {S : Type 0} (m : AssociationMeaning S) where
   rows_of_confirmed : (p : SctpStreams S) (id : ℕ) (config : ChannelConfig) (rows : List Channel)
       → map (channel_row m p) (rows_confirmed id config rows) ≡ map (channel_row m p) rows
   rows_of_confirmed p id config [] = refl
-  rows_of_confirmed p id config (channel ∷ rest) = by (has_id id channel) (rows_of_confirmed p id config rest)
+  rows_of_confirmed p id config (channel ∷ rest) = by (has_channel_id id channel) (rows_of_confirmed p id config rest)
     where
       by : (here : Bool) → map (channel_row m p) (rows_confirmed id config rest) ≡ map (channel_row m p) rest
           → map (channel_row m p) (cond here (record channel { config = Some config; confirmed = true } ∷ rest) (channel ∷ rows_confirmed id config rest))

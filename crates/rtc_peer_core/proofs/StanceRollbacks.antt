@@ -4,7 +4,7 @@ use Rattle.std.proofs.Common.{◌≡◌, ◌∙◌, ◌==◌, ℕ, Bool, true, f
 use Rattle.rtc_wire.specs.declared.channel_config.ChannelConfig.{ChannelConfig}
 use Rattle.rtc_sctp.specs.Streams.{SctpStreams}
 use Rattle.rtc_channels.specs.declared.channel_row.ChannelRow.{ChannelRow}
-use Rattle.rtc_channels.specs.Channels.{Channel, Channels, has_id}
+use Rattle.rtc_channels.specs.Channels.{Channel, Channels, has_channel_id}
 use Rattle.rtc_channels.specs.Holds.{all_cancelled, cancelled_if, channels_without, is_unconfirmed}
 use Rattle.rtc_change.specs.PendingOffer.{PendingOffer, new_channels}
 use Rattle.rtc_sdp_values.specs.declared.direction.Direction.{Direction}
@@ -118,7 +118,7 @@ module _ {I D S M E X T W N : Type 0} (m : Meanings I D S M E X T W N) where
   without_rows : (p : SctpStreams S) (id : ℕ) (channels : List Channel)
       → map (channel_row m.association p) (channels_without id channels) ≡ rows_without id (map (channel_row m.association p) channels)
   without_rows p id [] = refl
-  without_rows p id (channel ∷ rest) = by (has_id id channel) (without_rows p id rest)
+  without_rows p id (channel ∷ rest) = by (has_channel_id id channel) (without_rows p id rest)
     where
       by : (here : Bool)
           → map (channel_row m.association p) (channels_without id rest) ≡ rows_without id (map (channel_row m.association p) rest)

@@ -4,7 +4,7 @@ use Rattle.std.specs.Prelude.{nat_lt}
 use Rattle.std.proofs.lemmas.Bool.Decides.{nat_tests}
 use Rattle.std.proofs.lemmas.List.Folds.{list_any-append}
 use Rattle.rtc_wire.specs.declared.channel_config.ChannelConfig.{ChannelConfig}
-use Rattle.rtc_channels.specs.Channels.{Channels, has_id, has_channel, is_bad_channel, is_overlong, unconfirmed, with_channel}
+use Rattle.rtc_channels.specs.Channels.{Channels, has_channel_id, has_channel, is_bad_channel, is_overlong, unconfirmed, with_channel}
 
 last_is_there : (b : Bool) (id : ℕ) → (b || ((id == id) || false)) ≡ true
 last_is_there true id = refl
@@ -16,7 +16,7 @@ pub made_channel_is_there : (held made : Channels) (config : ChannelConfig) (id 
 made_channel_is_there held made config id id_is made_is =
     let last : (has_channel held.given held.rows || ((held.given == held.given) || false)) ≡ true =
     last_is_there (has_channel held.given held.rows) held.given in
-    rw (id_is, made_is, list_any-append (has_id held.given) held.rows (unconfirmed held.given config ∷ [])) last
+    rw (id_is, made_is, list_any-append (has_channel_id held.given) held.rows (unconfirmed held.given config ∷ [])) last
 
 no_longer : (n : ℕ) → nat_lt 65535 n ≡ false → n ≤ 65535
 no_longer n h = grind (arith, nat_tests)

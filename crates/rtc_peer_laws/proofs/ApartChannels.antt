@@ -3,7 +3,7 @@ use Rattle.std.proofs.Common.{if◌then◌else◌, ◌≡◌, ◌∷◌, ◌==�
 use Rattle.std.proofs.lemmas.Bool.{ne_eqb}
 use Rattle.std.proofs.lemmas.List.{map-append}
 use Rattle.rtc_wire.specs.declared.channel_config.ChannelConfig.{ChannelConfig}
-use Rattle.rtc_channels.specs.Channels.{Channel, Channels, has_id, is_of_stream, numbered_stream, unconfirmed, with_channel, rows_confirmed}
+use Rattle.rtc_channels.specs.Channels.{Channel, Channels, has_channel_id, is_of_stream, numbered_stream, unconfirmed, with_channel, rows_confirmed}
 use Rattle.rtc_channels.specs.Allocation.{AreUnshared, IsUnshared, is_given, rows_given}
 use Rattle.rtc_channels.specs.Openings.{rows_opened}
 use Rattle.rtc_channels.proofs.RowLemmas.{unshared_more}
@@ -20,7 +20,7 @@ or_false false b h = (refl, h)
 -- another stream stays without a channel
 unowned_given : (s t id : ℕ) (rows : List Channel) → (t ≡ s → ⊥) → over_rows s rows ≡ None → over_rows s (rows_given id t rows) ≡ None
 unowned_given s t id [] ne h = refl
-unowned_given s t id (row ∷ rows) ne h = by (is_of_stream s row.stream) (has_id id row) refl h (unowned_given s t id rows ne)
+unowned_given s t id (row ∷ rows) ne h = by (is_of_stream s row.stream) (has_channel_id id row) refl h (unowned_given s t id rows ne)
   where
     kept : (c : Bool) (l : List Channel) → c ≡ false → over_rows s l ≡ None → (if c then Some row.id else over_rows s l) ≡ None
     kept true l e k = absurd (true≢false e)
@@ -35,7 +35,7 @@ unowned_given s t id (row ∷ rows) ne h = by (is_of_stream s row.stream) (has_i
 
 pub given_apart : (id t : ℕ) (rows : List Channel) → is_given t rows ≡ false → AreApart rows → AreApart (rows_given id t rows)
 given_apart id t [] free h = tt
-given_apart id t (row ∷ rows) free h = by (has_id id row) (given_apart id t rows (or_false (is_of_stream t row.stream) (is_given t rows) free).1 h.1)
+given_apart id t (row ∷ rows) free h = by (has_channel_id id row) (given_apart id t rows (or_false (is_of_stream t row.stream) (is_given t rows) free).1 h.1)
   where
     own : (o : Option ℕ) → is_of_stream t o ≡ false → IsUnshared o (map numbered_stream rows) → IsUnshared o (map numbered_stream (rows_given id t rows))
     own None f k = tt
@@ -60,7 +60,7 @@ opened_apart id rows h = subst AreUnshared (sym (opened_streams id rows)) h
 
 confirmed_streams : (id : ℕ) (config : ChannelConfig) (rows : List Channel) → map numbered_stream (rows_confirmed id config rows) ≡ map numbered_stream rows
 confirmed_streams id config [] = refl
-confirmed_streams id config (row ∷ rows) = by (has_id id row) (confirmed_streams id config rows)
+confirmed_streams id config (row ∷ rows) = by (has_channel_id id row) (confirmed_streams id config rows)
   where
     by : (b : Bool) → map numbered_stream (rows_confirmed id config rows) ≡ map numbered_stream rows
         → map numbered_stream (if b then record row { config = Some config; confirmed = true } ∷ rows else row ∷ rows_confirmed id config rows) ≡ numbered_stream row ∷ map numbered_stream rows

@@ -1,7 +1,7 @@
 -- The channel that a stream was given to, where rows are put behind others and go, and channels whose row has gone.
 use Rattle.std.proofs.Common.{if◌then◌else◌, ◌≡◌, ◌++◌, ◌∷◌, ◌==◌, ◌+◌, ◌<◌, ◌≤◌, ℕ, Bool, true, false, true≢false, List, [], map, Option, Some, None, refl, sym, ap, ◌∙◌, arith}
 use Rattle.std.proofs.lemmas.Bool.{eqb-true, ne_eqb}
-use Rattle.rtc_channels.specs.Channels.{Channel, Channels, AreRising, has_id, is_of_stream, numbered_stream, channel_of_stream, stream_of_channel}
+use Rattle.rtc_channels.specs.Channels.{Channel, Channels, AreRising, has_channel_id, is_of_stream, numbered_stream, channel_of_stream, stream_of_channel}
 use Rattle.rtc_channels.specs.Allocation.{channel_ensured, is_ensured, opened_by_other}
 use Rattle.rtc_channels.specs.Holds.{channels_without, removed_channel}
 use Rattle.rtc_peer_polling.specs.StreamStages.{channel_over}
@@ -78,9 +78,9 @@ same_stream t s c held h k l = some_is t s (sym (over_under 0 t c held.rows h k)
 -- the row of another channel goes
 pub without_over : (s c id : ℕ) (rows : List Channel) → (id ≡ c → ⊥) → over_rows s rows ≡ Some c → over_rows s (channels_without id rows) ≡ Some c
 without_over s c id [] ne h = absurd (none_some c h)
-without_over s c id (row ∷ rows) ne h = by (has_id id row) (is_of_stream s row.stream) refl h (without_over s c id rows ne)
+without_over s c id (row ∷ rows) ne h = by (has_channel_id id row) (is_of_stream s row.stream) refl h (without_over s c id rows ne)
   where
-    by : (a b : Bool) → has_id id row ≡ a → (if b then Some row.id else over_rows s rows) ≡ Some c → (over_rows s rows ≡ Some c → over_rows s (channels_without id rows) ≡ Some c)
+    by : (a b : Bool) → has_channel_id id row ≡ a → (if b then Some row.id else over_rows s rows) ≡ Some c → (over_rows s rows ≡ Some c → over_rows s (channels_without id rows) ≡ Some c)
         → over_rows s (if a then rows else row ∷ channels_without id rows) ≡ Some c
     by true true e k rest = absurd (ne (sym (eqb-true row.id id e) ∙ some_is row.id c k))
     by true false e k rest = k
@@ -99,7 +99,7 @@ none_more c (first ∷ rows) row ne h = (h.0, none_more c rows row ne h.1)
 
 pub none_without : (c id : ℕ) (rows : List Channel) → HasNoRow c rows → HasNoRow c (channels_without id rows)
 none_without c id [] h = tt
-none_without c id (row ∷ rows) h = by (has_id id row) (none_without c id rows h.1)
+none_without c id (row ∷ rows) h = by (has_channel_id id row) (none_without c id rows h.1)
   where
     by : (b : Bool) → HasNoRow c (channels_without id rows) → HasNoRow c (if b then rows else row ∷ channels_without id rows)
     by true rest = h.1
@@ -114,11 +114,11 @@ none_above least c (row ∷ rows) h k =
 -- the row that a channel had goes, and it was the only one
 pub none_left : (least c : ℕ) (rows : List Channel) → AreRising least rows → HasNoRow c (channels_without c rows)
 none_left least c [] h = tt
-none_left least c (row ∷ rows) h = by (has_id c row) refl (none_left (row.id + 1) c rows h.1)
+none_left least c (row ∷ rows) h = by (has_channel_id c row) refl (none_left (row.id + 1) c rows h.1)
   where
-    by : (b : Bool) → has_id c row ≡ b → HasNoRow c (channels_without c rows) → HasNoRow c (if b then rows else row ∷ channels_without c rows)
+    by : (b : Bool) → has_channel_id c row ≡ b → HasNoRow c (channels_without c rows) → HasNoRow c (if b then rows else row ∷ channels_without c rows)
     by true e rest = let same = eqb-true row.id c e in none_above (row.id + 1) c rows h.1 (let less : c < row.id + 1 = omega (arith, same) in less)
-    by false e rest = ((λ f. true≢false (sym (let self : has_id c row ≡ true = grind (arith, f) in self) ∙ e)), rest)
+    by false e rest = ((λ f. true≢false (sym (let self : has_channel_id c row ≡ true = grind (arith, f) in self) ∙ e)), rest)
 
 pub ensured_gone : (stream c : ℕ) (held : Channels) → IsGone c held → IsGone c (channel_ensured stream held)
 ensured_gone stream c held h = by (is_ensured stream held)

@@ -1,7 +1,7 @@
 -- Channels that are made, and channels that are confirmed, leave each stream its channel, and the numbers in order.
 use Rattle.std.proofs.Common.{if◌then◌else◌, ◌≡◌, ◌∷◌, ◌+◌, ◌<◌, ◌≤◌, ℕ, Bool, true, false, List, [], Option, Some, refl, ap, ◌∙◌, arith}
 use Rattle.rtc_wire.specs.declared.channel_config.ChannelConfig.{ChannelConfig}
-use Rattle.rtc_channels.specs.Channels.{Channel, Channels, is_of_stream, unconfirmed, with_channel, has_id, rows_confirmed, confirmed, all_confirmed}
+use Rattle.rtc_channels.specs.Channels.{Channel, Channels, is_of_stream, unconfirmed, with_channel, has_channel_id, rows_confirmed, confirmed, all_confirmed}
 use Rattle.rtc_channels.proofs.KeptLemmas.{below_more, rising_more, below_one_more, rising_confirmed, below_confirmed}
 use Rattle.rtc_peer_polling.specs.StreamStages.{channel_over}
 use Rattle.rtc_peer_laws.proofs.ChannelsOver.{over_rows, over_front}
@@ -10,7 +10,7 @@ use Rattle.rtc_peer_laws.proofs.ApartChannels.{confirmed_apart, made_apart}
 
 confirmed_same : (s id : ℕ) (config : ChannelConfig) (rows : List Channel) → over_rows s (rows_confirmed id config rows) ≡ over_rows s rows
 confirmed_same s id config [] = refl
-confirmed_same s id config (row ∷ rows) = by (has_id id row) (confirmed_same s id config rows)
+confirmed_same s id config (row ∷ rows) = by (has_channel_id id row) (confirmed_same s id config rows)
   where
     by : (b : Bool) → over_rows s (rows_confirmed id config rows) ≡ over_rows s rows
         → over_rows s (if b then record row { config = Some config; confirmed = true } ∷ rows else row ∷ rows_confirmed id config rows) ≡ over_rows s (row ∷ rows)

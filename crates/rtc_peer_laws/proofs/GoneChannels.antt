@@ -1,7 +1,7 @@
 -- A channel that has no row gets none where rows are given streams, opened, confirmed and added.
 use Rattle.std.proofs.Common.{if◌then◌else◌, ◌≡◌, ◌∷◌, ◌+◌, ◌<◌, ℕ, Bool, true, false, List, [], Option, Some, None, refl, ◌∙◌, arith}
 use Rattle.rtc_wire.specs.declared.channel_config.ChannelConfig.{ChannelConfig}
-use Rattle.rtc_channels.specs.Channels.{Channel, Channels, has_id, unconfirmed, with_channel, rows_confirmed, confirmed, all_confirmed}
+use Rattle.rtc_channels.specs.Channels.{Channel, Channels, has_channel_id, unconfirmed, with_channel, rows_confirmed, confirmed, all_confirmed}
 use Rattle.rtc_channels.specs.Allocation.{sought_by, stream_given, rows_given, all_allocated}
 use Rattle.rtc_channels.specs.Openings.{config_handed, rows_opened}
 use Rattle.rtc_peer_laws.specs.ChannelStreams.{HasNoRow, IsGone}
@@ -9,7 +9,7 @@ use Rattle.rtc_peer_laws.proofs.ChannelsOver.{none_more}
 
 none_given : (c id s : ℕ) (rows : List Channel) → HasNoRow c rows → HasNoRow c (rows_given id s rows)
 none_given c id s [] h = tt
-none_given c id s (row ∷ rows) h = by (has_id id row) (none_given c id s rows h.1)
+none_given c id s (row ∷ rows) h = by (has_channel_id id row) (none_given c id s rows h.1)
   where
     by : (b : Bool) → HasNoRow c (rows_given id s rows) → HasNoRow c (if b then record row { stream = Some s } ∷ rows else row ∷ rows_given id s rows)
     by true rest = h
@@ -17,7 +17,7 @@ none_given c id s (row ∷ rows) h = by (has_id id row) (none_given c id s rows 
 
 none_opened : (c id : ℕ) (rows : List Channel) → HasNoRow c rows → HasNoRow c (rows_opened id rows)
 none_opened c id [] h = tt
-none_opened c id (row ∷ rows) h = by (has_id id row) (none_opened c id rows h.1)
+none_opened c id (row ∷ rows) h = by (has_channel_id id row) (none_opened c id rows h.1)
   where
     by : (b : Bool) → HasNoRow c (rows_opened id rows) → HasNoRow c (if b then record row { config = None } ∷ rows else row ∷ rows_opened id rows)
     by true rest = h
@@ -25,7 +25,7 @@ none_opened c id (row ∷ rows) h = by (has_id id row) (none_opened c id rows h.
 
 none_confirmed : (c id : ℕ) (config : ChannelConfig) (rows : List Channel) → HasNoRow c rows → HasNoRow c (rows_confirmed id config rows)
 none_confirmed c id config [] h = tt
-none_confirmed c id config (row ∷ rows) h = by (has_id id row) (none_confirmed c id config rows h.1)
+none_confirmed c id config (row ∷ rows) h = by (has_channel_id id row) (none_confirmed c id config rows h.1)
   where
     by : (b : Bool) → HasNoRow c (rows_confirmed id config rows)
         → HasNoRow c (if b then record row { config = Some config; confirmed = true } ∷ rows else row ∷ rows_confirmed id config rows)

@@ -1,7 +1,7 @@
 -- No two rows of channels have one stream, where rows are put behind others and go.
 use Rattle.std.proofs.Common.{if◌then◌else◌, ◌≡◌, ◌++◌, ◌∷◌, ◌==◌, ◌||◌, ◌+◌, ◌-◌, ◌^◌, ℕ, Bool, true, false, true≢false, List, [], map, Option, Some, None, refl, sym, subst}
 use Rattle.std.proofs.lemmas.List.{map-append}
-use Rattle.rtc_channels.specs.Channels.{Channel, Channels, has_id, is_of_stream, numbered_stream}
+use Rattle.rtc_channels.specs.Channels.{Channel, Channels, has_channel_id, is_of_stream, numbered_stream}
 use Rattle.rtc_channels.specs.Allocation.{AreUnshared, IsUnshared, channel_ensured, is_given, opened_by_other}
 use Rattle.rtc_channels.specs.Holds.{channels_without}
 use Rattle.rtc_channels.proofs.RowLemmas.{unshared_pushed}
@@ -35,7 +35,7 @@ ensured_apart stream held h = by (is_given stream held.rows) (held.given == 2 ^ 
 
 unowned_without : (s id : ℕ) (rows : List Channel) → over_rows s rows ≡ None → over_rows s (channels_without id rows) ≡ None
 unowned_without s id [] h = refl
-unowned_without s id (row ∷ rows) h = by (is_of_stream s row.stream) (has_id id row) refl h (unowned_without s id rows)
+unowned_without s id (row ∷ rows) h = by (is_of_stream s row.stream) (has_channel_id id row) refl h (unowned_without s id rows)
   where
     kept : (c : Bool) → c ≡ false → over_rows s (channels_without id rows) ≡ None → (if c then Some row.id else over_rows s (channels_without id rows)) ≡ None
     kept true e k = absurd (true≢false e)
@@ -49,7 +49,7 @@ unowned_without s id (row ∷ rows) h = by (is_of_stream s row.stream) (has_id i
 
 pub without_apart : (id : ℕ) (rows : List Channel) → AreApart rows → AreApart (channels_without id rows)
 without_apart id [] h = tt
-without_apart id (row ∷ rows) h = by (has_id id row) (without_apart id rows h.1)
+without_apart id (row ∷ rows) h = by (has_channel_id id row) (without_apart id rows h.1)
   where
     own : (o : Option ℕ) → IsUnshared o (map numbered_stream rows) → IsUnshared o (map numbered_stream (channels_without id rows))
     own None k = tt

@@ -7,15 +7,15 @@ use Rattle.rtc_wire.specs.declared.channel_config.ChannelConfig.{ChannelConfig}
 use Rattle.rtc_change.specs.declared.change.Change.{Change}
 use Rattle.rtc_change.specs.declared.change.Change.TheVariants.{AddMedia, AddApp, AddChannel, Direction, IceRestart}
 use Rattle.rtc_change.specs.PendingOffer.{new_channels}
-use Rattle.rtc_channels.specs.Channels.{Channel, Channels, is_overlong, has_id, has_channel, confirmed, all_confirmed, rows_confirmed}
+use Rattle.rtc_channels.specs.Channels.{Channel, Channels, is_overlong, has_channel_id, has_channel, confirmed, all_confirmed, rows_confirmed}
 use Rattle.rtc_peer_core.specs.Calls.{fits_open, fitting_channels}
 
 -- where a number is no row's, nothing is confirmed
 rows_missed : (id : ℕ) (config : ChannelConfig) (rows : List Channel) → has_channel id rows ≡ false → rows_confirmed id config rows ≡ rows
 rows_missed id config [] none = refl
-rows_missed id config (row ∷ rows) none = by (rows_missed id config rows) (has_id id row) refl none
+rows_missed id config (row ∷ rows) none = by (rows_missed id config rows) (has_channel_id id row) refl none
   where
-    by : (has_channel id rows ≡ false → rows_confirmed id config rows ≡ rows) → (b : Bool) → has_id id row ≡ b → has_channel id (row ∷ rows) ≡ false → rows_confirmed id config (row ∷ rows) ≡ row ∷ rows
+    by : (has_channel id rows ≡ false → rows_confirmed id config rows ≡ rows) → (b : Bool) → has_channel_id id row ≡ b → has_channel id (row ∷ rows) ≡ false → rows_confirmed id config (row ∷ rows) ≡ row ∷ rows
     by rest true is none = absurd (let e : true ≡ false = rw is at none in cc)
     by rest false is none = rw is (ap (λ (more : List Channel). row ∷ more) (rest (rw is at none)))
 

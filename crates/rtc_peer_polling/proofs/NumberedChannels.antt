@@ -7,7 +7,7 @@ use Rattle.rtc_part_association.specs.AssociationMeaning.{AssociationMeaning}
 use Rattle.rtc_ready.specs.Signals.{Signals}
 use Rattle.rtc_sctp.specs.Streams.{SctpStreams}
 use Rattle.rtc_channels.specs.Ids.{parity_of}
-use Rattle.rtc_channels.specs.Channels.{Channel, Channels, AreBelow, AreRising, has_id, is_of_stream, numbered_stream, channel_of_stream}
+use Rattle.rtc_channels.specs.Channels.{Channel, Channels, AreBelow, AreRising, has_channel_id, is_of_stream, numbered_stream, channel_of_stream}
 use Rattle.rtc_channels.specs.Allocation.{Allocates, all_allocated, rows_given, stream_given, sought_by, channel_ensured, is_ensured, opened_by_other}
 use Rattle.rtc_channels.specs.Holds.{channels_without, removed_channel}
 use Rattle.rtc_channels.specs.Openings.{OpensChannel, OpensAll, Following, Progresses, MeetsMoment, rows_opened}
@@ -91,7 +91,7 @@ numbers_of (Some id) a b numbers = numbers
 
 length_without : (id : ℕ) (rows : List Channel) → length (channels_without id rows) ≤ length rows
 length_without id [] = omega arith
-length_without id (channel ∷ rest) = by (has_id id channel) (length_without id rest)
+length_without id (channel ∷ rest) = by (has_channel_id id channel) (length_without id rest)
   where
     by : (here : Bool) → length (channels_without id rest) ≤ length rest
         → length (cond here rest (channel ∷ channels_without id rest)) ≤ length (channel ∷ rest)
@@ -100,7 +100,7 @@ length_without id (channel ∷ rest) = by (has_id id channel) (length_without id
 
 pub unconfirmed_without : (n id : ℕ) (rows : List Channel) → AreUnconfirmed n rows → AreUnconfirmed n (channels_without id rows)
 unconfirmed_without n id [] none = tt
-unconfirmed_without n id (channel ∷ rest) none = by (has_id id channel) (unconfirmed_without n id rest none.1)
+unconfirmed_without n id (channel ∷ rest) none = by (has_channel_id id channel) (unconfirmed_without n id rest none.1)
   where
     by : (here : Bool) → AreUnconfirmed n (channels_without id rest) → AreUnconfirmed n (cond here rest (channel ∷ channels_without id rest))
     by true others = none.1
@@ -115,7 +115,7 @@ stays_removed id pending held =
 
 length_given : (id stream : ℕ) (rows : List Channel) → length (rows_given id stream rows) ≤ length rows
 length_given id stream [] = omega arith
-length_given id stream (channel ∷ rest) = by (has_id id channel) (length_given id stream rest)
+length_given id stream (channel ∷ rest) = by (has_channel_id id channel) (length_given id stream rest)
   where
     by : (here : Bool) → length (rows_given id stream rest) ≤ length rest
         → length (cond here (record channel { stream = Some stream } ∷ rest) (channel ∷ rows_given id stream rest)) ≤ length (channel ∷ rest)
@@ -124,7 +124,7 @@ length_given id stream (channel ∷ rest) = by (has_id id channel) (length_given
 
 unconfirmed_given : (n id stream : ℕ) (rows : List Channel) → AreUnconfirmed n rows → AreUnconfirmed n (rows_given id stream rows)
 unconfirmed_given n id stream [] none = tt
-unconfirmed_given n id stream (channel ∷ rest) none = by (has_id id channel) (unconfirmed_given n id stream rest none.1)
+unconfirmed_given n id stream (channel ∷ rest) none = by (has_channel_id id channel) (unconfirmed_given n id stream rest none.1)
   where
     by : (here : Bool) → AreUnconfirmed n (rows_given id stream rest)
         → AreUnconfirmed n (cond here (record channel { stream = Some stream } ∷ rest) (channel ∷ rows_given id stream rest))
@@ -152,7 +152,7 @@ allocates_stays parity held (Err error) held' h = subst (Stays held) (sym h.1) (
 
 length_opened : (id : ℕ) (rows : List Channel) → length (rows_opened id rows) ≤ length rows
 length_opened id [] = omega arith
-length_opened id (channel ∷ rest) = by (has_id id channel) (length_opened id rest)
+length_opened id (channel ∷ rest) = by (has_channel_id id channel) (length_opened id rest)
   where
     by : (here : Bool) → length (rows_opened id rest) ≤ length rest
         → length (cond here (record channel { config = None } ∷ rest) (channel ∷ rows_opened id rest)) ≤ length (channel ∷ rest)
@@ -165,7 +165,7 @@ rising_opened least id (channel ∷ rest) rising = grind (arith, rising_opened (
 
 unconfirmed_opened : (n id : ℕ) (rows : List Channel) → AreUnconfirmed n rows → AreUnconfirmed n (rows_opened id rows)
 unconfirmed_opened n id [] none = tt
-unconfirmed_opened n id (channel ∷ rest) none = by (has_id id channel) (unconfirmed_opened n id rest none.1)
+unconfirmed_opened n id (channel ∷ rest) none = by (has_channel_id id channel) (unconfirmed_opened n id rest none.1)
   where
     by : (here : Bool) → AreUnconfirmed n (rows_opened id rest)
         → AreUnconfirmed n (cond here (record channel { config = None } ∷ rest) (channel ∷ rows_opened id rest))

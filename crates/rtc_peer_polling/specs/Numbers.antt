@@ -1,6 +1,6 @@
 -- What polls, inputs and closing do to the numbers of the channels (RFC 8831, section 6.4).
 use Rattle.std.specs.Prelude.{ℕ, ◌≡◌, ◌+◌, ◌<◌, ◌≤◌, true, false, List, [], ◌∷◌, length, Option, Some, None, Result, Ok, Err}
-use Rattle.rtc_channels.specs.Channels.{Channel, Channels, AreBelow, AreRising, has_id}
+use Rattle.rtc_channels.specs.Channels.{Channel, Channels, AreBelow, AreRising, has_channel_id}
 use Rattle.rtc_peer_core.specs.declared.rtc_error.RtcError.{RtcError}
 use Rattle.rtc_peer_transport.specs.declared.event.Event.{Event}
 use Rattle.rtc_peer_transport.specs.declared.event.Event.TheVariants.{ChannelOpen}
@@ -16,7 +16,7 @@ number_told (Err error) = None
 -- no channel of a number was confirmed
 abbrev pub AreUnconfirmed : ℕ → List Channel → Type 0
 AreUnconfirmed id [] = Unit {0}
-AreUnconfirmed id (channel ∷ rest) = (has_id id channel ≡ true → channel.confirmed ≡ false) × AreUnconfirmed id rest
+AreUnconfirmed id (channel ∷ rest) = (has_channel_id id channel ≡ true → channel.confirmed ≡ false) × AreUnconfirmed id rest
 
 -- The numbers of channels before and after a call that reported this one. A number is given, and a row is new, if it is reported, if at
 -- all, and each number that is reported was given. Rows whose numbers rise, each below those not given yet, stay so. No channel is

@@ -3,7 +3,7 @@
 use Rattle.std.proofs.Common.{◌≡◌, ◌+◌, ◌++◌, ◌∷◌, if◌then◌else◌, ℕ, Bool, true, false, List, [], Option, Some, None, refl, sym, subst}
 use Rattle.rtc_wire.specs.declared.channel_config.ChannelConfig.{ChannelConfig}
 use Rattle.rtc_channels.specs.Allocation.{all_allocated, channel_ensured, is_ensured, opened_by_other, rows_given, sought_by, stream_given}
-use Rattle.rtc_channels.specs.Channels.{Channel, Channels, all_confirmed, has_id, rows_confirmed, unconfirmed, with_channel}
+use Rattle.rtc_channels.specs.Channels.{Channel, Channels, all_confirmed, has_channel_id, rows_confirmed, unconfirmed, with_channel}
 use Rattle.rtc_channels.specs.Holds.{all_cancelled, cancelled_if, channels_without, is_unconfirmed}
 use Rattle.rtc_channels.specs.Openings.{rows_opened}
 use Rattle.rtc_run_laws.specs.OwnOpenings.{IsInBandChannel}
@@ -53,7 +53,7 @@ made_banded held config none h = banded_more held.rows (unconfirmed held.given c
 -- a row goes
 pub without_banded : (id : ℕ) (rows : List Channel) → AreBandedRows rows → AreBandedRows (channels_without id rows)
 without_banded id [] h = tt
-without_banded id (row ∷ rows) h = by (has_id id row) (without_banded id rows h.1)
+without_banded id (row ∷ rows) h = by (has_channel_id id row) (without_banded id rows h.1)
   where
     by : (b : Bool) → AreBandedRows (channels_without id rows) → AreBandedRows (if b then rows else row ∷ channels_without id rows)
     by true rest = h.1
@@ -72,7 +72,7 @@ cancelled_banded (channel ∷ rest) held h =
 -- a config is handed on
 pub opened_banded : (id : ℕ) (rows : List Channel) → AreBandedRows rows → AreBandedRows (rows_opened id rows)
 opened_banded id [] h = tt
-opened_banded id (row ∷ rows) h = by (has_id id row) (opened_banded id rows h.1)
+opened_banded id (row ∷ rows) h = by (has_channel_id id row) (opened_banded id rows h.1)
   where
     by : (b : Bool) → AreBandedRows (rows_opened id rows)
         → AreBandedRows (if b then record row { config = None } ∷ rows else row ∷ rows_opened id rows)
@@ -83,7 +83,7 @@ opened_banded id (row ∷ rows) h = by (has_id id row) (opened_banded id rows h.
 confirmed_one : (id : ℕ) (config : ChannelConfig) (rows : List Channel) → config.negotiated ≡ None → AreBandedRows rows
     → AreBandedRows (rows_confirmed id config rows)
 confirmed_one id config [] none h = tt
-confirmed_one id config (row ∷ rows) none h = by (has_id id row) (confirmed_one id config rows none h.1)
+confirmed_one id config (row ∷ rows) none h = by (has_channel_id id row) (confirmed_one id config rows none h.1)
   where
     by : (b : Bool) → AreBandedRows (rows_confirmed id config rows)
         → AreBandedRows (if b then record row { config = Some config; confirmed = true } ∷ rows else row ∷ rows_confirmed id config rows)
@@ -100,7 +100,7 @@ confirmed_banded (channel ∷ rest) held none h =
 -- rows are given streams
 given_banded : (id s : ℕ) (rows : List Channel) → AreBandedRows rows → AreBandedRows (rows_given id s rows)
 given_banded id s [] h = tt
-given_banded id s (row ∷ rows) h = by (has_id id row) (given_banded id s rows h.1)
+given_banded id s (row ∷ rows) h = by (has_channel_id id row) (given_banded id s rows h.1)
   where
     by : (b : Bool) → AreBandedRows (rows_given id s rows)
         → AreBandedRows (if b then record row { stream = Some s } ∷ rows else row ∷ rows_given id s rows)

@@ -6,7 +6,7 @@ use Rattle.std.proofs.lemmas.Bool.{eqb-true, ne_eqb, or_parts}
 use Rattle.rtc_wire.specs.declared.channel_config.ChannelConfig.{ChannelConfig}
 use Rattle.rtc_sctp.specs.Streams.{SctpStreams}
 use Rattle.rtc_channels.specs.declared.channel_row.ChannelRow.{ChannelRow}
-use Rattle.rtc_channels.specs.Channels.{Channel, Channels, AreRising, has_id}
+use Rattle.rtc_channels.specs.Channels.{Channel, Channels, AreRising, has_channel_id}
 use Rattle.rtc_channels.specs.Holds.{all_cancelled, cancelled_if, channels_without, is_unconfirmed}
 use Rattle.rtc_channels.proofs.GivenLemmas.{rising_without}
 use Rattle.rtc_peer_core.specs.ChannelRows.{channel_row, channel_rows}
@@ -25,7 +25,7 @@ numbers_of channels = map (λ channel. channel.0) channels
 
 -- the channels but that of a number, and but those of some
 abbrev without_one : ℕ → List Channel → List Channel
-without_one id rows = filter (λ channel. not (has_id id channel)) rows
+without_one id rows = filter (λ channel. not (has_channel_id id channel)) rows
 
 abbrev without_all : List ℕ → List Channel → List Channel
 without_all numbers rows = filter (λ channel. not (is_number channel.id numbers)) rows
@@ -56,8 +56,8 @@ without_is least id (channel ∷ rows) rising = by (channel.id == id) refl (with
 none_goes : (id : ℕ) (rows : List Channel) → AreUnconfirmed id rows → is_unconfirmed id rows ≡ false → without_one id rows ≡ rows
 none_goes id [] none missed = refl
 none_goes id (channel ∷ rows) none missed =
-    let parts = or_parts (has_id id channel && not channel.confirmed) (is_unconfirmed id rows) missed in
-    by (has_id id channel) channel.confirmed none.0 parts.0 (none_goes id rows none.1 parts.1)
+    let parts = or_parts (has_channel_id id channel && not channel.confirmed) (is_unconfirmed id rows) missed in
+    by (has_channel_id id channel) channel.confirmed none.0 parts.0 (none_goes id rows none.1 parts.1)
   where
     by : (here confirmed : Bool) → (here ≡ true → confirmed ≡ false) → (here && not confirmed) ≡ false → without_one id rows ≡ rows
         → cond (not here) (channel ∷ without_one id rows) (without_one id rows) ≡ channel ∷ rows

@@ -3,7 +3,7 @@ use Rattle.std.proofs.Common.{◌≡◌, ◌∙◌, ◌⊎◌, inl, inr, ◌+◌
 use Rattle.std.proofs.lemmas.Bool.{eqb-true}
 use Rattle.rtc_wire.specs.declared.channel_config.ChannelConfig.{ChannelConfig}
 use Rattle.rtc_channels.specs.Allocation.{AreUnshared, IsUnshared, all_allocated, channel_ensured, is_ensured, opened_by_other, rows_given, sought_by, stream_given}
-use Rattle.rtc_channels.specs.Channels.{Channel, Channels, all_confirmed, has_id, is_of_stream, numbered_stream, rows_confirmed, unconfirmed, with_channel}
+use Rattle.rtc_channels.specs.Channels.{Channel, Channels, all_confirmed, has_channel_id, is_of_stream, numbered_stream, rows_confirmed, unconfirmed, with_channel}
 use Rattle.rtc_channels.specs.Holds.{channels_without}
 use Rattle.rtc_channels.specs.Openings.{config_handed, rows_opened}
 use Rattle.rtc_peer_polling.specs.StreamStages.{channel_over}
@@ -29,9 +29,9 @@ config_ensured c stream held h = by (is_ensured stream held)
 -- the row of another channel goes
 pub config_without : (c id : ℕ) (rows : List Channel) → (id ≡ c → ⊥) → HasConfig c rows → HasConfig c (channels_without id rows)
 config_without c id [] ne h = absurd h
-config_without c id (row ∷ rows) ne h = by (has_id id row) refl h (config_without c id rows ne)
+config_without c id (row ∷ rows) ne h = by (has_channel_id id row) refl h (config_without c id rows ne)
   where
-    by : (b : Bool) → has_id id row ≡ b → HasConfig c (row ∷ rows) → (HasConfig c rows → HasConfig c (channels_without id rows))
+    by : (b : Bool) → has_channel_id id row ≡ b → HasConfig c (row ∷ rows) → (HasConfig c rows → HasConfig c (channels_without id rows))
         → HasConfig c (if b then rows else row ∷ channels_without id rows)
     by true e (inl k) rest = absurd (ne (sym (eqb-true row.id id e) ∙ k.0))
     by true e (inr k) rest = k
@@ -41,7 +41,7 @@ config_without c id (row ∷ rows) ne h = by (has_id id row) refl h (config_with
 -- rows are given streams
 config_given : (c id s : ℕ) (rows : List Channel) → HasConfig c rows → HasConfig c (rows_given id s rows)
 config_given c id s [] h = absurd h
-config_given c id s (row ∷ rows) h = by (has_id id row) h (config_given c id s rows)
+config_given c id s (row ∷ rows) h = by (has_channel_id id row) h (config_given c id s rows)
   where
     by : (b : Bool) → HasConfig c (row ∷ rows) → (HasConfig c rows → HasConfig c (rows_given id s rows))
         → HasConfig c (if b then record row { stream = Some s } ∷ rows else row ∷ rows_given id s rows)
@@ -63,13 +63,13 @@ config_allocated parity c (channel ∷ rest) held h = by (sought_by parity held 
 -- the config of a row is handed on
 handed_rows : (c id : ℕ) (rows : List Channel) → HasConfig c rows → HasConfig c (rows_opened id rows) ⊎ (id ≡ c)
 handed_rows c id [] h = absurd h
-handed_rows c id (row ∷ rows) h = by (has_id id row) refl h (handed_rows c id rows)
+handed_rows c id (row ∷ rows) h = by (has_channel_id id row) refl h (handed_rows c id rows)
   where
     later : HasConfig c (rows_opened id rows) ⊎ (id ≡ c) → HasConfig c (row ∷ rows_opened id rows) ⊎ (id ≡ c)
     later (inl k) = inl (inr k)
     later (inr k) = inr k
 
-    by : (b : Bool) → has_id id row ≡ b → HasConfig c (row ∷ rows) → (HasConfig c rows → HasConfig c (rows_opened id rows) ⊎ (id ≡ c))
+    by : (b : Bool) → has_channel_id id row ≡ b → HasConfig c (row ∷ rows) → (HasConfig c rows → HasConfig c (rows_opened id rows) ⊎ (id ≡ c))
         → HasConfig c (if b then record row { config = None } ∷ rows else row ∷ rows_opened id rows) ⊎ (id ≡ c)
     by true e (inl k) rest = inr (sym (eqb-true row.id id e) ∙ k.0)
     by true e (inr k) rest = inl (inr k)
@@ -82,7 +82,7 @@ config_opened c id held h = handed_rows c id held.rows h
 -- rows are confirmed
 confirmed_rows : (c id : ℕ) (config : ChannelConfig) (rows : List Channel) → HasConfig c rows → HasConfig c (rows_confirmed id config rows)
 confirmed_rows c id config [] h = absurd h
-confirmed_rows c id config (row ∷ rows) h = by (has_id id row) h (confirmed_rows c id config rows)
+confirmed_rows c id config (row ∷ rows) h = by (has_channel_id id row) h (confirmed_rows c id config rows)
   where
     by : (b : Bool) → HasConfig c (row ∷ rows) → (HasConfig c rows → HasConfig c (rows_confirmed id config rows))
         → HasConfig c (if b then record row { config = Some config; confirmed = true } ∷ rows else row ∷ rows_confirmed id config rows)

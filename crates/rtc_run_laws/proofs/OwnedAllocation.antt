@@ -7,7 +7,7 @@ use Rattle.std.proofs.lemmas.Option.{same_Some}
 use Rattle.rtc_channels.specs.Ids.{IsIdOf, all_ids, parity_of}
 use Rattle.rtc_channels.proofs.IdLemmas.{ids-every_second}
 use Rattle.rtc_channels.specs.Allocation.{all_allocated, free_streams, is_taken, rows_given, sought_by, stream_for, stream_given, stream_sought}
-use Rattle.rtc_channels.specs.Channels.{AreRising, Channel, Channels, has_id, stream_of_channel}
+use Rattle.rtc_channels.specs.Channels.{AreRising, Channel, Channels, has_channel_id, stream_of_channel}
 use Rattle.rtc_channels.proofs.GivingLemmas.{sought_is_bare}
 use Rattle.rtc_peer_laws.proofs.ChannelsOver.{under_rows}
 use Rattle.rtc_peer_laws.proofs.AllocatedChannels.{AreListed, listed_all, listed_given}
@@ -84,7 +84,7 @@ settled_all least (row ∷ rows) h =
 
 settled_same : (id t other : ℕ) (rows : List Channel) → settled_under other (rows_given id t rows) ≡ settled_under other rows
 settled_same id t other [] = refl
-settled_same id t other (row ∷ rows) = by (has_id id row) (settled_same id t other rows)
+settled_same id t other (row ∷ rows) = by (has_channel_id id row) (settled_same id t other rows)
   where
     by : (b : Bool) → settled_under other (rows_given id t rows) ≡ settled_under other rows
         → settled_under other (if b then record row { stream = Some t } ∷ rows else row ∷ rows_given id t rows) ≡ settled_under other (row ∷ rows)

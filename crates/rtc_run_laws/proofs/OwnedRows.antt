@@ -3,7 +3,7 @@ use Rattle.std.proofs.Common.{◌≡◌, ◌∙◌, ◌⊎◌, inl, inr, ◌+◌
 use Rattle.std.proofs.lemmas.Bool.{eqb-true}
 use Rattle.rtc_wire.specs.declared.channel_config.ChannelConfig.{ChannelConfig}
 use Rattle.rtc_channels.specs.Allocation.{AreUnshared, IsUnshared, channel_ensured, is_ensured, opened_by_other}
-use Rattle.rtc_channels.specs.Channels.{Channel, Channels, all_confirmed, has_id, is_of_stream, numbered_stream, rows_confirmed, unconfirmed, with_channel}
+use Rattle.rtc_channels.specs.Channels.{Channel, Channels, all_confirmed, has_channel_id, is_of_stream, numbered_stream, rows_confirmed, unconfirmed, with_channel}
 use Rattle.rtc_channels.specs.Holds.{channels_without}
 use Rattle.rtc_channels.specs.Openings.{rows_opened}
 use Rattle.rtc_peer_laws.proofs.ChannelsOver.{over_rows, under_rows}
@@ -83,7 +83,7 @@ without_has f s t id (row ∷ rows) under h = by (row.id == id) under h (λ e k.
 
 pub opened_has : (f : Option ℕ → Bool → Type 0) (s id : ℕ) (rows : List Channel) → HasOver f s rows → HasOver f s (rows_opened id rows)
 opened_has f s id [] h = absurd h
-opened_has f s id (row ∷ rows) h = by (has_id id row) h (λ k. opened_has f s id rows k)
+opened_has f s id (row ∷ rows) h = by (has_channel_id id row) h (λ k. opened_has f s id rows k)
   where
     by : (b : Bool) → HasOver f s (row ∷ rows) → (HasOver f s rows → HasOver f s (rows_opened id rows))
         → HasOver f s (if b then record row { config = None } ∷ rows else row ∷ rows_opened id rows)
@@ -95,7 +95,7 @@ opened_has f s id (row ∷ rows) h = by (has_id id row) h (λ k. opened_has f s 
 confirmed_row : (f : Option ℕ → Bool → Type 0) (s id : ℕ) (config : ChannelConfig) (rows : List Channel)
     → ((n : Option ℕ) (b : Bool) → f n b → f n true) → HasOver f s rows → HasOver f s (rows_confirmed id config rows)
 confirmed_row f s id config [] sure h = absurd h
-confirmed_row f s id config (row ∷ rows) sure h = by (has_id id row) h (λ k. confirmed_row f s id config rows sure k)
+confirmed_row f s id config (row ∷ rows) sure h = by (has_channel_id id row) h (λ k. confirmed_row f s id config rows sure k)
   where
     by : (b : Bool) → HasOver f s (row ∷ rows) → (HasOver f s rows → HasOver f s (rows_confirmed id config rows))
         → HasOver f s (if b then record row { config = Some config; confirmed = true } ∷ rows else row ∷ rows_confirmed id config rows)
@@ -148,7 +148,7 @@ module _ (c : Bool) where
 
   pub without_own : (x : ℕ → Type 0) (id : ℕ) (rows : List Channel) → AreOwnRows c x rows → AreOwnRows c x (channels_without id rows)
   without_own x id [] h = tt
-  without_own x id (row ∷ rows) h = by (has_id id row) (without_own x id rows h.1)
+  without_own x id (row ∷ rows) h = by (has_channel_id id row) (without_own x id rows h.1)
     where
       by : (b : Bool) → AreOwnRows c x (channels_without id rows) → AreOwnRows c x (if b then rows else row ∷ channels_without id rows)
       by true rest = h.1
@@ -178,7 +178,7 @@ module _ (c : Bool) where
 
   pub opened_own : (x : ℕ → Type 0) (id : ℕ) (rows : List Channel) → AreOwnRows c x rows → AreOwnRows c x (rows_opened id rows)
   opened_own x id [] h = tt
-  opened_own x id (row ∷ rows) h = by (has_id id row) (opened_own x id rows h.1)
+  opened_own x id (row ∷ rows) h = by (has_channel_id id row) (opened_own x id rows h.1)
     where
       by : (b : Bool) → AreOwnRows c x (rows_opened id rows)
           → AreOwnRows c x (if b then record row { config = None } ∷ rows else row ∷ rows_opened id rows)
@@ -188,7 +188,7 @@ module _ (c : Bool) where
   confirmed_one : (x : ℕ → Type 0) (id : ℕ) (config : ChannelConfig) (rows : List Channel) → AreOwnRows c x rows
       → AreOwnRows c x (rows_confirmed id config rows)
   confirmed_one x id config [] h = tt
-  confirmed_one x id config (row ∷ rows) h = by (has_id id row) (confirmed_one x id config rows h.1)
+  confirmed_one x id config (row ∷ rows) h = by (has_channel_id id row) (confirmed_one x id config rows h.1)
     where
       by : (b : Bool) → AreOwnRows c x (rows_confirmed id config rows)
           → AreOwnRows c x (if b then record row { config = Some config; confirmed = true } ∷ rows else row ∷ rows_confirmed id config rows)

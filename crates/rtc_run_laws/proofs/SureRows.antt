@@ -4,7 +4,7 @@ use Rattle.std.specs.Prelude.{is_some, not}
 use Rattle.std.proofs.lemmas.Bool.{eqb-true, ne_eqb}
 use Rattle.rtc_wire.specs.declared.channel_config.ChannelConfig.{ChannelConfig}
 use Rattle.rtc_channels.specs.Allocation.{all_allocated, channel_ensured, is_ensured, opened_by_other, rows_given, sought_by, stream_given}
-use Rattle.rtc_channels.specs.Channels.{AreRising, Channel, Channels, all_confirmed, has_id, rows_confirmed, unconfirmed, with_channel}
+use Rattle.rtc_channels.specs.Channels.{AreRising, Channel, Channels, all_confirmed, has_channel_id, rows_confirmed, unconfirmed, with_channel}
 use Rattle.rtc_channels.specs.Holds.{channels_without, is_unconfirmed}
 use Rattle.rtc_channels.specs.Openings.{rows_opened}
 use Rattle.rtc_run_laws.proofs.OwnedRows.{HasOver}
@@ -32,7 +32,7 @@ made_sure held config h = sure_more held.rows (unconfirmed held.given config) (�
 -- a row goes
 pub without_sure : (id : ℕ) (rows : List Channel) → AreSureRows rows → AreSureRows (channels_without id rows)
 without_sure id [] h = tt
-without_sure id (row ∷ rows) h = by (has_id id row) (without_sure id rows h.1)
+without_sure id (row ∷ rows) h = by (has_channel_id id row) (without_sure id rows h.1)
   where
     by : (b : Bool) → AreSureRows (channels_without id rows) → AreSureRows (if b then rows else row ∷ channels_without id rows)
     by true rest = h.1
@@ -41,7 +41,7 @@ without_sure id (row ∷ rows) h = by (has_id id row) (without_sure id rows h.1)
 -- a config is passed on
 pub opened_sure : (id : ℕ) (rows : List Channel) → AreSureRows rows → AreSureRows (rows_opened id rows)
 opened_sure id [] h = tt
-opened_sure id (row ∷ rows) h = by (has_id id row) (opened_sure id rows h.1)
+opened_sure id (row ∷ rows) h = by (has_channel_id id row) (opened_sure id rows h.1)
   where
     by : (b : Bool) → AreSureRows (rows_opened id rows)
         → AreSureRows (if b then record row { config = None } ∷ rows else row ∷ rows_opened id rows)
@@ -51,7 +51,7 @@ opened_sure id (row ∷ rows) h = by (has_id id row) (opened_sure id rows h.1)
 -- channels are confirmed
 confirmed_one : (id : ℕ) (config : ChannelConfig) (rows : List Channel) → AreSureRows rows → AreSureRows (rows_confirmed id config rows)
 confirmed_one id config [] h = tt
-confirmed_one id config (row ∷ rows) h = by (has_id id row) (confirmed_one id config rows h.1)
+confirmed_one id config (row ∷ rows) h = by (has_channel_id id row) (confirmed_one id config rows h.1)
   where
     by : (b : Bool) → AreSureRows (rows_confirmed id config rows)
         → AreSureRows (if b then record row { config = Some config; confirmed = true } ∷ rows else row ∷ rows_confirmed id config rows)
@@ -66,7 +66,7 @@ confirmed_sure (channel ∷ rest) held h =
 -- rows are given streams
 given_sure : (id s : ℕ) (rows : List Channel) → AreSureRows rows → AreSureRows (rows_given id s rows)
 given_sure id s [] h = tt
-given_sure id s (row ∷ rows) h = by (has_id id row) (given_sure id s rows h.1)
+given_sure id s (row ∷ rows) h = by (has_channel_id id row) (given_sure id s rows h.1)
   where
     by : (b : Bool) → AreSureRows (rows_given id s rows) → AreSureRows (if b then record row { stream = Some s } ∷ rows else row ∷ rows_given id s rows)
     by true rest = h

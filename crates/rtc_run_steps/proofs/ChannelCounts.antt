@@ -5,7 +5,7 @@ use Rattle.rtc_sdp_values.specs.declared.direction.Direction.{Direction}
 use Rattle.rtc_sdp_values.specs.declared.direction.Direction.TheVariants.{Inactive}
 use Rattle.rtc_sdp_values.specs.declared.sdp.Sdp.{Sdp}
 use Rattle.std.specs.declared.alloc.AllocError.{AllocError}
-use Rattle.rtc_channels.specs.Channels.{Channel, Channels, has_id, rows_confirmed, all_confirmed, confirmed, with_channel, unconfirmed}
+use Rattle.rtc_channels.specs.Channels.{Channel, Channels, has_channel_id, rows_confirmed, all_confirmed, confirmed, with_channel, unconfirmed}
 use Rattle.rtc_change.specs.PendingOffer.{PendingOffer}
 use Rattle.rtc_change.specs.declared.change.Change.{Change}
 use Rattle.rtc_peer_rows.specs.RowChanges.{RowChange, directed_row, stopped_row, changed_of}
@@ -27,9 +27,9 @@ use Rattle.rtc_peer_core.specs.Meanings.{Meanings}
 -- a channel that is confirmed stays one
 rows_counted : (id : ℕ) (config : ChannelConfig) (channels : List Channel) → length (rows_confirmed id config channels) ≡ length channels
 rows_counted id config [] = refl
-rows_counted id config (channel ∷ channels) = by (rows_counted id config channels) (has_id id channel) refl
+rows_counted id config (channel ∷ channels) = by (rows_counted id config channels) (has_channel_id id channel) refl
   where
-    by : length (rows_confirmed id config channels) ≡ length channels → (test : Bool) → has_id id channel ≡ test
+    by : length (rows_confirmed id config channels) ≡ length channels → (test : Bool) → has_channel_id id channel ≡ test
         → length (rows_confirmed id config (channel ∷ channels)) ≡ length (channel ∷ channels)
     by rest true is = rw is refl
     by rest false is = rw (is, rest) refl

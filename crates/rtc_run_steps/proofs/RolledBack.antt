@@ -3,7 +3,7 @@ use Rattle.std.proofs.Common.{◌≡◌, ◌≤◌, ℕ, Bool, true, false, List
 use Rattle.rtc_wire.specs.declared.channel_config.ChannelConfig.{ChannelConfig}
 use Rattle.rtc_sdp_values.specs.declared.direction.Direction.{Direction}
 use Rattle.rtc_sdp_values.specs.declared.line_row.LineRow.{LineRow}
-use Rattle.rtc_channels.specs.Channels.{Channel, Channels, has_id}
+use Rattle.rtc_channels.specs.Channels.{Channel, Channels, has_channel_id}
 use Rattle.rtc_channels.specs.Holds.{all_cancelled, cancelled_if, channels_without, is_unconfirmed}
 use Rattle.rtc_change.specs.PendingOffer.{PendingOffer, new_channels}
 use Rattle.rtc_peer_rows.specs.RowChanges.{all_restored, changed_of, dir_restored, restored_row}
@@ -27,9 +27,9 @@ all_rows (was ∷ more) rows =
 -- and no channel is added
 fewer : (id : ℕ) (channels : List Channel) → length (channels_without id channels) ≤ length channels
 fewer id [] = omega arith
-fewer id (channel ∷ rest) = by (fewer id rest) (has_id id channel) refl
+fewer id (channel ∷ rest) = by (fewer id rest) (has_channel_id id channel) refl
   where
-    by : length (channels_without id rest) ≤ length rest → (test : Bool) → has_id id channel ≡ test
+    by : length (channels_without id rest) ≤ length rest → (test : Bool) → has_channel_id id channel ≡ test
         → length (channels_without id (channel ∷ rest)) ≤ length (channel ∷ rest)
     by few true is = rw is (omega arith)
     by few false is = rw is (omega (arith, few))
