@@ -19,7 +19,7 @@ use Rattle.rtc_peer_core.specs.SessionExtensions.{
   has_number_of,
   HaveNumbersApart,
   HaveOneMeaning,
-  is_taken,
+  is_number_taken,
   session_id,
   short_ids,
   free_id,
@@ -27,7 +27,7 @@ use Rattle.rtc_peer_core.specs.SessionExtensions.{
   has_extension,
   with_number,
   with_extension,
-  numbered,
+  numbered_extensions,
 }
 use Rattle.rtc_peer_core.proofs.Alls.{all-append}
 
@@ -67,9 +67,9 @@ picked {A} {B} test gives (x ∷ xs) b h = by (test x) refl h (λ rest. picked t
 
 -- ---- where a number comes from: the session has it for this very extension, or nobody has it; no row that was made has it
 data Origin (used made : List (ℕ × Extension)) (row : ℕ × Extension) (id : ℕ) : Type 0 where
-  OfSession : (theirs : ℕ × Extension) → Member theirs used → theirs.1 ≡ row.1 → theirs.0 ≡ id → is_taken made id ≡ false
+  OfSession : (theirs : ℕ × Extension) → Member theirs used → theirs.1 ≡ row.1 → theirs.0 ≡ id → is_number_taken made id ≡ false
       → Origin used made row id
-  Free : Member id (row.0 ∷ short_ids) → is_taken used id ≡ false → is_taken made id ≡ false → Origin used made row id
+  Free : Member id (row.0 ∷ short_ids) → is_number_taken used id ≡ false → is_number_taken made id ≡ false → Origin used made row id
 
 origin : (used made : List (ℕ × Extension)) (row : ℕ × Extension) (id : ℕ) → number_for used made row ≡ Some id → Origin used made row id
 origin used made row id h = by (session_id used made row.1) refl h
@@ -77,20 +77,20 @@ origin used made row id h = by (session_id used made row.1) refl h
     by : (o : Option ℕ) → session_id used made row.1 ≡ o → option_or o (free_id used made (row.0 ∷ short_ids)) ≡ Some id
         → Origin used made row id
     by (Some n) e h =
-        let found = picked (λ (theirs : ℕ × Extension). same_extension theirs.1 row.1 && not (is_taken made theirs.0)) (λ theirs. theirs.0) used n e in
-        let passes = both (same_extension found.one.1 row.1) (not (is_taken made found.one.0)) found.passes in
+        let found = picked (λ (theirs : ℕ × Extension). same_extension theirs.1 row.1 && not (is_number_taken made theirs.0)) (λ theirs. theirs.0) used n e in
+        let passes = both (same_extension found.one.1 row.1) (not (is_number_taken made found.one.0)) found.passes in
         let same : Some n ≡ Some id = h in
         let at : found.one.0 ≡ id = found.is ∙ (let it : n ≡ id = cc in it) in
         OfSession found.one found.among (same_is found.one.1 row.1 passes.0) at
-        (subst (λ (m : ℕ). is_taken made m ≡ false) at (not_so (is_taken made found.one.0) passes.1))
+        (subst (λ (m : ℕ). is_number_taken made m ≡ false) at (not_so (is_number_taken made found.one.0) passes.1))
     by None e h =
-        let found = picked (λ (n : ℕ). not (is_taken used n) && not (is_taken made n)) (λ n. n) (row.0 ∷ short_ids) id h in
-        let passes = both (not (is_taken used found.one)) (not (is_taken made found.one)) found.passes in
+        let found = picked (λ (n : ℕ). not (is_number_taken used n) && not (is_number_taken made n)) (λ n. n) (row.0 ∷ short_ids) id h in
+        let passes = both (not (is_number_taken used found.one)) (not (is_number_taken made found.one)) found.passes in
         Free (subst (λ (m : ℕ). Member m (row.0 ∷ short_ids)) found.is found.among)
-        (subst (λ (m : ℕ). is_taken used m ≡ false) found.is (not_so (is_taken used found.one) passes.0))
-        (subst (λ (m : ℕ). is_taken made m ≡ false) found.is (not_so (is_taken made found.one) passes.1))
+        (subst (λ (m : ℕ). is_number_taken used m ≡ false) found.is (not_so (is_number_taken used found.one) passes.0))
+        (subst (λ (m : ℕ). is_number_taken made m ≡ false) found.is (not_so (is_number_taken made found.one) passes.1))
 
-untaken : (used made : List (ℕ × Extension)) (row : ℕ × Extension) (id : ℕ) → Origin used made row id → is_taken made id ≡ false
+untaken : (used made : List (ℕ × Extension)) (row : ℕ × Extension) (id : ℕ) → Origin used made row id → is_number_taken made id ≡ false
 untaken used made row id (OfSession theirs among same at free) = free
 untaken used made row id (Free among apart free) = free
 
@@ -127,7 +127,7 @@ module _ (P : List (ℕ × Extension) → Type 0) (used made : List (ℕ × Exte
       by false put = put
 
 pub numbered_formed : (used made rows : List (ℕ × Extension)) → AreFormedExtensions used → AreFormedExtensions made → AreFormedExtensions rows
-    → AreFormedExtensions (numbered used made rows)
+    → AreFormedExtensions (numbered_extensions used made rows)
 numbered_formed used made [] theirs held own = held
 numbered_formed used made (row ∷ rows) theirs held own =
     numbered_formed used (with_extension used made row) rows theirs
@@ -141,13 +141,13 @@ apart_pushed same [] y h new = (tt, tt)
 apart_pushed same (x ∷ xs) y h new =
     (all-append (λ z. same z x ≡ false) xs (y ∷ []) h.0 (new.0, tt), apart_pushed same xs y h.1 new.1)
 
-others_of : (rows : List (ℕ × Extension)) (id : ℕ) → is_taken rows id ≡ false → AllByRecursion (λ row. (row.0 == id) ≡ false) rows
+others_of : (rows : List (ℕ × Extension)) (id : ℕ) → is_number_taken rows id ≡ false → AllByRecursion (λ row. (row.0 == id) ≡ false) rows
 others_of [] id h = tt
 others_of (row ∷ rows) id h =
-    let parts = neither (row.0 == id) (is_taken rows id) h in
+    let parts = neither (row.0 == id) (is_number_taken rows id) h in
     (parts.0, others_of rows id parts.1)
 
-pub numbered_apart : (used made rows : List (ℕ × Extension)) → HaveNumbersApart made → HaveNumbersApart (numbered used made rows)
+pub numbered_apart : (used made rows : List (ℕ × Extension)) → HaveNumbersApart made → HaveNumbersApart (numbered_extensions used made rows)
 numbered_apart used made [] held = held
 numbered_apart used made (row ∷ rows) held =
     numbered_apart used (with_extension used made row) rows
@@ -155,7 +155,7 @@ numbered_apart used made (row ∷ rows) held =
     (λ id from. apart_pushed has_number_of made (id, row.1) held (others_of made id (untaken used made row id from))) held)
 
 -- ---- each number keeps its meaning
-not_among : (rows : List (ℕ × Extension)) (id : ℕ) → is_taken rows id ≡ false → (x : ℕ × Extension) → Member x rows → x.0 ≡ id → ⊥
+not_among : (rows : List (ℕ × Extension)) (id : ℕ) → is_number_taken rows id ≡ false → (x : ℕ × Extension) → Member x rows → x.0 ≡ id → ⊥
 not_among rows id free x among at =
     let other : (x.0 == id) ≡ false = all_member (λ (row : ℕ × Extension). (row.0 == id) ≡ false) rows (others_of rows id free) x among in
     let one : (x.0 == id) ≡ true = (Decides-eqb x.0 id).1 at in
@@ -189,7 +189,7 @@ agrees_used used made row id held (OfSession theirs m same at free) x among is =
 agrees_used used made row id held (Free m apart free) x among is = absurd (not_among used id apart x among is)
 
 pub numbered_meaning : (used made rows : List (ℕ × Extension)) → HaveOneMeaning used → HaveOneMeaning (used ++ made)
-    → HaveOneMeaning (used ++ numbered used made rows)
+    → HaveOneMeaning (used ++ numbered_extensions used made rows)
 numbered_meaning used made [] theirs held = held
 numbered_meaning used made (row ∷ rows) theirs held =
     numbered_meaning used (with_extension used made row) rows theirs

@@ -1,4 +1,4 @@
--- The header extensions of the lines that a peer adds to a session: in a BUNDLE group one number denotes one extension (RFC 8843, section 12).
+-- The header extensions of the lines that a peer adds: in a BUNDLE group one number denotes one extension (RFC 8843, section 12).
 use Rattle.std.specs.Prelude.{◌≡◌, ℕ, ◌==◌, Bool, true, false, not, ◌&&◌, if◌then◌else◌, List, [], ◌∷◌, ◌++◌, Option, Some, None}
 use Rattle.std.specs.Option.{option_or}
 use Rattle.std.specs.List.{list_any}
@@ -24,13 +24,13 @@ abbrev pub HaveOneMeaning : List (ℕ × Extension) → Type 0
 HaveOneMeaning rows = (x y : ℕ × Extension) → Member x rows → Member y rows → x.0 ≡ y.0 → x.1 ≡ y.1
 
 -- ---- numbers
-abbrev pub is_taken : List (ℕ × Extension) → ℕ → Bool
-is_taken rows id = list_any (λ row. row.0 == id) rows
+abbrev pub is_number_taken : List (ℕ × Extension) → ℕ → Bool
+is_number_taken rows id = list_any (λ row. row.0 == id) rows
 
 -- the number that a session uses for an extension, unless a row that was made has it
 abbrev pub session_id : (used made : List (ℕ × Extension)) → Extension → Option ℕ
 session_id used made extension =
-    first (λ row. if same_extension row.1 extension && not (is_taken made row.0) then Some row.0 else None) used
+    first (λ row. if same_extension row.1 extension && not (is_number_taken made row.0) then Some row.0 else None) used
 
 -- the numbers of headers of one byte (RFC 8285, section 4.2)
 abbrev pub short_ids : List ℕ
@@ -38,7 +38,7 @@ short_ids = 1 ∷ 2 ∷ 3 ∷ 4 ∷ 5 ∷ 6 ∷ 7 ∷ 8 ∷ 9 ∷ 10 ∷ 11 ∷ 
 
 -- the first of these numbers that neither the session nor a row that was made has
 abbrev pub free_id : (used made : List (ℕ × Extension)) → List ℕ → Option ℕ
-free_id used made = first (λ id. if not (is_taken used id) && not (is_taken made id) then Some id else None)
+free_id used made = first (λ id. if not (is_number_taken used id) && not (is_number_taken made id) then Some id else None)
 
 -- the number of a row of the configuration: that of the session, or else its own if it is free, or else the least free one from 1 to 14
 abbrev pub number_for : (used made : List (ℕ × Extension)) → ℕ × Extension → Option ℕ
@@ -57,9 +57,9 @@ abbrev pub with_extension : (used made : List (ℕ × Extension)) → ℕ × Ext
 with_extension used made row = if has_extension made row.1 then made else with_number made row.1 (number_for used made row)
 
 -- these rows, then those of a configuration by the numbers of a session
-abbrev pub numbered : (used made : List (ℕ × Extension)) → List (ℕ × Extension) → List (ℕ × Extension)
-numbered used made [] = made
-numbered used made (row ∷ rows) = numbered used (with_extension used made row) rows
+abbrev pub numbered_extensions : (used made : List (ℕ × Extension)) → List (ℕ × Extension) → List (ℕ × Extension)
+numbered_extensions used made [] = made
+numbered_extensions used made (row ∷ rows) = numbered_extensions used (with_extension used made row) rows
 
 -- ---- what a peer offers on the lines that it adds
 -- the extensions of the lines of a session, stopped ones too
@@ -73,7 +73,7 @@ line_extensions [] = []
 line_extensions (line ∷ rest) = line.exts ++ line_extensions rest
 
 abbrev pub session_formats : Formats → List (ℕ × Extension) → Formats
-session_formats formats used = record formats { extensions = record { rows = numbered used [] formats.extensions.rows } }
+session_formats formats used = record formats { extensions = record { rows = numbered_extensions used [] formats.extensions.rows } }
 
 -- what a peer was built with; if it was so set, its extensions have the numbers of the session
 abbrev pub added_formats : (session_ids : Bool) → Formats → List ToldRow → Formats

@@ -8,7 +8,7 @@ use rtc_wire::{Seq, TryCopy};
 use std::alloc::{AllocError, Global};
 
 fn is_taken(rows: &[(u8, Extension)], id: u8) -> bool
-    ensures { result ≡ spec.is_taken rows.now id }
+    ensures { result ≡ spec.is_number_taken rows.now id }
 {
     for row in rows {
         if row.0 == id {
@@ -101,7 +101,7 @@ fn number_extensions(
     used: &[(u8, Extension)],
     rows: &[(u8, Extension)],
 ) -> Result<Vec<(u8, Extension)>, AllocError>
-    ensures { IfOk result (λ made. made.items ≡ spec.numbered used.now [] rows.now) }
+    ensures { IfOk result (λ made. made.items ≡ spec.numbered_extensions used.now [] rows.now) }
 {
     let mut made = Vec::new(alloc);
     for row in rows {
