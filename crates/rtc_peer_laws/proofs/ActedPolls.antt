@@ -17,7 +17,7 @@ use Rattle.rtc_peer_transport.specs.declared.polled_peer.PolledPeer.{PolledPeer}
 use Rattle.rtc_peer_transport.specs.Closing.{is_closing_complete}
 use Rattle.rtc_peer_polling.proofs.Numbering.{poll_numbers}
 use Rattle.rtc_peer_polling.specs.StreamStages.{channel_over}
-use Rattle.rtc_peer_polling.specs.Walk.{VisitsParts, WaitsIf, AnswersMet, Walks, PollsPeerFrom, PollsPeer, Rests}
+use Rattle.rtc_peer_polling.specs.Walk.{VisitsParts, WaitsIf, AnswersMet, Walks, PollsPeerFrom, PollsPeer, RestsClosed}
 use Rattle.rtc_peer_laws.specs.PeerActs.{nothing_came}
 use Rattle.rtc_peer_laws.specs.Acts.{PeerDid, PollActs, contents_shown, ShowsData}
 use Rattle.rtc_peer_laws.proofs.ActJoins.{SameParts, still_did, did_on}
@@ -136,7 +136,7 @@ module _ {I D S M E X T W N : Type 0} (m : Meanings I D S M E X T W N) (laws : P
   walk_acts p answer q h numbers =
       met_acts h.met p h.visited answer q (repeats_acts m laws.association (VisitsParts m) (visits_act m laws) p h.met h.visited h.by_visits) h.by_answer numbers
 
-  rest_acts : (p : PolledPeer I D S M N) (answer : Result (Output E) RtcError) (q : PolledPeer I D S M N) → Rests p answer q → KeepsNumbers p q → PollActs m p answer q
+  rest_acts : (p : PolledPeer I D S M N) (answer : Result (Output E) RtcError) (q : PolledPeer I D S M N) → RestsClosed p answer q → KeepsNumbers p q → PollActs m p answer q
   rest_acts p answer q h numbers =
       answer_as Nothing _ answer p p q h.0
       (still_visit m Nothing Nothing p p p refl refl (refl, λ held. refl, tt) ((refl, refl, refl, refl, refl), refl, refl)) refl (λ told none. none)

@@ -12,7 +12,7 @@ use Rattle.rtc_peer_core.specs.Calls.{AddsMedia, ChangesLine, StagesRestart, Wan
 use Rattle.rtc_peer_core.specs.Meanings.{Meanings}
 use Rattle.rtc_peer_transport.specs.declared.output.Output.{Output}
 use Rattle.rtc_peer_transport.specs.declared.polled_peer.PolledPeer.{PolledPeer}
-use Rattle.rtc_peer_polling.specs.Walk.{PollsPeer, PollsPeerFrom, Rests}
+use Rattle.rtc_peer_polling.specs.Walk.{PollsPeer, PollsPeerFrom, RestsClosed}
 
 -- a row that is set or stopped
 pub line_closed : {I D S M N : Type 0} (change : RowChange) (to : Direction) (p q : Peer I D S M N) (mid : List ℕ)
@@ -26,7 +26,7 @@ module _ {I D S M E X T W N : Type 0} (m : Meanings I D S M E X T W N) where
   pub poll_closed : (p q : PolledPeer I D S M N) (answer : Result (Output E) RtcError) → PollsPeer m p answer q
       → p.core.phase ≡ Closed → q.core.phase ≡ Closed
   poll_closed p q answer h is =
-      let rests : Rests p answer q = subst (λ (x : Phase). PollsPeerFrom m x p answer q) is h
+      let rests : RestsClosed p answer q = subst (λ (x : Phase). PollsPeerFrom m x p answer q) is h
       in ap (λ (x : PolledPeer I D S M N). x.core.phase) rests.1 ∙ is
 
   -- a line that is staged

@@ -27,8 +27,8 @@ abbrev pub with_reason : {I D S M N : Type 0} → Reason → PolledPeer I D S M 
 with_reason reason p = record p { transport = record p.transport { last_reason = reason } }
 
 -- a closed peer waits for nothing
-abbrev pub Rests : {I D S M E N : Type 0} → PolledPeer I D S M N → Result (Output E) RtcError → PolledPeer I D S M N → Type 0
-Rests p answer q = (answer ≡ Ok (Timeout (2 ^ 64 - 1))) × (q ≡ with_reason NotHappening p)
+abbrev pub RestsClosed : {I D S M E N : Type 0} → PolledPeer I D S M N → Result (Output E) RtcError → PolledPeer I D S M N → Type 0
+RestsClosed p answer q = (answer ≡ Ok (Timeout (2 ^ 64 - 1))) × (q ≡ with_reason NotHappening p)
 
 -- a walk over the parts starts over if it ends with a moment of DTLS that is reached
 abbrev pub StartsOverWhenDue : {I D S M E N : Type 0} → Stage (PolledPeer I D S M N) E
@@ -53,7 +53,7 @@ module _ {I D S M E X T W N : Type 0} (m : Meanings I D S M E X T W N) where
       FollowedBy TellsConnection (FollowedBy (TellsStreams m) (FollowedBy TellsArrivals (FollowedBy SendsDatagrams StartsOverWhenDue)))
 
   abbrev pub WaitsIf : (complete : Bool) → PolledPeer I D S M N → Result (Output E) RtcError → PolledPeer I D S M N → Type 0
-  WaitsIf true p answer q = Rests (closed_peer p) answer q
+  WaitsIf true p answer q = RestsClosed (closed_peer p) answer q
   WaitsIf false p answer q = (answer ≡ Ok (Timeout (wake_moment m p))) × (q ≡ with_reason (least_deadline m p).1 p)
 
   -- If nothing was met, the least deadline is returned; a closing that is complete leaves the peer closed.
@@ -78,7 +78,7 @@ module _ {I D S M E X T W N : Type 0} (m : Meanings I D S M E X T W N) where
   abbrev pub PollsPeerFrom : Phase → PolledPeer I D S M N → Result (Output E) RtcError → PolledPeer I D S M N → Type 0
   PollsPeerFrom Alive p answer q = Walks p answer q
   PollsPeerFrom Closing p answer q = Walks p answer q
-  PollsPeerFrom Closed p answer q = Rests p answer q
+  PollsPeerFrom Closed p answer q = RestsClosed p answer q
 
   -- A poll walks over the parts; a closed peer has nothing to give.
   abbrev pub PollsPeer : PolledPeer I D S M N → Result (Output E) RtcError → PolledPeer I D S M N → Type 0

@@ -3,7 +3,7 @@ ghost use Rattle.std.specs.Prelude.{◌≡◌, ◌≤◌, if◌then◌else◌, l
 ghost use Rattle.rtc_peer_core.specs.Meanings.{meanings};
 ghost use Rattle.rtc_peer_transport.specs.Stages.{RepeatsStage};
 ghost use Rattle.rtc_peer_transport.specs.declared.met.Met.TheVariants.{Again, Nothing};
-ghost use Rattle.rtc_peer_polling.specs.Walk.{PollsPeer, Rests, TellsArrivals, TellsConnection};
+ghost use Rattle.rtc_peer_polling.specs.Walk.{PollsPeer, RestsClosed, TellsArrivals, TellsConnection};
 ghost use Rattle.rtc_peer_polling.specs.Walk.{VisitsParts, Waits, Walks};
 
 use crate::polling_dtls::{has_come, poll_dtls_outputs, time_dtls};
@@ -141,7 +141,7 @@ fn walk<I: IceAgent, D: DtlsInstance, S: Association, M: MediaSession, N: Ids>(
 fn rest<I: IceAgent, D: DtlsInstance, S: Association, M: MediaSession, N: Ids>(
     peer: &mut PolledPeer<I, D, S, M, N>,
 ) -> Result<Output<M::E>, RtcError>
-    ensures { Rests peer.old result peer.new }
+    ensures { RestsClosed peer.old result peer.new }
 {
     peer.transport.last_reason = Reason::NotHappening;
     Ok(Output::Timeout(Moment::FAR_FUTURE))
