@@ -4,7 +4,7 @@ use rtc_peer::Mid;
 /// What examples ask of a peer beside signals, inputs and outputs: what it was built with, and its writers and channels. A function over it
 /// is checked without what a peer consists of.
 pub trait Built {
-    /// Whether it wanted no timeout yet, has so many codecs, a media line once it is declared and not before, and changes once one is staged
+    /// Whether it wanted no timeout yet, has so many codecs, a media line only once it is declared, and changes once one is staged
     /// and none before.
     fn is_as_built(&mut self, codecs: usize, mid: Mid) -> bool;
 

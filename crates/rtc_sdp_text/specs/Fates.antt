@@ -92,12 +92,13 @@ cause Session item = later_cause item
 cause Line item = later_cause item
 
 -- ---- what was seen in a part, with a line of it
-abbrev pub with_number : List ℕ → Option ℕ → List ℕ
-with_number came None = came
-with_number came (Some number) = came ++ number ∷ []
+abbrev pub with_kind_number : List ℕ → Option ℕ → List ℕ
+with_kind_number came None = came
+with_kind_number came (Some number) = came ++ number ∷ []
 
 abbrev pub came_with : Place → List ℕ → Item → List ℕ
 came_with place came (Media head) = []
 came_with place came BadMedia = []
-came_with place came (Says level attribute) = if counts level (is_in_line place) then with_number came (once_number attribute) else came
+came_with place came (Says level attribute) =
+    if counts level (is_in_line place) then with_kind_number came (once_number attribute) else came
 came_with place came _ = came

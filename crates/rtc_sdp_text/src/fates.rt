@@ -151,7 +151,7 @@ pub(crate) fn next(place: Place, item: &Item) -> Place
 }
 
 fn with_number(came: &mut Seq<u8>, number: Option<u8>) -> Result<(), AllocError>
-    ensures { OnOk result (came.new ≡ spec.with_number came.old number) }
+    ensures { OnOk result (came.new ≡ spec.with_kind_number came.old number) }
 {
     match number {
         None => Ok(()),
