@@ -4,7 +4,7 @@ use Rattle.rtc_lines.specs.declared.sdp_offer.SdpOffer.{SdpOffer}
 use Rattle.rtc_change.specs.PendingOffer.{PendingOffer}
 use Rattle.rtc_peer_core.specs.declared.rtc_error.RtcError.{RtcError}
 use Rattle.rtc_c_handle.specs.Negotiation.{Offers, IsOffered, IsUnsaid, IsNotOffered, WritesOffer}
-use Rattle.rtc_c_handle.specs.PlainPeer.{PlainPeer, HeldRtc}
+use Rattle.rtc_c_handle.specs.HeldPeer.{HeldPeer, HeldRtc}
 use Rattle.rtc_c_handle.specs.Statuses.{status_of_error}
 use Rattle.rtc_c_handle.specs.WantedChanges.{MakesOffer}
 use Rattle.rtc_c_handle.specs.declared.held.Held.{Held}
@@ -14,7 +14,7 @@ use Rattle.rtc_c_handle.specs.declared.status.Status.{Status}
 use Rattle.rtc_c_handle.specs.declared.status.Status.TheVariants.{NothingToOffer}
 use Rattle.rtc_c_handle.specs.declared.wanted_change.WantedChange.{WantedChange}
 
-of_wanted : (h : Held) (slice : List WantedChange) (made : Made) (q : PlainPeer) → slice ≡ h.wanted → MakesOffer slice h.rtc.core made q
+of_wanted : (h : Held) (slice : List WantedChange) (made : Made) (q : HeldPeer) → slice ≡ h.wanted → MakesOffer slice h.rtc.core made q
     → MakesOffer h.wanted h.rtc.core made q
 of_wanted h slice made q is makes = subst (λ (wanted : List WantedChange). MakesOffer wanted h.rtc.core made q) is makes
 
@@ -24,7 +24,7 @@ pub keeps_offer : (h g : Held) (rtc : HeldRtc) (slice left : List WantedChange) 
     → g ≡ record { rtc = rtc; token = Some token; text = g.text; wanted = left; output = h.output } → Offers h status g
 keeps_offer h g rtc slice left offer token status slice_is makes same none writes is =
     let core : rtc.core ≡ g.rtc.core = ap (λ (held : Held). held.rtc.core) (sym is) in
-    IsOffered offer token (subst (λ (q : PlainPeer). MakesOffer h.wanted h.rtc.core (Offer offer token) q) core (of_wanted h slice (Offer offer token) rtc.core slice_is makes)) writes
+    IsOffered offer token (subst (λ (q : HeldPeer). MakesOffer h.wanted h.rtc.core (Offer offer token) q) core (of_wanted h slice (Offer offer token) rtc.core slice_is makes)) writes
     (is ∙ (λ j. record { rtc = record { core = core j; transport = same j }; token = Some token; text = g.text; wanted = none j; output = h.output }))
 
 pub keeps_nothing : (h : Held) (rtc : HeldRtc) (slice left : List WantedChange) → slice ≡ h.wanted

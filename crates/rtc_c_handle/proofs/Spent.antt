@@ -10,9 +10,9 @@ use Rattle.rtc_peer_core.specs.declared.rtc_error.RtcError.{RtcError}
 use Rattle.rtc_peer_transport.specs.declared.polled_peer.PolledPeer.{PolledPeer}
 use Rattle.rtc_c_handle.specs.declared.held.Held.{Held}
 use Rattle.rtc_c_handle.specs.Negotiation.{SpendsToken, HadToken, had_token}
-use Rattle.rtc_c_handle.specs.PlainPeer.{PlainPeer}
+use Rattle.rtc_c_handle.specs.HeldPeer.{HeldPeer}
 
-pub spent : (calls : PlainPeer → PendingOffer → Result (Unit {0}) RtcError → PlainPeer → Type 0) (h : Held)
+pub spent : (calls : HeldPeer → PendingOffer → Result (Unit {0}) RtcError → HeldPeer → Type 0) (h : Held)
     (rtc : PolledPeer IceContents DtlsContents Contents MediaContents ℕ) (left : Option PendingOffer) (token : PendingOffer)
     (returned : Result (Unit {0}) RtcError) (r : Result Bool RtcError)
     → h.token ≡ Some token → left ≡ None → rtc.transport ≡ h.rtc.transport

@@ -12,7 +12,7 @@ use Rattle.rtc_peer_core.specs.declared.rtc_error.RtcError.{RtcError}
 use Rattle.rtc_peer_transport.specs.Connection.{no_transport}
 use Rattle.rtc_sdp_reader.specs.Reading.{reading}
 use Rattle.rtc.specs.PlainPeers.{IsPlainPeer}
-use Rattle.rtc_c_handle.specs.Negotiation.{AnswersOffer, TakesAnswer, TakesBack}
+use Rattle.rtc_c_handle.specs.Negotiation.{AnswersOffer, TakesAnswer, RollsOfferBack}
 use Rattle.rtc_c_handle.specs.Rows.{channel_entry, line_entry}
 use Rattle.rtc_c_handle.specs.Settings.{addr_of, config_of_settings, role_of_number}
 use Rattle.rtc_c_handle.specs.Statuses.{status_of_call, status_of_token}
@@ -77,7 +77,7 @@ pub record AnswerGiven (text : List ℕ) (h : Held) (status : Status) (g : Held)
 pub record OfferTakenBack (h : Held) (status : Status) (g : Held) : Type 0 where
   pub returned : Result Bool RtcError
   pub is_returned : status ≡ status_of_token returned
-  pub takes_back : TakesBack h returned g
+  pub takes_back : RollsOfferBack h returned g
 
 -- A change is kept for the next offer, or there is no memory for it.
 pub data WantsChange (change : WantedChange) (h : Held) (status : Status) (g : Held) : Type 0 where

@@ -8,8 +8,8 @@ use Rattle.rtc_peer_core.specs.declared.peer.Peer.{Peer}
 use Rattle.rtc_peer_transport.specs.declared.polled_peer.PolledPeer.{PolledPeer}
 
 -- a peer over the parts in memory, as negotiation sees it
-abbrev pub PlainPeer : Type 0
-PlainPeer = Peer IceContents DtlsContents Contents MediaContents ℕ
+abbrev pub HeldPeer : Type 0
+HeldPeer = Peer IceContents DtlsContents Contents MediaContents ℕ
 
 -- the same with its connection
 abbrev pub HeldRtc : Type 0

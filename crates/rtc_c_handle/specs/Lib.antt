@@ -1,10 +1,10 @@
 pub mod Calls
 pub mod ChannelSettings
+pub mod HeldPeer
 pub mod Negotiation
 pub mod Numbers
 pub mod Outputs
 pub mod Owned
-pub mod PlainPeer
 pub mod Rows
 pub mod Settings
 pub mod Statuses

@@ -12,7 +12,7 @@ use Rattle.rtc_peer_core.specs.RtcErrors.{error_of_sdp}
 use Rattle.rtc_peer_core.specs.declared.rtc_error.RtcError.{RtcError}
 use Rattle.rtc.specs.PlainPeers.{memory_parts}
 use Rattle.rtc.specs.Texts.{AcceptsOfferText}
-use Rattle.rtc_c_handle.specs.PlainPeer.{PlainPeer}
+use Rattle.rtc_c_handle.specs.HeldPeer.{HeldPeer}
 use Rattle.rtc_c_handle.specs.Statuses.{status_of_error}
 use Rattle.rtc_c_handle.specs.WantedChanges.{MakesOffer}
 use Rattle.rtc_c_handle.specs.declared.held.Held.{Held}
@@ -31,7 +31,7 @@ had_token (Ok done) = Ok true
 had_token (Err error) = Err error
 
 -- A peer at which nothing is staged is given the token that is kept, which is consumed; or there is none, and nothing changes.
-pub data SpendsToken (calls : PlainPeer → PendingOffer → Result (Unit {0}) RtcError → PlainPeer → Type 0)
+pub data SpendsToken (calls : HeldPeer → PendingOffer → Result (Unit {0}) RtcError → HeldPeer → Type 0)
     (h : Held) (r : Result Bool RtcError) (g : Held) : Type 0 where
   HasNoToken : h.token ≡ None → r ≡ Ok false → g ≡ h → SpendsToken calls h r g
   HadToken : (token : PendingOffer) (returned : Result (Unit {0}) RtcError) → h.token ≡ Some token
@@ -45,8 +45,8 @@ pub data TakesAnswer (read : Result Sdp ℕ) (h : Held) (r : Result Bool RtcErro
       → SpendsToken (λ p token returned q. AcceptsAnswer memory_parts p token answer returned q) h r g → TakesAnswer read h r g
 
 -- An offer of this side is rolled back.
-abbrev pub TakesBack : Held → Result Bool RtcError → Held → Type 0
-TakesBack h r g = SpendsToken (λ p token returned q. RollsBack p token returned q) h r g
+abbrev pub RollsOfferBack : Held → Result Bool RtcError → Held → Type 0
+RollsOfferBack h r g = SpendsToken (λ p token returned q. RollsBack p token returned q) h r g
 
 -- An offer is written as the text that is to be sent, or there is no memory for it, and the text is unchanged.
 abbrev pub WritesOffer : Sdp → List ℕ → Status → List ℕ → Type 0

@@ -1,7 +1,5 @@
 -- What numbers of C stand for.
 use Rattle.std.specs.Prelude.{ℕ, ◌==◌, if◌then◌else◌, Option, Some, None}
-use Rattle.rtc_wire.specs.declared.protocol.Protocol.{Protocol}
-use Rattle.rtc_wire.specs.declared.protocol.Protocol.TheVariants.{Udp, Tcp, SslTcp, Tls}
 use Rattle.rtc_wire.specs.declared.reliability.Reliability.{Reliability}
 use Rattle.rtc_wire.specs.declared.reliability.Reliability.TheVariants.{Reliable, MaxPacketLifetime, MaxRetransmits}
 use Rattle.rtc_sdp_values.specs.declared.direction.Direction.{Direction}
@@ -42,12 +40,6 @@ reliability_of_number n limit =
     else if n == 1 then Some (MaxPacketLifetime limit)
     else if n == 2 then Some (MaxRetransmits limit)
     else None
-
-abbrev pub protocol_number : Protocol → ℕ
-protocol_number Udp = 0
-protocol_number Tcp = 1
-protocol_number SslTcp = 2
-protocol_number Tls = 3
 
 abbrev pub state_number : IceConnectionState → ℕ
 state_number New = 0

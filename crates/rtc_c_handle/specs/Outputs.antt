@@ -6,7 +6,8 @@ use Rattle.rtc_peer_transport.specs.declared.event.Event.{Event as PeerEvent}
 use Rattle.rtc_peer_transport.specs.declared.event.Event.TheVariants as events
 use Rattle.rtc_peer_transport.specs.declared.output.Output.{Output}
 use Rattle.rtc_peer_transport.specs.declared.output.Output.TheVariants.{Timeout, Transmit, Event}
-use Rattle.rtc_c_handle.specs.Numbers.{kind_number, direction_number, protocol_number, state_number}
+use Rattle.rtc_plain_ice.specs.Places.{protocol_number}
+use Rattle.rtc_c_handle.specs.Numbers.{kind_number, direction_number, state_number}
 use Rattle.rtc_c_handle.specs.Settings.{address_of}
 use Rattle.rtc_c_handle.specs.declared.address.Address.{Address}
 use Rattle.rtc_c_handle.specs.declared.output_row.OutputRow.{OutputRow}

@@ -16,7 +16,7 @@ use Rattle.rtc_peer_polling.specs.Walk.{PollsPeer}
 use Rattle.rtc.specs.PlainPeers.{memory_parts}
 use Rattle.rtc.specs.Receives.{ReceivesDatagram}
 use Rattle.rtc_c_handle.specs.Outputs.{row_of_output}
-use Rattle.rtc_c_handle.specs.PlainPeer.{HeldRtc}
+use Rattle.rtc_c_handle.specs.HeldPeer.{HeldRtc}
 use Rattle.rtc_c_handle.specs.Settings.{addr_of}
 use Rattle.rtc_c_handle.specs.Statuses.{status_of_call, status_of_error, status_of_memory, status_of_write}
 use Rattle.rtc_c_handle.specs.declared.address.Address.{Address}

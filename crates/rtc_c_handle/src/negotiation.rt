@@ -4,7 +4,7 @@ ghost use Rattle.rtc_peer_core.specs.Acceptances.{AcceptsAnswer};
 ghost use Rattle.rtc_peer_core.specs.RollingBack.{RollsBack};
 ghost use Rattle.rtc_sdp_reader.specs.Reading.{reading};
 ghost use Rattle.rtc.specs.PlainPeers.{memory_parts};
-ghost use Rattle.rtc_c_handle.specs.Negotiation.{AnswersOffer, Offers, SpendsToken, TakesAnswer, TakesBack, WritesOffer};
+ghost use Rattle.rtc_c_handle.specs.Negotiation.{AnswersOffer, Offers, SpendsToken, TakesAnswer, RollsOfferBack, WritesOffer};
 
 use crate::staging::make_offer;
 use crate::{Held, Made, Status};
@@ -54,7 +54,7 @@ impl Held {
 
     // Gives the answer to the offer whose token is kept, and returns whether there was one.
     fn finish(&mut self, answer: SdpAnswer) -> Result<bool, RtcError>
-        ensures spends { SpendsToken (λ p token returned q. AcceptsAnswer memory_parts p token answer.0 returned q) self.old result self.new }
+        ensures spends { SpendsToken (λ p token r q. AcceptsAnswer memory_parts p token answer.0 r q) self.old result self.new }
     {
         match self.token.take() {
             Some(token) => match give_answer(&mut self.rtc, token, answer) {
@@ -79,7 +79,7 @@ impl Held {
 
     /// Rolls the offer of this side back, and returns whether there was one (RFC 8829, section 5.7). The token is consumed.
     pub fn roll_back(&mut self) -> Result<bool, RtcError>
-        ensures takes_back { TakesBack self.old result self.new }
+        ensures takes_back { RollsOfferBack self.old result self.new }
     {
         match self.token.take() {
             Some(token) => match take_back(&mut self.rtc, token) {

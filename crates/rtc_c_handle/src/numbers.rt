@@ -1,7 +1,8 @@
 //! What numbers of C stand for.
 ghost use Rattle.std.specs.Prelude.{◌≡◌};
 ghost use Rattle.rtc_c_handle.specs.Numbers.{direction_number, direction_of_number, kind_number, kind_of_number};
-ghost use Rattle.rtc_c_handle.specs.Numbers.{protocol_number, reliability_of_number, state_number};
+ghost use Rattle.rtc_c_handle.specs.Numbers.{reliability_of_number, state_number};
+ghost use Rattle.rtc_plain_ice.specs.Places.{protocol_number};
 
 use rtc::{Direction, IceConnectionState, MediaKind, Protocol, Reliability};
 

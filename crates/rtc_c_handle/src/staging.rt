@@ -1,6 +1,6 @@
 //! Changes, staged at a peer and offered.
 ghost use Rattle.std.specs.Prelude.{◌≡◌};
-ghost use Rattle.rtc_c_handle.specs.WantedChanges.{AddsConfigured, AddsUnnamed, EndsLine, MakesOffer, RestartsIce};
+ghost use Rattle.rtc_c_handle.specs.WantedChanges.{AddsConfigured, AddsUnnamed, EndsLine, MakesOffer, StagesIceRestart};
 ghost use Rattle.rtc_c_handle.specs.WantedChanges.{StagesChange, StagesChanges, TurnsLine};
 
 use crate::{Made, WantedChange};
@@ -76,7 +76,7 @@ fn restart_ice(
 ) -> Result<(), RtcError>
     ensures same_reference { api.new.rtc.ghost_name ≡ api.old.rtc.ghost_name }
     ensures connection { api.new.rtc.now.transport ≡ api.old.rtc.now.transport }
-    ensures restarts { RestartsIce keep api.old.rtc.now.core result api.new.rtc.now.core }
+    ensures restarts { StagesIceRestart keep api.old.rtc.now.core result api.new.rtc.now.core }
 {
     match api.ice_restart(keep) {
         Ok(_creds) => Ok(()),
