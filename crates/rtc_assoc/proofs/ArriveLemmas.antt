@@ -13,7 +13,7 @@ use Rattle.rtc_assoc_state.specs.Streams.{stream_of, put, reset_row, is_unclosed
 use Rattle.rtc_assoc_state.specs.Inbox.{Inbox, bytes_so_far, with_bytes, without_part, without_messages, with_message, forgotten, message_of}
 use Rattle.rtc_assoc_state.specs.Settling.{can_reset}
 use Rattle.rtc_assoc_state.specs.Contents.{Contents}
-use Rattle.rtc_assoc_state.specs.Calls.{sent, item_counted, more_kept, last_kept, finished, reset_told, close_came_at, close_came, part_came, item_put, item_taken, is_ahead, with_ahead}
+use Rattle.rtc_assoc_state.specs.Calls.{sent, item_counted, more_kept, last_kept, finished, reset_told, close_came_at, close_came, part_came, item_put, item_taken, is_stray, with_stray}
 use Rattle.rtc_assoc_state.proofs.RaiseLemmas.{stream_of-stream}
 use Rattle.rtc_assoc.specs.Unread.{unread, IsPrefix}
 use Rattle.rtc_assoc.proofs.MessageLemmas.{is_pair, pair_tells, message, messages, left, HasClose}
@@ -272,14 +272,14 @@ there_row : (id : ℕ) (streams : List StreamRow) → RowOf id (record (stream_o
 there_row id streams = record { stream_is = stream_of-stream id streams; generation_is = refl; close_is = refl }
 
 -- what is remembered of an item is read nowhere
-came_marked : (p q : Contents) (b : Bool) (got : List Item) → Came p q got → Came p (with_ahead b q) got
+came_marked : (p q : Contents) (b : Bool) (got : List Item) → Came p q got → Came p (with_stray b q) got
 came_marked p q b got h = record {
   more = h.more;
   arrives = record { acked = h.arrives.acked; items = h.arrives.items; gets = gets_marked p.inbox p.streams got no_reads q.inbox q.streams b h.arrives.gets; silent = h.arrives.silent; whole = h.arrives.whole; closes = h.arrives.closes; dies = h.arrives.dies };
 }
   where
-    gets_marked : (a : Inbox) (x : List StreamRow) (got : List Item) (reads : ℕ → ℕ → List AssociationMessage) (c : Inbox) (y : List StreamRow) (b : Bool) → Gets a x got reads c y → Gets a x got reads (record c { ahead = c.ahead || b }) y
+    gets_marked : (a : Inbox) (x : List StreamRow) (got : List Item) (reads : ℕ → ℕ → List AssociationMessage) (c : Inbox) (y : List StreamRow) (b : Bool) → Gets a x got reads c y → Gets a x got reads (record c { strayed = c.strayed || b }) y
     gets_marked a x got reads c y b h = record { count = h.count; fewer = h.fewer; unread_is = h.unread_is; front_is = h.front_is; gone = h.gone }
 
 pub came_taken : (now : ℕ) (item : Item) (p : Contents) → Came p (item_taken now item p) (item ∷ [])
-came_taken now item p = came_marked p (item_put now item p) (is_ahead item p) (item ∷ []) (came_part item.part now item.stream item.generation item.identifier item.bytes (record (stream_of item.stream p.streams) { there = true }) p (there_row item.stream p.streams))
+came_taken now item p = came_marked p (item_put now item p) (is_stray item p) (item ∷ []) (came_part item.part now item.stream item.generation item.identifier item.bytes (record (stream_of item.stream p.streams) { there = true }) p (there_row item.stream p.streams))

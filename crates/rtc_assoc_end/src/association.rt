@@ -32,7 +32,7 @@ pub struct PlainAssociation {
     pub(crate) received: u64,
     pub(crate) parts: Parts,
     pub(crate) unread: Unread,
-    pub(crate) ahead: bool,
+    pub(crate) strayed: bool,
     pub(crate) streams: StreamTable,
     pub(crate) events: VecDeque<AssocEvent>,
     pub(crate) packets: VecDeque<Packet>,
@@ -49,7 +49,7 @@ impl Model for PlainAssociation {
       standing = a.standing;
       clock = a.clock;
       outbox = record { acked = a.acked; items = a.items.items };
-      inbox = record { received = a.received; parts = a.parts; unread = a.unread; ahead = a.ahead };
+      inbox = record { received = a.received; parts = a.parts; unread = a.unread; strayed = a.strayed };
       streams = a.streams.rows.items;
       events = a.events.items;
       packets = a.packets.items;
@@ -75,7 +75,7 @@ impl Drop for PlainAssociation {
             received: _received,
             parts: _parts,
             unread: _unread,
-            ahead: _ahead,
+            strayed: _strayed,
             streams: _streams,
             events: _events,
             packets: _packets,
@@ -112,7 +112,7 @@ impl PlainAssociation {
             received: 0,
             parts: Parts::new(alloc),
             unread: Unread::new(alloc),
-            ahead: false,
+            strayed: false,
             streams: StreamTable::new(alloc),
             events: VecDeque::new(alloc),
             packets: VecDeque::new(alloc),

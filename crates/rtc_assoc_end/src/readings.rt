@@ -5,7 +5,7 @@ ghost use Rattle.rtc_assoc_packets.specs.Headers.{item_with};
 ghost use Rattle.rtc_assoc_state.specs.Contents.{is_closing, is_closed, is_ending, has_stream};
 ghost use Rattle.rtc_assoc_state.specs.Contents.{closed_here, is_stale, generation_of, buffered_of, wake_of};
 ghost use Rattle.rtc_assoc_state.specs.Contents.{hello_wake, items_wake};
-ghost use Rattle.rtc_assoc_state.specs.Calls.{is_ahead, hello_due, items_due};
+ghost use Rattle.rtc_assoc_state.specs.Calls.{is_stray, hello_due, items_due};
 
 use crate::association::PlainAssociation;
 use rtc_assoc_packets::ItemHeader;
@@ -35,12 +35,12 @@ impl PlainAssociation {
         self.closes() || self.is_lost()
     }
 
-    /// Whether an item is of a later generation than its stream has.
-    pub(crate) fn is_ahead(&self, item: ItemHeader) -> bool
-        ensures { result ≡ is_ahead (item_with item []) self.now }
+    /// Whether an item is of another generation than its stream has.
+    pub(crate) fn is_stray(&self, item: ItemHeader) -> bool
+        ensures { result ≡ is_stray (item_with item []) self.now }
     {
         let row = self.streams.row_of(item.stream);
-        row.generation < item.generation
+        item.generation != row.generation
     }
 
     pub(crate) fn has(&self, id: u16) -> bool

@@ -34,7 +34,7 @@ impl PlainAssociation {
         }
     }
 
-    /// The next item was received. Whether it is of a later generation is remembered.
+    /// The next item was received. Whether it is of another generation than its stream is remembered.
     #[tactic(auto, unfolding(rtc_assoc_state::specs::Calls::answered))]
     pub(crate) fn take_item(
         &mut self,
@@ -47,9 +47,9 @@ impl PlainAssociation {
         ensures ok { OnOk result (Sends self.old (answered (item_taken now (item_with item bytes.now) self.old)) self.new) }
         ensures err { OnErr result (self.new ≡ self.old) }
     {
-        let ahead = self.is_ahead(item);
+        let strayed = self.is_stray(item);
         self.put_item(now, item, bytes)?;
-        self.ahead = self.ahead || ahead;
+        self.strayed = self.strayed || strayed;
         Ok(())
     }
 

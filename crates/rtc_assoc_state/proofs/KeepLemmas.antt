@@ -23,7 +23,7 @@ use Rattle.rtc_assoc_state.specs.Streams.{stream_of, put, reset_row, is_closed_h
 use Rattle.rtc_assoc_state.specs.Outbox.{settled_count}
 use Rattle.rtc_assoc_state.specs.Settling.{told_of, can_reset}
 use Rattle.rtc_assoc_state.specs.Contents.{Contents, is_started, is_ending, is_server, waits}
-use Rattle.rtc_assoc_state.specs.Calls.{limited, opened, sent, taken_out, stream_ended, shut_down, greeted, welcomed, acknowledged, item_counted, more_kept, last_kept, piece_kept, finished, reset_told, close_came_at, part_came, item_put, item_taken, is_ahead, with_ahead, item_came, answered, lost, framed, half_taken, at_moment, input_taken, timed}
+use Rattle.rtc_assoc_state.specs.Calls.{limited, opened, sent, taken_out, stream_ended, shut_down, greeted, welcomed, acknowledged, item_counted, more_kept, last_kept, piece_kept, finished, reset_told, close_came_at, part_came, item_put, item_taken, is_stray, with_stray, item_came, answered, lost, framed, half_taken, at_moment, input_taken, timed}
 use Rattle.rtc_assoc_state.proofs.RaiseLemmas.{Raises, raises_none, raises_join, raises_told, raises_put, raises_settled, own_generation, own_close, raises_finished, raises_finished_reset, SaysNothing, threshold-stream_of}
 use Rattle.rtc_assoc_state.proofs.RaiseLemmas.{stream_of-stream, stream_of-put, own_there}
 
@@ -248,14 +248,14 @@ alike_there id p = record {
   there = refl;
 }
 
-keeps_marked : (b : Bool) (p : Contents) → KeepsContents p (with_ahead b p)
+keeps_marked : (b : Bool) (p : Contents) → KeepsContents p (with_stray b p)
 keeps_marked b p = record { started = refl; max_send = refl; raises = raises_none p.streams p.events; readable = λ id g u. inl u; silent = λ h. h }
 
 keeps_item_if : (b : Bool) (now : ℕ) (item : Item) (p : Contents) → KeepsContents p (cond b (item_taken now item p) p)
 keeps_item_if true now item p =
     keeps_join p (item_put now item p) (item_taken now item p)
     (keeps_part item.part now item (record (stream_of item.stream p.streams) { there = true }) p (alike_there item.stream p) (own_close item.stream p.streams) (stream_of-stream item.stream p.streams))
-    (keeps_marked (is_ahead item p) (item_put now item p))
+    (keeps_marked (is_stray item p) (item_put now item p))
 keeps_item_if false now item p = keeps_none p
 
 pub keeps_item_came : (now number : ℕ) (item : Item) (p : Contents) → KeepsContents p (item_came now number item p)

@@ -1,5 +1,5 @@
 -- What each call leaves of the contents.
-use Rattle.std.specs.Prelude.{ℕ, ◌+◌, ◌-◌, ◌==◌, ◌&&◌, ◌||◌, not, nat_le, nat_lt, if◌then◌else◌, Bool, true}
+use Rattle.std.specs.Prelude.{ℕ, ◌+◌, ◌-◌, ◌==◌, ◌&&◌, ◌||◌, not, nat_le, if◌then◌else◌, Bool, true}
 use Rattle.std.specs.Prelude.{List, [], ◌∷◌, ◌++◌, drop, Option, Some, None}
 use Rattle.rtc_part_association.specs.declared.assoc_event.AssocEvent.{AssocEvent}
 use Rattle.rtc_part_association.specs.declared.assoc_event.AssocEvent.TheVariants.{Connected, Lost, Readable, Finished, ResetComplete}
@@ -172,16 +172,16 @@ part_came _ now item row p = piece_came item row p
 abbrev pub item_put : ℕ → Item → Contents → Contents
 item_put now item p = part_came item.part now item (record (stream_of item.stream p.streams) { there = true }) p
 
--- whether an item is of a later generation than its stream has
-abbrev pub is_ahead : Item → Contents → Bool
-is_ahead item p = nat_lt (stream_of item.stream p.streams).generation item.generation
+-- whether an item is of another generation than its stream has
+abbrev pub is_stray : Item → Contents → Bool
+is_stray item p = not (item.generation == (stream_of item.stream p.streams).generation)
 
-abbrev pub with_ahead : Bool → Contents → Contents
-with_ahead ahead p = record p { inbox = record p.inbox { ahead = p.inbox.ahead || ahead } }
+abbrev pub with_stray : Bool → Contents → Contents
+with_stray strayed p = record p { inbox = record p.inbox { strayed = p.inbox.strayed || strayed } }
 
 -- that is remembered of an item that is taken
 abbrev pub item_taken : ℕ → Item → Contents → Contents
-item_taken now item p = with_ahead (is_ahead item p) (item_put now item p)
+item_taken now item p = with_stray (is_stray item p) (item_put now item p)
 
 -- an item is taken if its number is the next one, whatever generation it carries, and never while the association is
 -- closing or closed

@@ -30,7 +30,7 @@ fresh_contents = record {
   standing = record { role = Unstarted; connected = false; shut = false; lost = false };
   clock = record { now = 0; hello_sent = 0; items_sent = 0 };
   outbox = record { acked = 0; items = [] };
-  inbox = record { received = 0; parts = []; unread = []; ahead = false };
+  inbox = record { received = 0; parts = []; unread = []; strayed = false };
   streams = [];
   events = [];
   packets = [];

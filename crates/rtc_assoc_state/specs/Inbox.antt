@@ -10,8 +10,8 @@ pub record Inbox : Type 0 where
   pub received : ℕ
   pub parts : List MessagePart
   pub unread : List Message
-  -- whether an item of a generation that its stream had not come to was ever taken
-  pub ahead : Bool
+  -- whether an item of another generation than its stream had was ever taken
+  pub strayed : Bool
 
 abbrev pub part : ℕ → ℕ → List ℕ → MessagePart
 part stream generation bytes = record { stream = stream; generation = generation; bytes = bytes }

@@ -15,7 +15,7 @@ use Rattle.rtc_assoc_state.specs.Contents.{Contents, is_ending, generation_of}
 use Rattle.rtc_assoc_state.specs.Streams.{is_closed_here, is_unclosed, put, reset_row, stream_of, takes_messages}
 use Rattle.rtc_assoc_state.specs.Outbox.{Outbox}
 use Rattle.rtc_assoc_state.specs.Settling.{can_reset}
-use Rattle.rtc_assoc_state.specs.Calls.{sent, item_counted, more_kept, last_kept, piece_kept, finished, reset_told, close_came_at, part_came, item_put, item_taken, is_ahead, with_ahead, item_came, answered}
+use Rattle.rtc_assoc_state.specs.Calls.{sent, item_counted, more_kept, last_kept, piece_kept, finished, reset_told, close_came_at, part_came, item_put, item_taken, is_stray, with_stray, item_came, answered}
 use Rattle.rtc_assoc_state.proofs.RaiseLemmas.{stream_of-stream}
 use Rattle.rtc_assoc.proofs.MessageLemmas.{Closes, HasClose, close-left, close-right}
 use Rattle.rtc_assoc.proofs.FrameLemmas.{Brings}
@@ -29,16 +29,16 @@ no_more h = cc
 no_last : Last ≡ Close → ⊥
 no_last h = cc
 
--- an item that is not ahead leaves no mark
+-- an item that is not strayed leaves no mark
 or_none : (a b : Bool) → b ≡ false → (a || b) ≡ a
 or_none true b e = refl
 or_none false b e = e
 
-not_ahead : (g own : ℕ) → g ≤ own → nat_lt own g ≡ false
-not_ahead g own le = grind (arith, le)
+not_stray : (g own : ℕ) → g ≤ own → nat_lt own g ≡ false
+not_stray g own le = grind (arith, le)
 
-take_with_ahead : (f : Option Frame) (p q : Contents) (b : Bool) → b ≡ false → TakeGo f p q → TakeGo f p (with_ahead b q)
-take_with_ahead f p q b none h = take_as f p q (with_ahead b q) refl refl refl (or_none q.inbox.ahead b none) h
+take_with_stray : (f : Option Frame) (p q : Contents) (b : Bool) → b ≡ false → TakeGo f p q → TakeGo f p (with_stray b q)
+take_with_stray f p q b none h = take_as f p q (with_stray b q) refl refl refl (or_none q.inbox.strayed b none) h
 
 module _ (n number : ℕ) (item : Item) (p : Contents) (number_is : number ≡ p.inbox.received + 1) where
   abbrev old : StreamRow
@@ -70,7 +70,7 @@ module _ (n number : ℕ) (item : Item) (p : Contents) (number_is : number ≡ p
   brought = (refl, number_is, refl)
 
   -- no close that tells anything
-  counted : (q : Contents) → q.streams ≡ p.streams → q.outbox ≡ p.outbox → q.inbox.received ≡ p.inbox.received → q.inbox.ahead ≡ p.inbox.ahead
+  counted : (q : Contents) → q.streams ≡ p.streams → q.outbox ≡ p.outbox → q.inbox.received ≡ p.inbox.received → q.inbox.strayed ≡ p.inbox.strayed
       → ((g : ℕ) → Closes item.stream g item → g < row.generation) → TakeGo (Some (Data n number item)) p (item_counted row q)
   unfolding item_counted
   counted q s o i ah news =
@@ -81,7 +81,7 @@ module _ (n number : ℕ) (item : Item) (p : Contents) (number_is : number ≡ p
         acked = ap (λ (x : Outbox). x.acked) o;
         items = ap (λ (x : Outbox). x.items) o ∙ sym (append-nil p.outbox.items);
         received = omega (arith, i);
-        ahead = ah;
+        strayed = ah;
         brings = brought;
         own = own_stream;
         sent = tt;
@@ -128,7 +128,7 @@ module _ (n number : ℕ) (item : Item) (p : Contents) (number_is : number ≡ p
           acked = refl;
           items = sym (append-nil p.outbox.items);
           received = refl;
-          ahead = refl;
+          strayed = refl;
           brings = brought;
           own = own_stream;
           sent = tt;
@@ -149,7 +149,7 @@ module _ (n number : ℕ) (item : Item) (p : Contents) (number_is : number ≡ p
           acked = refl;
           items = sym (append-nil p.outbox.items);
           received = refl;
-          ahead = refl;
+          strayed = refl;
           brings = brought;
           own = own_stream;
           sent = tt;
@@ -170,7 +170,7 @@ module _ (n number : ℕ) (item : Item) (p : Contents) (number_is : number ≡ p
           acked = refl;
           items = refl;
           received = refl;
-          ahead = refl;
+          strayed = refl;
           brings = brought;
           own = own_stream;
           sent = (stream_of-stream item.stream p.streams, tt);
@@ -223,7 +223,7 @@ module _ (n number : ℕ) (item : Item) (p : Contents) (number_is : number ≡ p
 
   item_taken_so : (now : ℕ) → item.generation ≤ row.generation → TakeGo (Some (Data n number item)) p (item_taken now item p)
   item_taken_so now behind =
-      take_with_ahead (Some (Data n number item)) p (item_put now item p) (is_ahead item p) (not_ahead item.generation row.generation behind) (part_came_so item.part now refl behind)
+      take_with_stray (Some (Data n number item)) p (item_put now item p) (is_stray item p) (not_stray item.generation row.generation behind) (part_came_so item.part now refl behind)
 
 item_if : (next ending : Bool) (n now number : ℕ) (item : Item) (p : Contents) → (number == p.inbox.received + 1) ≡ next
     → (number ≡ p.inbox.received + 1 → item.generation ≤ generation_of p item.stream)

@@ -19,7 +19,7 @@ pub record EndGo (f : Option Frame) (p q : Contents) : Type 0 where
   pub acked : q.outbox.acked ≡ p.outbox.acked + count
   pub items : q.outbox.items ≡ drop count p.outbox.items ++ more
   pub received : q.inbox.received ≡ p.inbox.received + length got
-  pub ahead : q.inbox.ahead ≡ p.inbox.ahead
+  pub strayed : q.inbox.strayed ≡ p.inbox.strayed
   pub brings : Brings p.inbox.received got f
   pub keeps : (w r : List Item) → Keeps p.streams p.outbox.items w r → Keeps q.streams q.outbox.items (w ++ more) (r ++ got)
   pub fits : (w r : List Item) → Keeps p.streams p.outbox.items w r → OrderedFrom w more
@@ -31,7 +31,7 @@ pub record TakeGo (f : Option Frame) (p q : Contents) : Type 0 where
   pub acked : q.outbox.acked ≡ p.outbox.acked
   pub items : q.outbox.items ≡ p.outbox.items ++ more
   pub received : q.inbox.received ≡ p.inbox.received + length got
-  pub ahead : q.inbox.ahead ≡ p.inbox.ahead
+  pub strayed : q.inbox.strayed ≡ p.inbox.strayed
   pub brings : Brings p.inbox.received got f
   pub keeps : (w r : List Item) → Keeps p.streams p.outbox.items w r → Keeps q.streams q.outbox.items (w ++ more) (r ++ got)
   pub fits : (w r : List Item) → Keeps p.streams p.outbox.items w r → OrderedFrom w more
@@ -53,20 +53,20 @@ go_of f p q h = record {
   acked = (let same = h.acked in omega (arith, same));
   items = h.items;
   received = h.received;
-  ahead = h.ahead;
+  strayed = h.strayed;
   brings = h.brings;
   keeps = h.keeps;
   fits = h.fits;
 }
 
-pub take_same : (f : Option Frame) (p q : Contents) → q.streams ≡ p.streams → q.outbox ≡ p.outbox → q.inbox.received ≡ p.inbox.received → q.inbox.ahead ≡ p.inbox.ahead → TakeGo f p q
+pub take_same : (f : Option Frame) (p q : Contents) → q.streams ≡ p.streams → q.outbox ≡ p.outbox → q.inbox.received ≡ p.inbox.received → q.inbox.strayed ≡ p.inbox.strayed → TakeGo f p q
 take_same f p q s o i a = record {
   more = [];
   got = [];
   acked = ap (λ (x : Outbox). x.acked) o;
   items = ap (λ (x : Outbox). x.items) o ∙ sym (append-nil p.outbox.items);
   received = omega (arith, i);
-  ahead = a;
+  strayed = a;
   brings = tt;
   keeps = λ w r h.
       ghosts_at q.streams q.outbox.items w (w ++ []) r (r ++ []) (append-nil w) (append-nil r)
@@ -74,11 +74,11 @@ take_same f p q s o i a = record {
   fits = λ w r h. tt;
 }
 
-pub go_same : (f : Option Frame) (p q : Contents) → q.streams ≡ p.streams → q.outbox ≡ p.outbox → q.inbox.received ≡ p.inbox.received → q.inbox.ahead ≡ p.inbox.ahead → EndGo f p q
+pub go_same : (f : Option Frame) (p q : Contents) → q.streams ≡ p.streams → q.outbox ≡ p.outbox → q.inbox.received ≡ p.inbox.received → q.inbox.strayed ≡ p.inbox.strayed → EndGo f p q
 go_same f p q s o i a = go_of f p q (take_same f p q s o i a)
 
 -- what is done besides
-pub take_as : (f : Option Frame) (p m q : Contents) → q.streams ≡ m.streams → q.outbox ≡ m.outbox → q.inbox.received ≡ m.inbox.received → q.inbox.ahead ≡ m.inbox.ahead → TakeGo f p m
+pub take_as : (f : Option Frame) (p m q : Contents) → q.streams ≡ m.streams → q.outbox ≡ m.outbox → q.inbox.received ≡ m.inbox.received → q.inbox.strayed ≡ m.inbox.strayed → TakeGo f p m
     → TakeGo f p q
 take_as f p m q s o i a h = record {
   more = h.more;
@@ -86,14 +86,14 @@ take_as f p m q s o i a h = record {
   acked = ap (λ (x : Outbox). x.acked) o ∙ h.acked;
   items = ap (λ (x : Outbox). x.items) o ∙ h.items;
   received = i ∙ h.received;
-  ahead = a ∙ h.ahead;
+  strayed = a ∙ h.strayed;
   brings = h.brings;
   keeps = λ w r k.
       keeps_at m.streams q.streams m.outbox.items q.outbox.items (w ++ h.more) (r ++ h.got) s (ap (λ (x : Outbox). x.items) o) (h.keeps w r k);
   fits = h.fits;
 }
 
-pub go_as : (f : Option Frame) (p m q : Contents) → q.streams ≡ m.streams → q.outbox ≡ m.outbox → q.inbox.received ≡ m.inbox.received → q.inbox.ahead ≡ m.inbox.ahead → EndGo f p m
+pub go_as : (f : Option Frame) (p m q : Contents) → q.streams ≡ m.streams → q.outbox ≡ m.outbox → q.inbox.received ≡ m.inbox.received → q.inbox.strayed ≡ m.inbox.strayed → EndGo f p m
     → EndGo f p q
 go_as f p m q s o i a h = record {
   count = h.count;
@@ -102,7 +102,7 @@ go_as f p m q s o i a h = record {
   acked = ap (λ (x : Outbox). x.acked) o ∙ h.acked;
   items = ap (λ (x : Outbox). x.items) o ∙ h.items;
   received = i ∙ h.received;
-  ahead = a ∙ h.ahead;
+  strayed = a ∙ h.strayed;
   brings = h.brings;
   keeps = λ w r k.
       keeps_at m.streams q.streams m.outbox.items q.outbox.items (w ++ h.more) (r ++ h.got) s (ap (λ (x : Outbox). x.items) o) (h.keeps w r k);
@@ -119,7 +119,7 @@ pub record RowGo (id : ℕ) (row : StreamRow) (more got : List Item) (f : Option
   pub acked : q.outbox.acked ≡ p.outbox.acked
   pub items : q.outbox.items ≡ p.outbox.items ++ more
   pub received : q.inbox.received ≡ p.inbox.received + length got
-  pub ahead : q.inbox.ahead ≡ p.inbox.ahead
+  pub strayed : q.inbox.strayed ≡ p.inbox.strayed
   pub brings : Brings p.inbox.received got f
   pub own : (s g : ℕ) → HasClose s g got → s ≡ id
   pub sent : AllOf id more
@@ -133,7 +133,7 @@ take_put id row more got f p q k = record {
   acked = k.acked;
   items = k.items;
   received = k.received;
-  ahead = k.ahead;
+  strayed = k.strayed;
   brings = k.brings;
   keeps = λ w r h.
       keeps_at (put row p.streams) q.streams (p.outbox.items ++ more) q.outbox.items (w ++ more) (r ++ got) k.streams k.items

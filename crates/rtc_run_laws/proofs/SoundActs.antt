@@ -7,4 +7,4 @@ use Rattle.rtc_sctp_laws.proofs.BackedRows.{plain_sound}
 use Rattle.rtc_run_laws.proofs.ClosingEnds.{InTime, act_frame, act_go}
 
 pub act_sound : (p q : Contents) (act : AssociationAct) → Acted plain_meaning p act q → InTime p (act_frame act) → plain_sound p → plain_sound q
-act_sound p q act h timely ok = (act_go p q act h timely).ahead ∙ ok
+act_sound p q act h timely ok = (act_go p q act h timely).strayed ∙ ok

@@ -18,7 +18,7 @@ use Rattle.rtc_assoc_state.specs.Contents.{Contents, generation_of, has_unread, 
 use Rattle.rtc_assoc_state.specs.Streams.{stream_of, put, reset_row, takes_messages}
 use Rattle.rtc_assoc_state.specs.Inbox.{bytes_so_far, is_message_of, message_of}
 use Rattle.rtc_assoc_state.specs.Settling.{can_reset}
-use Rattle.rtc_assoc_state.specs.Calls.{sent, greeted, welcomed, acknowledged, item_counted, more_kept, last_kept, piece_kept, finished, reset_told, close_came_at, part_came, item_put, item_taken, is_ahead, item_came, answered, lost, framed, at_moment, half_taken}
+use Rattle.rtc_assoc_state.specs.Calls.{sent, greeted, welcomed, acknowledged, item_counted, more_kept, last_kept, piece_kept, finished, reset_told, close_came_at, part_came, item_put, item_taken, is_stray, item_came, answered, lost, framed, at_moment, half_taken}
 use Rattle.rtc_assoc_state.specs.PlainMeaning.{Gives, plain_meaning}
 use Rattle.rtc_assoc_state.proofs.DoesLemmas.{gives}
 use Rattle.rtc_assoc_state.proofs.RaiseLemmas.{stream_of-put, stream_of-stream}
@@ -28,9 +28,9 @@ use Rattle.rtc_sctp_laws.proofs.KnownStreams.{AreBacked, IsBackedBy, UnreadLaws}
 use Rattle.rtc_sctp_laws.proofs.PlainGenerations.{stays_act}
 use Rattle.rtc_sctp_laws.proofs.RowsGo.{RowStays}
 
--- no item of a generation to come was taken
+-- no item was taken of another generation than its stream had
 abbrev pub plain_sound : Contents → Type 0
-plain_sound p = p.inbox.ahead ≡ false
+plain_sound p = p.inbox.strayed ≡ false
 
 -- no more stands unread
 abbrev Fewer : Contents → Contents → Type 0
@@ -183,12 +183,18 @@ brings_put_item now item p le =
 brings_item : (now : ℕ) (item : Item) (p : Contents) → item.generation ≤ generation_of p item.stream → Brings p (item_taken now item p)
 brings_item now item p le = λ s g h. brings_put_item now item p le s g h
 
--- an item that is not ahead
-not_ahead : (item : Item) (p : Contents) → is_ahead item p ≡ false → item.generation ≤ generation_of p item.stream
-not_ahead item p none = grind (arith, none)
+-- an item that is not a stray
+unnot : (b : Bool) → not b ≡ false → b ≡ true
+unnot true e = refl
+unnot false e = sym e
+
+pub not_stray : (item : Item) (p : Contents) → is_stray item p ≡ false → item.generation ≡ generation_of p item.stream
+not_stray item p none = eqb-true item.generation (generation_of p item.stream) (unnot (item.generation == generation_of p item.stream) none)
 
 brings_if : (b : Bool) (now : ℕ) (item : Item) (p : Contents) → plain_sound (cond b (item_taken now item p) p) → Brings p (cond b (item_taken now item p) p)
-brings_if true now item p ok = brings_item now item p (not_ahead item p (or_parts (item_put now item p).inbox.ahead (is_ahead item p) ok).1)
+brings_if true now item p ok =
+    let same = not_stray item p (or_parts (item_put now item p).inbox.strayed (is_stray item p) ok).1 in
+    brings_item now item p (omega (arith, same))
 brings_if false now item p ok = λ s g h. inl h
 
 brings_came : (now number : ℕ) (item : Item) (p : Contents) → plain_sound (item_came now number item p) → Brings p (item_came now number item p)
@@ -252,10 +258,10 @@ went_by p q (Given bytes) h = record { goes = goes_given p q h.0 bytes h.1.0 h.1
 went_by p q act h = let k = stays_act p q act refl h in record { goes = k.goes; brings = λ ok. none_brought p q k.fewer }
 
 sound_before : (p q : Contents) → EndGoes p q → plain_sound q → plain_sound p
-sound_before p q goes ok = by p.inbox.ahead refl
+sound_before p q goes ok = by p.inbox.strayed refl
   where
-    by : (b : Bool) → p.inbox.ahead ≡ b → p.inbox.ahead ≡ false
-    by true e = absurd (true≢false (sym (goes.ahead e) ∙ ok))
+    by : (b : Bool) → p.inbox.strayed ≡ b → p.inbox.strayed ≡ false
+    by true e = absurd (true≢false (sym (goes.strayed e) ∙ ok))
     by false e = e
 
 backed_act : (p q : Contents) (act : AssociationAct) → Acted plain_meaning p act q → AreBacked plain_meaning plain_sound p → AreBacked plain_meaning plain_sound q

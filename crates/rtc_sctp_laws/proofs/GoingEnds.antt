@@ -18,7 +18,7 @@ use Rattle.rtc_assoc_state.specs.Contents.{Contents, is_server}
 use Rattle.rtc_assoc_state.specs.Streams.{stream_of, put, reset_row, takes_messages}
 use Rattle.rtc_assoc_state.specs.Outbox.{last_number, settled_count}
 use Rattle.rtc_assoc_state.specs.Settling.{told_of, can_reset}
-use Rattle.rtc_assoc_state.specs.Calls.{limited, started_as, said_hello, connected, accepted, snapped, opened, sent, taken_out, stream_ended, thresholded, shut_down, greeted, welcomed, acknowledged, item_counted, more_kept, last_kept, piece_kept, finished, reset_told, close_came_at, part_came, item_put, item_taken, is_ahead, with_ahead, item_came, answered, lost, framed, at_moment, input_taken, half_taken, timed}
+use Rattle.rtc_assoc_state.specs.Calls.{limited, started_as, said_hello, connected, accepted, snapped, opened, sent, taken_out, stream_ended, thresholded, shut_down, greeted, welcomed, acknowledged, item_counted, more_kept, last_kept, piece_kept, finished, reset_told, close_came_at, part_came, item_put, item_taken, is_stray, with_stray, item_came, answered, lost, framed, at_moment, input_taken, half_taken, timed}
 use Rattle.rtc_assoc_state.specs.PlainMeaning.{Gives}
 use Rattle.rtc_assoc_state.proofs.RaiseLemmas.{stream_of-stream}
 use Rattle.rtc_assoc_state.proofs.DoesLemmas.{gives}
@@ -30,15 +30,15 @@ pub record EndGoes (p q : Contents) : Type 0 where
   pub numbers : last_number p.outbox ≤ last_number q.outbox
   pub shut : p.standing.shut ≡ true → q.standing.shut ≡ true
   pub lost : p.standing.lost ≡ true → q.standing.lost ≡ true
-  pub ahead : p.inbox.ahead ≡ true → q.inbox.ahead ≡ true
+  pub strayed : p.inbox.strayed ≡ true → q.inbox.strayed ≡ true
 
-pub goes_same : (p q : Contents) → q.streams ≡ p.streams → q.outbox ≡ p.outbox → q.standing.shut ≡ p.standing.shut → q.standing.lost ≡ p.standing.lost → q.inbox.ahead ≡ p.inbox.ahead → EndGoes p q
+pub goes_same : (p q : Contents) → q.streams ≡ p.streams → q.outbox ≡ p.outbox → q.standing.shut ≡ p.standing.shut → q.standing.lost ≡ p.standing.lost → q.inbox.strayed ≡ p.inbox.strayed → EndGoes p q
 goes_same p q s o x y a = record {
   rows = rows_same p.streams q.streams s;
   numbers = let same : last_number q.outbox ≡ last_number p.outbox = ap last_number o in omega (arith, same);
   shut = λ h. x ∙ h;
   lost = λ h. y ∙ h;
-  ahead = λ h. a ∙ h;
+  strayed = λ h. a ∙ h;
 }
 
 pub goes_none : (p : Contents) → EndGoes p p
@@ -50,20 +50,20 @@ goes_join p q r h k = record {
   numbers = omega (arith, h.numbers, k.numbers);
   shut = λ x. k.shut (h.shut x);
   lost = λ x. k.lost (h.lost x);
-  ahead = λ x. k.ahead (h.ahead x);
+  strayed = λ x. k.strayed (h.strayed x);
 }
 
 pub goes_at : (p q r : Contents) → q ≡ r → EndGoes p r → EndGoes p q
 goes_at p q r e h = subst (EndGoes p) (sym e) h
 
 -- a row in place of that of its stream
-pub goes_put : (id : ℕ) (row : StreamRow) (p q : Contents) → row.stream ≡ id → RowGoes (stream_of id p.streams) row → q.streams ≡ put row p.streams → last_number p.outbox ≤ last_number q.outbox → q.standing.shut ≡ p.standing.shut → q.standing.lost ≡ p.standing.lost → q.inbox.ahead ≡ p.inbox.ahead → EndGoes p q
+pub goes_put : (id : ℕ) (row : StreamRow) (p q : Contents) → row.stream ≡ id → RowGoes (stream_of id p.streams) row → q.streams ≡ put row p.streams → last_number p.outbox ≤ last_number q.outbox → q.standing.shut ≡ p.standing.shut → q.standing.lost ≡ p.standing.lost → q.inbox.strayed ≡ p.inbox.strayed → EndGoes p q
 goes_put id row p q e h s o x y a = record {
   rows = subst (λ (l : List StreamRow). RowsGo p.streams l) (sym s) (rows_put_of id row p.streams e h);
   numbers = o;
   shut = λ k. x ∙ k;
   lost = λ k. y ∙ k;
-  ahead = λ k. a ∙ k;
+  strayed = λ k. a ∙ k;
 }
 
 -- the calls
@@ -98,7 +98,7 @@ goes_sent now items p = record {
   numbers = let more = length-append p.outbox.items items in omega (arith, more);
   shut = λ h. h;
   lost = λ h. h;
-  ahead = λ h. h;
+  strayed = λ h. h;
 }
 
 pub goes_ended : (now id : ℕ) (p : Contents) → EndGoes p (stream_ended now id p)
@@ -113,7 +113,7 @@ goes_taken_out id p = goes_same p (taken_out id p) refl refl refl refl refl
 
 pub goes_shut_down : (p : Contents) → EndGoes p (shut_down p)
 unfolding shut_down
-goes_shut_down p = record { rows = rows_same p.streams p.streams refl; numbers = omega arith; shut = λ h. refl; lost = λ h. h; ahead = λ h. h }
+goes_shut_down p = record { rows = rows_same p.streams p.streams refl; numbers = omega arith; shut = λ h. refl; lost = λ h. h; strayed = λ h. h }
 
 pub goes_timed : (now : ℕ) (p : Contents) → EndGoes p (timed now p)
 unfolding timed
@@ -134,7 +134,7 @@ goes_greeted p = goes_same p (greeted p) refl refl refl refl refl
 
 pub goes_lost : (p : Contents) → EndGoes p (lost p)
 unfolding lost
-goes_lost p = record { rows = rows_same p.streams p.streams refl; numbers = omega arith; shut = λ h. h; lost = λ h. refl; ahead = λ h. h }
+goes_lost p = record { rows = rows_same p.streams p.streams refl; numbers = omega arith; shut = λ h. h; lost = λ h. refl; strayed = λ h. h }
 
 pub goes_acknowledged : (number : ℕ) (p : Contents) → EndGoes p (acknowledged number p)
 unfolding acknowledged
@@ -143,7 +143,7 @@ goes_acknowledged number p = record {
   numbers = let rest = length-drop (settled_count number p.outbox) p.outbox.items in omega (arith, rest);
   shut = λ h. h;
   lost = λ h. h;
-  ahead = λ h. h;
+  strayed = λ h. h;
 }
 
 pub goes_counted : (id : ℕ) (row : StreamRow) (p : Contents) → row.stream ≡ id → RowGoes (stream_of id p.streams) row → EndGoes p (item_counted row p)
@@ -223,19 +223,19 @@ goes_put_item : (now : ℕ) (item : Item) (p : Contents) → EndGoes p (item_put
 goes_put_item now item p =
     goes_part item.part now item item.stream (record (stream_of item.stream p.streams) { there = true }) p (stream_of-stream item.stream p.streams) (record { generation_is = refl; there = λ h. refl; closed = λ h. h })
 
-goes_with_ahead : (b : Bool) (p : Contents) → EndGoes p (with_ahead b p)
-goes_with_ahead b p = record {
+goes_with_stray : (b : Bool) (p : Contents) → EndGoes p (with_stray b p)
+goes_with_stray b p = record {
   rows = rows_same p.streams p.streams refl;
   numbers = omega arith;
   shut = λ h. h;
   lost = λ h. h;
-  ahead = λ h. (rw h refl);
+  strayed = λ h. (rw h refl);
 }
 
 pub goes_item : (now : ℕ) (item : Item) (p : Contents) → EndGoes p (item_taken now item p)
 goes_item now item p =
     goes_join p (item_put now item p) (item_taken now item p)
-    (goes_put_item now item p) (goes_with_ahead (is_ahead item p) (item_put now item p))
+    (goes_put_item now item p) (goes_with_stray (is_stray item p) (item_put now item p))
 
 pub goes_item_if : (b : Bool) (now : ℕ) (item : Item) (p : Contents) → EndGoes p (cond b (item_taken now item p) p)
 goes_item_if true now item p = goes_item now item p

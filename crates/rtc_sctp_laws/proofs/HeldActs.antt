@@ -11,7 +11,7 @@ use Rattle.rtc_assoc_state.specs.declared.close_state.CloseState.TheVariants.{Qu
 use Rattle.rtc_assoc_state.specs.declared.stream_row.StreamRow.{StreamRow}
 use Rattle.rtc_assoc_state.specs.Contents.{Contents, closed_here, generation_of, has_stream, is_ending, is_server}
 use Rattle.rtc_assoc_state.specs.Streams.{stream_of, put, is_closed_here}
-use Rattle.rtc_assoc_state.specs.Calls.{sent, greeted, welcomed, acknowledged, item_put, item_taken, is_ahead, item_came, answered, lost, framed, at_moment, half_taken}
+use Rattle.rtc_assoc_state.specs.Calls.{sent, greeted, welcomed, acknowledged, item_put, item_taken, is_stray, item_came, answered, lost, framed, at_moment, half_taken}
 use Rattle.rtc_assoc_state.specs.PlainMeaning.{Gives}
 use Rattle.rtc_assoc_state.proofs.DoesLemmas.{gives}
 use Rattle.rtc_assoc_state.proofs.RaiseLemmas.{stream_of-put, stream_of-put_other, stream_of-stream}
@@ -32,11 +32,11 @@ use Rattle.rtc_sctp_laws.proofs.KnownStreams.{UnreadLaws}
 use Rattle.rtc_sctp_laws.proofs.HeldRows.{IsKept, IsKeptOpen, Beside, Comes, comes_beside, comes_none, comes_then, beside_same, beside_acknowledged, beside_front, there_put}
 use Rattle.rtc_sctp_laws.proofs.HeldItems.{comes_item}
 
-not_ahead : (item : Item) (p : Contents) → is_ahead item p ≡ false → item.generation ≤ generation_of p item.stream
-not_ahead item p none = grind (arith, none)
+not_stray : (item : Item) (p : Contents) → is_stray item p ≡ false → item.generation ≤ generation_of p item.stream
+not_stray item p none = grind (arith, none)
 
 comes_if : (s : ℕ) (b : Bool) (now : ℕ) (item : Item) (p : Contents) → plain_sound (cond b (item_taken now item p) p) → Comes s p (cond b (item_taken now item p) p)
-comes_if s true now item p ok = comes_item item p (not_ahead item p (or_parts (item_put now item p).inbox.ahead (is_ahead item p) ok).1) s now
+comes_if s true now item p ok = comes_item item p (not_stray item p (or_parts (item_put now item p).inbox.strayed (is_stray item p) ok).1) s now
 comes_if s false now item p ok = comes_none s p
 
 comes_came : (s now number : ℕ) (item : Item) (p : Contents) → plain_sound (item_came now number item p) → Comes s p (item_came now number item p)
