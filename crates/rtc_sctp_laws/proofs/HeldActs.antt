@@ -1,5 +1,5 @@
--- What acts leave of the streams of the plain association that are in their first generation.
-use Rattle.std.proofs.Common.{◌≡◌, ◌∙◌, ◌⊎◌, ◌+◌, ◌≤◌, ◌++◌, ◌∷◌, ◌==◌, ◌&&◌, ◌||◌, inl, inr, not, cond, ℕ, Bool, true, false, true≢false, List, [], Option, Some, None, Result, refl, sym, ap, subst, arith}
+-- What acts leave of the streams of the plain association.
+use Rattle.std.proofs.Common.{◌≡◌, ◌∙◌, ◌⊎◌, ◌+◌, ◌<◌, ◌≤◌, ◌++◌, ◌∷◌, ◌==◌, ◌&&◌, ◌||◌, inl, inr, not, cond, ℕ, Bool, true, false, true≢false, List, [], Option, Some, None, Result, refl, sym, ap, subst, arith}
 use Rattle.std.specs.declared.alloc.AllocError.{AllocError}
 use Rattle.std.proofs.lemmas.Bool.{eqb-true, eqb-false, ne_eqb, or_parts}
 use Rattle.rtc_part_association.specs.declared.assoc_event.AssocEvent.TheVariants.{Connected}
@@ -25,15 +25,14 @@ use Rattle.rtc_assoc_state.specs.Calls.{limited, started_as, said_hello, connect
 use Rattle.rtc_assoc_state.specs.PlainMeaning.{plain_meaning, open_cause, write_cause, end_cause, stream_cause, ending_cause, Leaves, Sends, Reads}
 use Rattle.rtc_assoc_state.proofs.DoesLemmas.{refused_changes_nothing, does_leaves, times, polls_some, transmits_some, reads_some}
 use Rattle.rtc_sctp_laws.proofs.KeptLists.{message_behind}
-use Rattle.rtc_sctp_laws.proofs.ThereStreams.{IsHeld, KeepingLaws, uses_stream}
+use Rattle.rtc_sctp_laws.proofs.ThereStreams.{IsHeld, KeepingLaws, WasThere, uses_stream}
 use Rattle.rtc_sctp_laws.specs.StreamUses.{is_spent_stream}
-use Rattle.rtc_sctp_laws.proofs.BackedRows.{plain_sound, plain_unread}
+use Rattle.rtc_sctp_laws.proofs.BackedRows.{not_stray, plain_sound, plain_unread}
 use Rattle.rtc_sctp_laws.proofs.KnownStreams.{UnreadLaws}
-use Rattle.rtc_sctp_laws.proofs.HeldRows.{IsKept, IsKeptOpen, Beside, Comes, comes_beside, comes_none, comes_then, beside_same, beside_acknowledged, beside_front, there_put}
+use Rattle.rtc_sctp_laws.proofs.HeldRows.{IsKept, IsKeptIn, IsKeptOpen, StoodThere, Beside, Comes, kept_as, comes_beside, comes_none, comes_then, beside_same, beside_acknowledged, beside_front, there_put}
 use Rattle.rtc_sctp_laws.proofs.HeldItems.{comes_item}
-
-not_stray : (item : Item) (p : Contents) → is_stray item p ≡ false → item.generation ≤ generation_of p item.stream
-not_stray item p none = grind (arith, none)
+use Rattle.rtc_sctp_laws.proofs.GoingEnds.{EndGoes, goes_acknowledged_greeted, goes_came}
+use Rattle.rtc_sctp_laws.proofs.RowsGo.{RowStays}
 
 comes_if : (s : ℕ) (b : Bool) (now : ℕ) (item : Item) (p : Contents) → plain_sound (cond b (item_taken now item p) p) → Comes s p (cond b (item_taken now item p) p)
 comes_if s true now item p ok = comes_item item p (not_stray item p (or_parts (item_put now item p).inbox.strayed (is_stray item p) ok).1) s now
@@ -67,11 +66,22 @@ beside_lost s p = beside_same s p (lost p) refl refl refl
 
 comes_answered : (s now : ℕ) (p q : Contents) → Comes s p q → Comes s p (at_moment now (answered q))
 unfolding answered at_moment
-comes_answered s now p q h = record { there = λ z t. h.there z t; kept = λ z k. h.kept z k }
+comes_answered s now p q h = record { there = λ t. h.there t; kept = λ e k. h.kept e k }
 
 comes_moment : (s now : ℕ) (p q : Contents) → Beside s p q → Comes s p (at_moment now q)
 unfolding at_moment
-comes_moment s now p q h = record { there = λ z t. inl (h.there t); kept = λ z k. inl (h.kept k) }
+comes_moment s now p q h = record {
+  there = λ t. inl (h.there t);
+  kept = λ e k. inl (kept_as s (generation_of p s) (at_moment now q) e (h.kept (generation_of p s) k));
+}
+
+-- generations rise
+rose : (p q : Contents) → EndGoes p q → (s : ℕ) → generation_of p s ≤ generation_of q s
+rose p q h s = by (h.rows.each s).goes
+  where
+    by : RowStays (stream_of s p.streams) (stream_of s q.streams) ⊎ (generation_of p s < generation_of q s) → generation_of p s ≤ generation_of q s
+    by (inl k) = let same = k.generation_is in omega (arith, same)
+    by (inr k) = omega (arith, k)
 
 comes_framed : (s now : ℕ) (f : Option Frame) (p : Contents) → plain_sound (at_moment now (framed now f p)) → Comes s p (at_moment now (framed now f p))
 comes_framed s now None p ok = comes_moment s now p p (beside_same s p p refl refl refl)
@@ -79,7 +89,10 @@ comes_framed s now (Some Hello) p ok = comes_moment s now p (welcomed p) (beside
 comes_framed s now (Some Welcome) p ok = comes_moment s now p (greeted p) (beside_greeted s p)
 comes_framed s now (Some (Data n number item)) p ok =
     comes_answered s now p (item_came now number item (acknowledged n (greeted p)))
-    (comes_then s p (acknowledged n (greeted p)) (item_came now number item (acknowledged n (greeted p))) (beside_front s n p)
+    (comes_then s p (acknowledged n (greeted p)) (item_came now number item (acknowledged n (greeted p)))
+    (rose p (acknowledged n (greeted p)) (goes_acknowledged_greeted n p) s)
+    (rose (acknowledged n (greeted p)) (item_came now number item (acknowledged n (greeted p))) (goes_came now number item (acknowledged n (greeted p))) s)
+    (beside_front s n p)
     (comes_came s now number item (acknowledged n (greeted p)) (sound_answered now (item_came now number item (acknowledged n (greeted p))) ok)))
 comes_framed s now (Some (Acknowledgement n)) p ok = comes_moment s now p (acknowledged n p) (beside_acknowledged s n p)
 comes_framed s now (Some Shutdown) p ok = comes_moment s now p (lost p) (beside_lost s p)
@@ -104,25 +117,34 @@ comes_at s p q r e h = subst (Comes s p) (sym e) (comes_beside s p r h)
 beside_opened : (s t : ℕ) (p : Contents) → (t ≡ s → ⊥) → Beside s p (opened t p)
 unfolding opened
 beside_opened s t p ne = record {
-  there = λ h.
-      ap (λ (r : StreamRow). r.there)
-      (sym (stream_of-put_other s (record (stream_of t p.streams) { there = true }) p.streams (ne_eqb (stream_of t p.streams).stream s (λ e. ne (sym (stream_of-stream t p.streams) ∙ e)))))
-      ∙ h;
-  kept = λ k. k;
+  there = λ h. (ap (λ (r : StreamRow). r.there) (sym as_was) ∙ h, ap (λ (r : StreamRow). r.generation) as_was);
+  kept = λ g k. k;
 }
+  where
+    row : StreamRow
+    row = record (stream_of t p.streams) { there = true }
+
+    as_was : stream_of s (put row p.streams) ≡ stream_of s p.streams
+    as_was = stream_of-put_other s row p.streams (ne_eqb row.stream s (λ e. ne (sym (stream_of-stream t p.streams) ∙ e)))
 
 beside_thresholded : (s t n : ℕ) (p : Contents) → Beside s p (thresholded t n p)
 unfolding thresholded
 beside_thresholded s t n p = record {
-  there = λ h. there_put t (record (stream_of t p.streams) { threshold = Some n }) p.streams (stream_of-stream t p.streams) (λ k. k) s h;
-  kept = λ k. k;
+  there = λ h.
+      let was =
+      there_put (generation_of (thresholded t n p) s) t (record (stream_of t p.streams) { threshold = Some n }) p.streams (stream_of-stream t p.streams) (λ k. k) s
+      (h, refl) in
+      (was.0, sym was.1);
+  kept = λ g k. k;
 }
 
 comes_ended : (s now t : ℕ) (p : Contents) → Comes s p (stream_ended now t p)
 unfolding stream_ended sent
 comes_ended s now t p = record {
-  there = λ z h. inl (there_put t row p.streams same (λ k. k) s h);
-  kept = λ z k. by (t == s) refl k;
+  there = λ h.
+      let was = there_put (generation_of (stream_ended now t p) s) t row p.streams same (λ k. k) s (h, refl) in
+      inl (was.0, sym was.1);
+  kept = λ e k. by (t == s) refl e k;
 }
   where
     row : StreamRow
@@ -131,24 +153,24 @@ comes_ended s now t p = record {
     same : row.stream ≡ t
     same = stream_of-stream t p.streams
 
-    beside : (t ≡ s → ⊥) → IsKept p s → IsKept (stream_ended now t p) s
-    beside ne (inl k) = inl (message_beside s 0 t (stream_of t p.streams).generation p.inbox.unread ne k)
-    beside ne (inr k) = inr (part_beside s 0 t (stream_of t p.streams).generation p.inbox.parts ne k)
+    beside : (t ≡ s → ⊥) → (g : ℕ) → IsKeptIn p s g → IsKeptIn (stream_ended now t p) s g
+    beside ne g (inl k) = inl (message_beside s g t (stream_of t p.streams).generation p.inbox.unread ne k)
+    beside ne g (inr k) = inr (part_beside s g t (stream_of t p.streams).generation p.inbox.parts ne k)
 
-    by : (b : Bool) → (t == s) ≡ b → IsKept p s → IsKeptOpen (stream_ended now t p) s
-    by true e k =
+    by : (b : Bool) → (t == s) ≡ b → generation_of (stream_ended now t p) s ≡ generation_of p s → IsKept p s → IsKeptOpen (stream_ended now t p) s
+    by true f e k =
         inr
-        (subst (λ (n : ℕ). closed_here (stream_ended now t p) n ≡ true) (eqb-true t s e)
+        (subst (λ (n : ℕ). closed_here (stream_ended now t p) n ≡ true) (eqb-true t s f)
         (ap (λ (n : ℕ). is_closed_here (stream_of n (put row p.streams))) (sym same) ∙ ap is_closed_here (stream_of-put row p.streams)))
-    by false e k = inl (beside (eqb-false t s e) k)
+    by false f e k = inl (kept_as s (generation_of p s) (stream_ended now t p) e (beside (eqb-false t s f) (generation_of p s) k))
 
 beside_taken_out : (s t : ℕ) (p : Contents) → (t ≡ s → ⊥) → Beside s p (taken_out t p)
 unfolding taken_out
-beside_taken_out s t p ne = record { there = λ h. h; kept = by }
+beside_taken_out s t p ne = record { there = λ h. (h, refl); kept = λ g k. by g k }
   where
-    by : IsKept p s → IsKept (taken_out t p) s
-    by (inl k) = inl (message_behind s 0 t (stream_of t p.streams).generation p.inbox.unread ne k)
-    by (inr k) = inr k
+    by : (g : ℕ) → IsKeptIn p s g → IsKeptIn (taken_out t p) s g
+    by g (inl k) = inl (message_behind s g t (stream_of t p.streams).generation p.inbox.unread ne k)
+    by g (inr k) = inr k
 
 beside_written : (s t i : ℕ) (bytes : List ℕ) (p : Contents) → Beside s p (message_written t i bytes p)
 unfolding sent
@@ -225,7 +247,7 @@ comes_act s p q (Stirred Other) h none ok = comes_stirs s p q h
 or_left : (a b : Bool) → a ≡ true → (a || b) ≡ true
 or_left a b e = rw e refl
 
--- kept, where no item of a generation to come was taken
+-- kept, where no stray was taken
 abbrev pub IsKeptIf : Contents → ℕ → Type 0
 IsKeptIf p s = plain_sound p → IsKept p s
 
@@ -233,17 +255,20 @@ spent_open : (p : Contents) (s : ℕ) → is_spent_stream plain_meaning s p ≡ 
 spent_open p s unspent (inl k) = k
 spent_open p s unspent (inr closed) = absurd (true≢false (sym (or_left (closed_here p s) (is_closing p || is_closed p) closed) ∙ unspent))
 
-rises_open : (p q : Contents) (s : ℕ) → (plain_sound q → (has_stream p s ≡ true) ⊎ IsKeptOpen q s) → (has_stream p s ≡ true) ⊎ IsHeld plain_meaning IsKeptIf s q
-rises_open p q s come = by (has_stream p s) (is_spent_stream plain_meaning s q) refl refl
+rises_open : (p q : Contents) (s : ℕ) → (plain_sound q → StoodThere s p q ⊎ IsKeptOpen q s)
+    → WasThere plain_meaning IsKeptIf s p q ⊎ IsHeld plain_meaning IsKeptIf s q
+rises_open p q s come = by (has_stream p s) (generation_of q s == generation_of p s) (is_spent_stream plain_meaning s q) refl refl refl
   where
-    of_come : has_stream p s ≡ false → is_spent_stream plain_meaning s q ≡ false → (has_stream p s ≡ true) ⊎ IsKeptOpen q s → IsKept q s
-    of_come absent unspent (inl there) = absurd (true≢false (sym there ∙ absent))
-    of_come absent unspent (inr k) = spent_open q s unspent k
+    of_come : (StoodThere s p q → ⊥) → is_spent_stream plain_meaning s q ≡ false → StoodThere s p q ⊎ IsKeptOpen q s → IsKept q s
+    of_come never unspent (inl was) = absurd (never was)
+    of_come never unspent (inr k) = spent_open q s unspent k
 
-    by : (there spent : Bool) → has_stream p s ≡ there → is_spent_stream plain_meaning s q ≡ spent → (has_stream p s ≡ true) ⊎ IsHeld plain_meaning IsKeptIf s q
-    by true spent e f = inl e
-    by false true e f = inr (inr f)
-    by false false e f = inr (inl (λ ok. of_come e f (come ok)))
+    by : (there same spent : Bool) → has_stream p s ≡ there → (generation_of q s == generation_of p s) ≡ same
+        → is_spent_stream plain_meaning s q ≡ spent → WasThere plain_meaning IsKeptIf s p q ⊎ IsHeld plain_meaning IsKeptIf s q
+    by there same true e f g = inr (inr g)
+    by true true false e f g = inl (e, eqb-true (generation_of q s) (generation_of p s) f)
+    by true false false e f g = inr (inl (λ ok. of_come (λ was. eqb-false (generation_of q s) (generation_of p s) f was.1) g (come ok)))
+    by false same false e f g = inr (inl (λ ok. of_come (λ was. true≢false (sym was.0 ∙ e)) g (come ok)))
 
 stays_open : (q : Contents) (s : ℕ) → (plain_sound q → IsKeptOpen q s) → IsHeld plain_meaning IsKeptIf s q
 stays_open q s come = by (is_spent_stream plain_meaning s q) refl
@@ -254,6 +279,6 @@ stays_open q s come = by (is_spent_stream plain_meaning s q) refl
 
 pub plain_keeping : KeepingLaws plain_meaning IsKeptIf
 plain_keeping = record {
-  rises = λ a b act s h none z t. rises_open a b s (λ ok. (comes_act s a b act h none ok).there z t);
-  stays = λ a b act s h none z k. stays_open b s (λ ok. (comes_act s a b act h none ok).kept z (k (UnreadLaws.before plain_unread a b act h ok)));
+  rises = λ a b act s h none t. rises_open a b s (λ ok. (comes_act s a b act h none ok).there t);
+  stays = λ a b act s h none e k. stays_open b s (λ ok. (comes_act s a b act h none ok).kept e (k (UnreadLaws.before plain_unread a b act h ok)));
 }

@@ -1,4 +1,4 @@
--- Calls of streams keep that each stream which is there in its first generation has an entry past its opening, or is held.
+-- Calls of streams keep that each stream which is there has an entry past its opening, or is held.
 use Rattle.std.proofs.Common.{◌≡◌, ◌∙◌, ℕ, Bool, true, false, List, Option, Some, None, Result, Ok, Err, refl, ap}
 use Rattle.std.specs.Prelude.{is_some, slice_set}
 use Rattle.std.specs.declared.alloc.AllocError.{AllocError}

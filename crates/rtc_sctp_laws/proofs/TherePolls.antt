@@ -1,4 +1,4 @@
--- Polls of streams keep that each stream which is there in its first generation has an entry past its opening, or is held.
+-- Polls of streams keep that each stream which is there has an entry past its opening, or is held.
 use Rattle.std.proofs.Common.{◌≡◌, ◌∙◌, ◌⊎◌, inl, inr, ℕ, zero, suc, ◌&&◌, ◌==◌, Bool, true, false, List, [], ◌∷◌, Option, Some, None, Ok, refl, sym, ap, subst}
 use Rattle.std.proofs.lemmas.Bool.{eqb-true, eqb-false}
 use Rattle.rtc_part_association.specs.AssociationActs.{Taken, Told}

@@ -1,5 +1,5 @@
--- Streams that are there in their first generation: each has an entry past its opening, or what came of it is kept.
-use Rattle.std.proofs.Common.{◌≡◌, ◌∙◌, ◌⊎◌, ◌==◌, ℕ, Bool, true, false, true≢false, List, [], ◌∷◌, Some, None, Ok, Err, Option, Result, inl, inr, refl, sym, subst, arith}
+-- Streams that are there: each has an entry past its opening, or what came of it in its generation is kept.
+use Rattle.std.proofs.Common.{◌≡◌, ◌∙◌, ◌⊎◌, ◌==◌, ◌≤◌, ℕ, Bool, true, false, true≢false, List, [], ◌∷◌, Some, None, Ok, Err, Option, Result, inl, inr, refl, sym, subst, arith}
 use Rattle.std.proofs.lemmas.Bool.{ne_eqb}
 use Rattle.rtc_wire.specs.declared.reliability_type.ReliabilityType.{ReliabilityType}
 use Rattle.rtc_part_association.specs.declared.assoc_error.AssocError.{AssocError}
@@ -34,24 +34,28 @@ module _ {S : Type 0} (m : AssociationMeaning S) (keeps : S → ℕ → Type 0) 
   abbrev pub IsHeld : ℕ → S → Type 0
   IsHeld s a = keeps a s ⊎ (is_spent_stream m s a ≡ true)
 
-  -- What holds of associations whose streams come to be there, in their first generation, by items that are kept until they are read.
+  -- a stream was there, in the generation that it has
+  abbrev pub WasThere : ℕ → S → S → Type 0
+  WasThere s a b = (m.has_stream a s ≡ true) × (m.generation b s ≡ m.generation a s)
+
+  -- What holds of associations whose streams come to be there, in each generation, by items that are kept until they are read.
   pub record KeepingLaws : Type 0 where
-    pub rises : (a b : S) (act : AssociationAct) (s : ℕ) → Acted m a act b → uses_stream s act ≡ false → m.generation b s ≡ 0
-        → m.has_stream b s ≡ true → (m.has_stream a s ≡ true) ⊎ IsHeld s b
-    pub stays : (a b : S) (act : AssociationAct) (s : ℕ) → Acted m a act b → uses_stream s act ≡ false → m.generation b s ≡ 0 → keeps a s
-        → IsHeld s b
+    pub rises : (a b : S) (act : AssociationAct) (s : ℕ) → Acted m a act b → uses_stream s act ≡ false → m.has_stream b s ≡ true
+        → WasThere s a b ⊎ IsHeld s b
+    pub stays : (a b : S) (act : AssociationAct) (s : ℕ) → Acted m a act b → uses_stream s act ≡ false
+        → m.generation b s ≡ m.generation a s → keeps a s → IsHeld s b
 
-  -- in its first generation a stream is not there, or it is held
+  -- a stream is not there, or it is held
   abbrev pub IsFine : ℕ → S → Type 0
-  IsFine s a = m.generation a s ≡ 0 → m.has_stream a s ≡ true → IsHeld s a
+  IsFine s a = m.has_stream a s ≡ true → IsHeld s a
 
-  -- what becomes of a stream in its first generation: it is there only as it was, or it is held; and held it stays
+  -- what becomes of a stream: it is there only as it was, or it is held; and within its generation it stays held
   pub record Goes (s : ℕ) (a b : S) : Type 0 where
-    pub first : m.generation b s ≡ 0 → m.generation a s ≡ 0
-    pub rises : m.generation b s ≡ 0 → m.has_stream b s ≡ true → (m.has_stream a s ≡ true) ⊎ IsHeld s b
-    pub stays : m.generation b s ≡ 0 → IsHeld s a → IsHeld s b
+    pub up : m.generation a s ≤ m.generation b s
+    pub rises : m.has_stream b s ≡ true → WasThere s a b ⊎ IsHeld s b
+    pub stays : m.generation b s ≡ m.generation a s → IsHeld s a → IsHeld s b
 
-  -- streams of which each that is there in its first generation has an entry past its opening, or is held
+  -- streams of which each that is there has an entry past its opening, or is held
   abbrev pub IsBegunStream : ℕ → S → List StreamEntry → Type 0
   IsBegunStream s a entries = HasPast s entries ⊎ IsFine s a
 
@@ -59,54 +63,57 @@ module _ {S : Type 0} (m : AssociationMeaning S) (keeps : S → ℕ → Type 0) 
   AreBegunStreams p = (s : ℕ) → IsBegunStream s p.association p.entries
 
   pub fine_on : (s : ℕ) (a b : S) → Goes s a b → IsFine s a → IsFine s b
-  fine_on s a b h fine = λ z there. by z (h.rises z there)
+  fine_on s a b h fine = λ there. by (h.rises there)
     where
-      by : m.generation b s ≡ 0 → (m.has_stream a s ≡ true) ⊎ IsHeld s b → IsHeld s b
-      by z (inl before) = h.stays z (fine (h.first z) before)
-      by z (inr held) = held
+      by : WasThere s a b ⊎ IsHeld s b → IsHeld s b
+      by (inl before) = h.stays before.1 (fine before.0)
+      by (inr held) = held
 
   pub goes_none : (s : ℕ) (a : S) → Goes s a a
-  goes_none s a = record { first = λ z. z; rises = λ z t. inl t; stays = λ z k. k }
+  goes_none s a = record { up = omega arith; rises = λ t. inl (t, refl); stays = λ e k. k }
 
   pub goes_same : (s : ℕ) (a b : S) → b ≡ a → Goes s a b
   goes_same s a b is = subst (λ (x : S). Goes s a x) (sym is) (goes_none s a)
 
   pub goes_join : (s : ℕ) (a b c : S) → Goes s a b → Goes s b c → Goes s a c
   goes_join s a b c h k = record {
-    first = λ z. h.first (k.first z);
-    rises = λ z t. by z (k.rises z t);
-    stays = λ z x. k.stays z (h.stays (k.first z) x);
+    up = (let one = h.up in let two = k.up in omega (arith, one, two));
+    rises = λ t. by (k.rises t);
+    stays = λ e x. k.stays (last e) (h.stays (first e) x);
   }
     where
-      at : m.generation c s ≡ 0 → (m.has_stream a s ≡ true) ⊎ IsHeld s b → (m.has_stream a s ≡ true) ⊎ IsHeld s c
-      at z (inl x) = inl x
-      at z (inr x) = inr (k.stays z x)
+      first : m.generation c s ≡ m.generation a s → m.generation b s ≡ m.generation a s
+      first e = let one = h.up in let two = k.up in omega (arith, one, two, e)
 
-      by : m.generation c s ≡ 0 → (m.has_stream b s ≡ true) ⊎ IsHeld s c → (m.has_stream a s ≡ true) ⊎ IsHeld s c
-      by z (inl x) = at z (h.rises (k.first z) x)
-      by z (inr x) = inr x
+      last : m.generation c s ≡ m.generation a s → m.generation c s ≡ m.generation b s
+      last e = let one = h.up in let two = k.up in omega (arith, one, two, e)
+
+      at : m.generation c s ≡ m.generation b s → WasThere s a b ⊎ IsHeld s b → WasThere s a c ⊎ IsHeld s c
+      at e (inl x) = inl (x.0, e ∙ x.1)
+      at e (inr x) = inr (k.stays e x)
+
+      by : WasThere s b c ⊎ IsHeld s c → WasThere s a c ⊎ IsHeld s c
+      by (inl x) = at x.1 (h.rises x.0)
+      by (inr x) = inr x
 
   module _ (w : AssociationLaws m) (v : GenerationLaws m) (u : KeepingLaws) where
     -- ---- acts
 
     pub goes_act : (s : ℕ) (a b : S) (act : AssociationAct) → Acted m a act b → uses_stream s act ≡ false → Goes s a b
     goes_act s a b act h none = record {
-      first = first;
-      rises = λ z t. u.rises a b act s h none z t;
-      stays = λ z k. held z k;
+      up = generation_rises m w a b act s h;
+      rises = λ t. u.rises a b act s h none t;
+      stays = λ e k. held e k;
     }
       where
-        first : m.generation b s ≡ 0 → m.generation a s ≡ 0
-        first z = let up = generation_rises m w a b act s h in omega (arith, up, z)
-
         spent_by : (x : AssociationAct) → Acted m a x b → m.generation b s ≡ m.generation a s → is_spent_stream m s a ≡ true
             → is_spent_stream m s b ≡ true
         spent_by (Given bytes) did same is = spent_kept m s a b (v.packets_keep s did.0 bytes a b did.1.0 did.1.1 same) is
         spent_by x did same is = spent_kept m s a b (v.acts_keep s a b x refl did) is
 
-        held : m.generation b s ≡ 0 → IsHeld s a → IsHeld s b
-        held z (inl k) = u.stays a b act s h none z k
-        held z (inr is) = inr (spent_by act h (z ∙ sym (first z)) is)
+        held : m.generation b s ≡ m.generation a s → IsHeld s a → IsHeld s b
+        held e (inl k) = u.stays a b act s h none e k
+        held e (inr is) = inr (spent_by act h e is)
 
     unused : (s : ℕ) (act : AssociationAct) → opens_or_reads act ≡ false → uses_stream s act ≡ false
     unused s (Opened t g) h = absurd (true≢false h)

@@ -29,7 +29,7 @@ use Rattle.rtc_sctp_laws.specs.GenerationLaws.{GenerationLaws}
 use Rattle.rtc_sctp_laws.specs.StreamUses.{is_spent_stream}
 use Rattle.rtc_sctp_laws.proofs.KeptUses.{did_keeps}
 use Rattle.rtc_sctp_laws.proofs.KnownUses.{done_alloc, end_facts, not_alloc, refused_alloc}
-use Rattle.rtc_sctp_laws.proofs.ThereStreams.{Goes, IsFine, IsHeld, KeepingLaws, ended_goes, goes_join, opened_goes, read_goes, reliability_goes, threshold_goes, wrote_goes}
+use Rattle.rtc_sctp_laws.proofs.ThereStreams.{Goes, IsFine, IsHeld, KeepingLaws, WasThere, ended_goes, goes_join, opened_goes, read_goes, reliability_goes, threshold_goes, wrote_goes}
 
 module _ {S : Type 0} (m : AssociationMeaning S) (keeps : S → ℕ → Type 0) (w : AssociationLaws m) (v : GenerationLaws m) (u : KeepingLaws m keeps)
     (s : ℕ) (a : S) (id : ℕ) where
@@ -82,21 +82,21 @@ module _ {S : Type 0} (m : AssociationMeaning S) (keeps : S → ℕ → Type 0) 
   ended_fine : (t : Turn S) (q : S) (r : Result (Unit {0}) AssocError) → Midway t → m.ended t.association t.entry.id r q → (r ≡ Err Alloc → ⊥) → id ≡ s
       → IsFine m keeps s q
   ended_fine t q r k called found e =
-      λ z there.
-      by z there (end_facts m w v t.entry.id t.association q r (did_keeps m v t.entry.id [] [] [] [] t.association q (ended_did m t.association q t.entry.id r called)) called found)
+      λ there.
+      by there (end_facts m w v t.entry.id t.association q r (did_keeps m v t.entry.id [] [] [] [] t.association q (ended_did m t.association q t.entry.id r called)) called found)
     where
       same : t.entry.id ≡ s
       same = k.id_is ∙ e
 
-      before : (m.has_stream t.association s ≡ true) ⊎ IsHeld m keeps s q → m.has_stream t.association s ≡ false → IsHeld m keeps s q
-      before (inl there) absent = absurd (true≢false (sym there ∙ absent))
+      before : WasThere m keeps s t.association q ⊎ IsHeld m keeps s q → m.has_stream t.association s ≡ false → IsHeld m keeps s q
+      before (inl was) absent = absurd (true≢false (sym was.0 ∙ absent))
       before (inr held) absent = held
 
-      by : m.generation q s ≡ 0 → m.has_stream q s ≡ true → (is_spent_stream m t.entry.id q ≡ true) ⊎ (m.has_stream t.association t.entry.id ≡ false)
+      by : m.has_stream q s ≡ true → (is_spent_stream m t.entry.id q ≡ true) ⊎ (m.has_stream t.association t.entry.id ≡ false)
           → IsHeld m keeps s q
-      by z there (inl spent) = inr (ap (λ (n : ℕ). is_spent_stream m n q) (sym same) ∙ spent)
-      by z there (inr absent) =
-          before ((ended_goes m keeps w v u s t.entry.id t.association q r called).rises z there)
+      by there (inl spent) = inr (ap (λ (n : ℕ). is_spent_stream m n q) (sym same) ∙ spent)
+      by there (inr absent) =
+          before ((ended_goes m keeps w v u s t.entry.id t.association q r called).rises there)
           (ap (λ (n : ℕ). m.has_stream t.association n) (sym same) ∙ absent)
 
   closes : (t : Turn S) (met : Met) (t' : Turn S) → Midway t → Closes m t met t' → LeavesReady met t'
