@@ -73,4 +73,3 @@ pub mod ToldHandshakes
 pub mod ToldCalls
 pub mod Drains
 pub mod SetsNone
-pub mod PassedReads

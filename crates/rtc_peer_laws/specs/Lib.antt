@@ -12,4 +12,3 @@ pub mod MediaRows
 pub mod Weight
 pub mod PeerCalls
 pub mod EventEquality
-pub mod PassedReads

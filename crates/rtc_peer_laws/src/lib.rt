@@ -15,7 +15,6 @@ mod laws;
 mod once;
 mod rows;
 mod shown;
-mod unread;
 mod weight;
 
 pub use acts::{acceptances_act, calls_act, candidates_act};
@@ -34,7 +33,6 @@ pub use laws::calls_relay;
 pub use once::channels_open_once;
 pub use rows::named_rows_are_media_lines;
 pub use shown::shown_data_is_of_dtls;
-pub use unread::read_streams_are_passed_over;
 pub use weight::{
     other_calls_leave_handshakes_told, other_calls_set_no_threshold, outputs_lower_weight,
 };

@@ -52,3 +52,4 @@ pub mod HeldActs
 pub mod PartItems
 pub mod PartActs
 pub mod BufferedSums
+pub mod PassedReads

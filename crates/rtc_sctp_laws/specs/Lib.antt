@@ -7,3 +7,4 @@ pub mod UsedCalls
 pub mod Contents
 pub mod PastGenerations
 pub mod RunningStreams
+pub mod PassedReads

@@ -7,6 +7,7 @@ mod closes;
 mod contents;
 mod numbers;
 mod plain;
+mod unread;
 mod uses;
 mod visits;
 
@@ -16,5 +17,6 @@ pub use closes::close_comes_before_completion;
 pub use contents::live_streams_carry;
 pub use numbers::numbers_carry_the_same;
 pub use plain::plain_streams_keep_laws;
+pub use unread::read_streams_are_passed_over;
 pub use uses::calls_keep_uses;
 pub use visits::visits_keep_marks_and_deadlines;

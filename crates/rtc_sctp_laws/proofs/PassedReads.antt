@@ -11,7 +11,7 @@ use Rattle.rtc_sctp_entries.specs.declared.heard.Heard.{Heard}
 use Rattle.rtc_sctp_entries.specs.declared.met.Met.{Met}
 use Rattle.rtc_sctp_entries.specs.Answers.{heard_of}
 use Rattle.rtc_sctp_entries.specs.Visits.{Turn, ReadBy, MayRead, IsRead, NothingUnread}
-use Rattle.rtc_peer_laws.specs.PassedReads.{PassesOver}
+use Rattle.rtc_sctp_laws.specs.PassedReads.{PassesOver}
 
 -- a stream that is there is no cause to refuse
 no_cause : (there : Bool) (e : AssocError) → there ≡ true → need (not there) NoStream None ≡ Some e → ⊥

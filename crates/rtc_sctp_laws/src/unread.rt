@@ -2,7 +2,7 @@
 ghost use Rattle.std.specs.Prelude.{◌≡◌, true, false};
 ghost use Rattle.rtc_sctp_entries.specs.declared.met.Met.{Met};
 ghost use Rattle.rtc_sctp_entries.specs.Visits.{Turn, MayRead};
-ghost use Rattle.rtc_peer_laws.specs.PassedReads.{PassesOver};
+ghost use Rattle.rtc_sctp_laws.specs.PassedReads.{PassesOver};
 
 use rtc_part_association::Association;
 
