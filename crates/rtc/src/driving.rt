@@ -1,6 +1,7 @@
 //! The loop that drives a peer.
 ghost use Rattle.rtc_peer_core.specs.Meanings.{meanings};
 ghost use Rattle.rtc.specs.Drives.{DrainsInto, Drives, HandsNext};
+ghost use Rattle.rtc_peer.specs.CachedPeer.{polled_of};
 
 use crate::handed::{Handed, hand};
 use crate::{Parts, Peer, Sink};
@@ -10,7 +11,7 @@ use rtc_wire::Moment;
 // Polls a peer once, and passes its output to the sink.
 fn hand_next<P: Parts, K: Sink<P::MediaEvent>>(peer: &mut Peer<P>, sink: &mut K) -> Handed
     ensures { HandsNext (meanings P.Ice.ice P.Dtls.dtls P.Sctp.association P.Media.media P.Ids.ids) K.sink
-        peer.old sink.old result peer.new sink.new }
+        (polled_of peer.old) sink.old result (polled_of peer.new) sink.new }
 {
     match peer.poll_output() {
         Ok(output) => hand::<P::MediaEvent, K>(sink, output),
@@ -25,7 +26,7 @@ fn drain<P: Parts, K: Sink<P::MediaEvent>>(
     sink: &mut K,
 ) -> Result<Moment, RtcError>
     ensures { DrainsInto (meanings P.Ice.ice P.Dtls.dtls P.Sctp.association P.Media.media P.Ids.ids) K.sink
-        now peer.old sink.old result peer.new sink.new }
+        now (polled_of peer.old) sink.old result (polled_of peer.new) sink.new }
 {
     for turn in 0..u64::MAX {
         match hand_next::<P, K>(peer, sink) {
@@ -46,7 +47,7 @@ pub fn drive<P: Parts, K: Sink<P::MediaEvent>>(
     sink: &mut K,
 ) -> Result<Moment, RtcError>
     ensures { Drives (meanings P.Ice.ice P.Dtls.dtls P.Sctp.association P.Media.media P.Ids.ids) K.sink
-        now peer.old sink.old result peer.new sink.new }
+        now (polled_of peer.old) sink.old result (polled_of peer.new) sink.new }
 {
     match peer.handle_input(&Input::Timeout(now)) {
         Ok(()) => drain::<P, K>(peer, now, sink),

@@ -2,6 +2,7 @@
 ghost use Rattle.rtc_wire.specs.DatagramRecv.{kind_by};
 ghost use Rattle.rtc_peer_core.specs.Meanings.{meanings};
 ghost use Rattle.rtc.specs.Receives.{ReceivesDatagram};
+ghost use Rattle.rtc_peer.specs.CachedPeer.{polled_of};
 
 use crate::{Parts, Peer};
 use rtc_peer::{Input, RtcError};
@@ -16,7 +17,7 @@ pub fn receive<P: Parts>(
     datagram: &Transmit,
 ) -> Result<(), RtcError>
     ensures { ReceivesDatagram (meanings P.Ice.ice P.Dtls.dtls P.Sctp.association P.Media.media P.Ids.ids)
-        (kind_by P.Ice.stun datagram.now.contents) datagram.now now peer.old result peer.new }
+        (kind_by P.Ice.stun datagram.now.contents) datagram.now now (polled_of peer.old) result (polled_of peer.new) }
 {
     match Receive::from_transmit::<P::Ice>(datagram) {
         Ok(received) => peer.handle_input(&Input::Receive(now, received)),

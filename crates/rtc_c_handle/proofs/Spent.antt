@@ -7,16 +7,16 @@ use Rattle.rtc_plain_media.specs.MediaContents.{MediaContents}
 use Rattle.rtc_assoc_state.specs.Contents.{Contents}
 use Rattle.rtc_change.specs.PendingOffer.{PendingOffer}
 use Rattle.rtc_peer_core.specs.declared.rtc_error.RtcError.{RtcError}
-use Rattle.rtc_peer_transport.specs.declared.polled_peer.PolledPeer.{PolledPeer}
+use Rattle.rtc_peer.specs.CachedPeer.{CachedPeer}
 use Rattle.rtc_c_handle.specs.declared.held.Held.{Held}
 use Rattle.rtc_c_handle.specs.Negotiation.{SpendsToken, HadToken, had_token}
 use Rattle.rtc_c_handle.specs.HeldPeer.{HeldPeer}
 
 pub spent : (calls : HeldPeer → PendingOffer → Result (Unit {0}) RtcError → HeldPeer → Type 0) (h : Held)
-    (rtc : PolledPeer IceContents DtlsContents Contents MediaContents ℕ) (left : Option PendingOffer) (token : PendingOffer)
+    (rtc : CachedPeer IceContents DtlsContents Contents MediaContents ℕ) (left : Option PendingOffer) (token : PendingOffer)
     (returned : Result (Unit {0}) RtcError) (r : Result Bool RtcError)
     → h.token ≡ Some token → left ≡ None → rtc.transport ≡ h.rtc.transport
     → calls (record h.rtc.core { staged = []; undo = [] }) token returned rtc.core → r ≡ had_token returned
     → SpendsToken calls h r (record { rtc = rtc; token = left; text = h.text; wanted = h.wanted; output = h.output })
 spent calls h rtc left token returned r has gone same did is =
-    HadToken token returned has did is (λ j. record { rtc = record { core = rtc.core; transport = same j }; token = gone j; text = h.text; wanted = h.wanted; output = h.output })
+    HadToken token returned has did is same (λ j. record { rtc = rtc; token = gone j; text = h.text; wanted = h.wanted; output = h.output })

@@ -36,7 +36,7 @@ pub data SpendsToken (calls : HeldPeer → PendingOffer → Result (Unit {0}) Rt
   HasNoToken : h.token ≡ None → r ≡ Ok false → g ≡ h → SpendsToken calls h r g
   HadToken : (token : PendingOffer) (returned : Result (Unit {0}) RtcError) → h.token ≡ Some token
       → calls (record h.rtc.core { staged = []; undo = [] }) token returned g.rtc.core → r ≡ had_token returned
-      → g ≡ record h { rtc = record h.rtc { core = g.rtc.core }; token = None } → SpendsToken calls h r g
+      → g.rtc.transport ≡ h.rtc.transport → g ≡ record h { rtc = g.rtc; token = None } → SpendsToken calls h r g
 
 -- The text of an answer cannot be read, and nothing changes; or the answer that was read of it is given with the token.
 pub data TakesAnswer (read : Result Sdp ℕ) (h : Held) (r : Result Bool RtcError) (g : Held) : Type 0 where
@@ -58,8 +58,8 @@ WritesOffer offer text status after = ⊥
 pub data Offers (h : Held) (status : Status) (g : Held) : Type 0 where
   IsOffered : (offer : SdpOffer) (token : PendingOffer) → MakesOffer h.wanted h.rtc.core (Offer offer token) g.rtc.core
       → WritesOffer offer.0 h.text status g.text
-      → g ≡ record h { rtc = record h.rtc { core = g.rtc.core }; token = Some token; text = g.text; wanted = [] } → Offers h status g
+      → g.rtc.transport ≡ h.rtc.transport → g ≡ record h { rtc = g.rtc; token = Some token; text = g.text; wanted = [] } → Offers h status g
   IsUnsaid : MakesOffer h.wanted h.rtc.core Nothing g.rtc.core → status ≡ NothingToOffer
-      → g ≡ record h { rtc = record h.rtc { core = g.rtc.core }; wanted = [] } → Offers h status g
+      → g.rtc.transport ≡ h.rtc.transport → g ≡ record h { rtc = g.rtc; wanted = [] } → Offers h status g
   IsNotOffered : (error : RtcError) → MakesOffer h.wanted h.rtc.core (Failed error) g.rtc.core → status ≡ status_of_error error
-      → g ≡ record h { rtc = record h.rtc { core = g.rtc.core } } → Offers h status g
+      → g.rtc.transport ≡ h.rtc.transport → g ≡ record h { rtc = g.rtc } → Offers h status g

@@ -13,6 +13,7 @@ use Rattle.rtc_peer_transport.specs.declared.input.Input.TheVariants.{Timeout}
 use Rattle.rtc_peer_transport.specs.declared.output.Output.{Output}
 use Rattle.rtc_peer_polling.specs.Inputs.{HandlesInput}
 use Rattle.rtc_peer_polling.specs.Walk.{PollsPeer}
+use Rattle.rtc_peer.specs.CachedPeer.{polled_of}
 use Rattle.rtc.specs.PlainPeers.{memory_parts}
 use Rattle.rtc.specs.Receives.{ReceivesDatagram}
 use Rattle.rtc_c_handle.specs.Outputs.{row_of_output}
@@ -29,7 +30,7 @@ use Rattle.rtc_c_handle.specs.declared.status.Status.TheVariants.{Done, NoChanne
 pub record CallsHeld (calls : HeldRtc → Result (Unit {0}) RtcError → HeldRtc → Type 0) (h : Held) (status : Status) (g : Held)
     : Type 0 where
   pub returned : Result (Unit {0}) RtcError
-  pub called : calls h.rtc returned g.rtc
+  pub called : calls (polled_of h.rtc) returned (polled_of g.rtc)
   pub is_returned : status ≡ status_of_call returned
   pub others : g ≡ record h { rtc = g.rtc }
 
@@ -58,15 +59,15 @@ BeginsClose h status g = CallsHeld (ClosesPeer memory_parts) h status g
 -- A channel is closed.
 pub record ClosesHeldChannel (id : ℕ) (h : Held) (status : Status) (g : Held) : Type 0 where
   pub returned : Result (Unit {0}) AllocError
-  pub called : ClosesDataChannel memory_parts id h.rtc returned g.rtc
+  pub called : ClosesDataChannel memory_parts id (polled_of h.rtc) returned (polled_of g.rtc)
   pub is_returned : status ≡ status_of_memory returned
   pub others : g ≡ record h { rtc = g.rtc }
 
 -- A poll returns an output, which is kept, with its row; or it fails, and the output and the row are those before.
 pub data PollsRow (h : Held) (row : OutputRow) (status : Status) (g : Held) (after : OutputRow) : Type 0 where
-  IsPolled : (output : Output PlainMediaEvent) → PollsPeer memory_parts h.rtc (Ok output) g.rtc → status ≡ Done
+  IsPolled : (output : Output PlainMediaEvent) → PollsPeer memory_parts (polled_of h.rtc) (Ok output) (polled_of g.rtc) → status ≡ Done
       → g ≡ record h { rtc = g.rtc; output = Some output } → after ≡ row_of_output output → PollsRow h row status g after
-  IsNotPolled : (error : RtcError) → PollsPeer memory_parts h.rtc (Err error) g.rtc → status ≡ status_of_error error
+  IsNotPolled : (error : RtcError) → PollsPeer memory_parts (polled_of h.rtc) (Err error) (polled_of g.rtc) → status ≡ status_of_error error
       → g ≡ record h { rtc = g.rtc } → after ≡ row → PollsRow h row status g after
 
 -- what a write to a channel returned, if that is open
@@ -83,6 +84,6 @@ status_of_written (Some returned) = status_of_write returned
 -- A message is written to a channel, if that is open.
 pub record WritesHeld (id : ℕ) (binary : Bool) (bytes : List ℕ) (h : Held) (status : Status) (g : Held) : Type 0 where
   pub returned : Option (Result Bool RtcError)
-  pub called : WritesOpen (open_stream_under id h.rtc) binary bytes h.rtc returned g.rtc
+  pub called : WritesOpen (open_stream_under id (polled_of h.rtc)) binary bytes (polled_of h.rtc) returned (polled_of g.rtc)
   pub is_returned : status ≡ status_of_written returned
   pub others : g ≡ record h { rtc = g.rtc }

@@ -6,6 +6,7 @@ ghost use Rattle.rtc_peer_core.specs.Meanings.{meanings};
 ghost use Rattle.rtc_peer_polling.specs.Inputs.{HandlesInput};
 ghost use Rattle.rtc_peer_transport.specs.ChannelCalls.{open_stream_under};
 ghost use Rattle.rtc_peer_transport.specs.declared.input.Input.TheVariants as given;
+ghost use Rattle.rtc_peer.specs.CachedPeer.{polled_of};
 ghost use Rattle.rtc.specs.PlainPeers.{memory_parts};
 ghost use Rattle.rtc.specs.Receives.{ReceivesDatagram};
 ghost use Rattle.rtc_c_handle.specs.Statuses.{status_of_memory};
@@ -22,7 +23,7 @@ use std::alloc::AllocError;
 // Gives a peer a moment.
 fn give_moment<P: Parts>(peer: &mut Peer<P>, now: Moment) -> Result<(), RtcError>
     ensures { HandlesInput (meanings P.Ice.ice P.Dtls.dtls P.Sctp.association P.Media.media P.Ids.ids)
-        (given.Timeout now) peer.old result peer.new }
+        (given.Timeout now) (polled_of peer.old) result (polled_of peer.new) }
 {
     peer.handle_input(&Input::Timeout(now))
 }
@@ -36,7 +37,7 @@ fn receive(
     bytes: &[u8],
 ) -> Result<(), RtcError>
     ensures { ReceivesDatagram memory_parts (kind_by is_ice_message bytes.now)
-        (udp_datagram source.now destination.now bytes.now) now rtc.old result rtc.new }
+        (udp_datagram source.now destination.now bytes.now) now (polled_of rtc.old) result (polled_of rtc.new) }
 {
     match Receive::new::<PlainIce>(Protocol::Udp, source.addr(), destination.addr(), bytes) {
         Ok(received) => rtc.handle_input(&Input::Receive(Moment::from_nanos(now), received)),
@@ -51,7 +52,7 @@ fn write_if_open(
     binary: bool,
     bytes: &[u8],
 ) -> Option<Result<bool, RtcError>>
-    ensures { WritesOpen (open_stream_under channel rtc.old) binary bytes.now rtc.old result rtc.new }
+    ensures { WritesOpen (open_stream_under channel (polled_of rtc.old)) binary bytes.now (polled_of rtc.old) result (polled_of rtc.new) }
 {
     match rtc.channel(ChannelId::new(channel)) {
         Some(mut open) => Some(open.write(binary, bytes)),

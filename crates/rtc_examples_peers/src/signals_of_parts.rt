@@ -6,12 +6,20 @@ use crate::signals::Signals;
 use crate::texts::{Texts, write_offer};
 use rtc_examples_cases::{is_ok, is_true};
 use rtc_peer::{
-    Association, Direction, DtlsInstance, IceAgent, Ids, MediaKind, MediaSession, Rtc, RtcError,
-    SdpOffer, SdpPendingOffer,
+    Association, Candidate, Direction, DtlsInstance, IceAgent, Ids, MediaKind, MediaSession, Rtc,
+    RtcError, SdpOffer, SdpPendingOffer,
 };
 use rtc_wire::Text;
 use rtc_wire_drops::release;
 use std::alloc::{AllocError, Global};
+
+// Whether an address was taken.
+fn is_lent(added: Result<Option<&Candidate>, AllocError>) -> bool {
+    match added {
+        Ok(taken) => taken.is_some(),
+        Err(_) => false,
+    }
+}
 
 fn offer_channels<I: IceAgent, D: DtlsInstance, S: Association, M: MediaSession, N: Ids>(
     left: &mut Rtc<I, D, S, M, N>,
@@ -61,7 +69,7 @@ impl<I: IceAgent, D: DtlsInstance, S: Association, M: MediaSession, N: Ids> Sign
     for Rtc<I, D, S, M, N> {
     fn add_host(&mut self, alloc: Global, number: u8) -> bool {
         match candidate(alloc, number) {
-            Ok(candidate) => is_true(self.add_local_candidate(candidate)),
+            Ok(candidate) => is_lent(self.add_local_candidate(candidate)),
             Err(_) => false,
         }
     }

@@ -16,3 +16,8 @@ made_beside (Err e) P a b Q is fact h ok = tt
 pub refused_beside : {A B E : Type 0} (r : Result A E) (P : B → Type 0) (a b : B) (Q : Type 0) → a ≡ b → Q → OnErr r (P a) → OnErr r (Q × P b)
 refused_beside (Ok lent) P a b Q is fact h = tt
 refused_beside (Err e) P a b Q is fact h = (fact, subst P is h)
+
+-- what is known of a loan of a peer is known where the peer is seen otherwise
+pub lent_by : {A B : Type 0} (r : Option A) (P : B → A → Type 0) (a b : B) → a ≡ b → IfSome r (λ lent. P a lent) → IfSome r (λ lent. P b lent)
+lent_by None P a b is h = tt
+lent_by (Some lent) P a b is h = subst (λ x. P x lent) is h

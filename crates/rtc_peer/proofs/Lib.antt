@@ -1,3 +1,5 @@
 pub mod HandleLoans
 mod LiveOffers
 mod NestedLoans
+pub mod SignalLemmas
+mod WorkedSignals

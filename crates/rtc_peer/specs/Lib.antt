@@ -1,5 +1,7 @@
+pub mod CachedPeer
 pub mod Described
 pub mod Labelled
+pub mod PeerSignals
 pub mod Previews
 pub mod Readings
 pub mod WantedLine

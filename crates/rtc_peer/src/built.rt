@@ -7,6 +7,7 @@ ghost use Rattle.rtc_peer_core.specs.Formed.{IsFormed};
 ghost use Rattle.rtc_peer_core.specs.Meanings.{meanings};
 ghost use Rattle.rtc_peer_core.specs.Stance.{stance_of};
 ghost use Rattle.rtc_peer_transport.specs.Connection.{no_transport};
+ghost use Rattle.rtc_ready.specs.Signals.{both};
 
 use crate::Rtc;
 use rtc_config::RtcConfig;
@@ -50,6 +51,7 @@ impl<
         ensures built { IfOk result (λ rtc. Builds (meanings I.ice D.dtls S.association M.media N.ids)
             alloc default_config start ice dtls association media ids rtc.core) }
         ensures unconnected { IfOk result (λ rtc. rtc.transport ≡ no_transport true false None) }
+        ensures awake { IfOk result (λ rtc. rtc.signals ≡ both) }
         ensures formed { IfOk result (λ rtc. IsFormed (stance_of (meanings I.ice D.dtls S.association M.media N.ids) rtc.core)) }
     {
         let config = make_default(alloc)?;

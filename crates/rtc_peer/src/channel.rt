@@ -3,8 +3,10 @@ ghost use Rattle.std.specs.Prelude.{◌≡◌, None, Some, MatchOption};
 ghost use Rattle.rtc_sctp_entries.specs.Entries.{stream_config};
 ghost use Rattle.rtc_peer_core.specs.Meanings.{meanings};
 ghost use Rattle.rtc_peer_transport.specs.ChannelCalls.{SetsChannelThreshold, WritesChannel, bytes_buffered};
+ghost use Rattle.rtc_peer.specs.CachedPeer.{polled_of};
 
 use crate::Rtc;
+use crate::waking::wake_all;
 use rtc_part_association::Association;
 use rtc_part_dtls::DtlsInstance;
 use rtc_part_ice::IceAgent;
@@ -14,12 +16,13 @@ use rtc_peer_core::RtcError;
 use rtc_wire::ChannelConfig;
 
 /// A data channel that is open (RFC 8831, section 6.4).
-pub struct Channel<'a, I, D, S: Association, M, N> {
+pub struct Channel<'a, I: IceAgent, D: DtlsInstance, S: Association, M: MediaSession, N: Ids> {
     pub(crate) rtc: &'a mut Rtc<I, D, S, M, N>,
     pub(crate) stream: u16,
 }
 
-impl<I, D, S: Association, M, N> Drop for Channel<'_, I, D, S, M, N> {
+impl<I: IceAgent, D: DtlsInstance, S: Association, M: MediaSession, N: Ids> Drop
+    for Channel<'_, I, D, S, M, N> {
     fn drop(self)
         ensures { self.exit.0.now ≡ self.entry.rtc.now }
     {
@@ -39,17 +42,18 @@ impl<I: IceAgent, D: DtlsInstance, S: Association, M: MediaSession, N: Ids> Chan
     /// buffered over all channels.
     pub fn write(&mut self, binary: bool, buf: &[u8]) -> Result<bool, RtcError>
         ensures writes { WritesChannel (meanings I.ice D.dtls S.association M.media N.ids)
-            self.old.stream binary buf.now self.old.rtc.now result self.new.rtc.now }
+            self.old.stream binary buf.now (polled_of self.old.rtc.now) result (polled_of self.new.rtc.now) }
         ensures same_stream { self.new.stream ≡ self.old.stream }
         ensures same_reference { self.new.rtc.ghost_name ≡ self.old.rtc.ghost_name }
     {
         let rtc = &mut *self.rtc;
+        wake_all(&mut rtc.readiness);
         rtc.polled.write_channel(self.stream, binary, buf)
     }
 
     /// The bytes written to the channel that are not acknowledged.
     pub fn buffered_amount(&self) -> usize
-        ensures { result ≡ bytes_buffered (meanings I.ice D.dtls S.association M.media N.ids) self.now.stream self.now.rtc.now }
+        ensures { result ≡ bytes_buffered (meanings I.ice D.dtls S.association M.media N.ids) self.now.stream (polled_of self.now.rtc.now) }
     {
         let rtc = &*self.rtc;
         rtc.polled.core.sctp.buffered_amount(self.stream)
@@ -57,11 +61,12 @@ impl<I: IceAgent, D: DtlsInstance, S: Association, M: MediaSession, N: Ids> Chan
 
     /// Asks for a `ChannelBufferedAmountLow` event once `threshold` bytes or fewer are buffered.
     pub fn set_buffered_amount_low_threshold(&mut self, threshold: usize)
-        ensures asks { SetsChannelThreshold self.old.stream threshold self.old.rtc.now self.new.rtc.now }
+        ensures asks { SetsChannelThreshold self.old.stream threshold (polled_of self.old.rtc.now) (polled_of self.new.rtc.now) }
         ensures same_stream { self.new.stream ≡ self.old.stream }
         ensures same_reference { self.new.rtc.ghost_name ≡ self.old.rtc.ghost_name }
     {
         let rtc = &mut *self.rtc;
+        wake_all(&mut rtc.readiness);
         rtc.polled.set_threshold(self.stream, threshold);
     }
 

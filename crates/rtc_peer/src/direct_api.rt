@@ -6,8 +6,10 @@ ghost use Rattle.rtc_peer_transport.specs.ChannelCalls.{ClosesDataChannel, strea
 ghost use Rattle.rtc_peer_direct.specs.IceCalls.{SetsControlling, SetsLite, SetsLocalCreds, SetsRemoteCreds, InvalidatesCandidate};
 ghost use Rattle.rtc_peer_direct.specs.DtlsCalls.{with_fingerprint, TakesDtlsRole};
 ghost use Rattle.rtc_peer_direct.specs.ChannelMaking.{StartsStreams, CreatesChannel};
+ghost use Rattle.rtc_peer.specs.CachedPeer.{polled_of};
 
 use crate::Rtc;
+use crate::waking::wake_all;
 use rtc_lines::{Candidate, Fingerprint, IceCreds};
 use rtc_part_association::Association;
 use rtc_part_dtls::{DtlsInstance, DtlsVersion};
@@ -27,11 +29,12 @@ use std::alloc::AllocError;
 /// A handle to drive a peer without session descriptions, if both sides agree out-of-band.
 ///
 /// Its calls act at once, also on a peer that is closing or closed.
-pub struct DirectApi<'a, I, D, S: Association, M, N> {
+pub struct DirectApi<'a, I: IceAgent, D: DtlsInstance, S: Association, M: MediaSession, N: Ids> {
     pub(crate) rtc: &'a mut Rtc<I, D, S, M, N>,
 }
 
-impl<I, D, S: Association, M, N> Drop for DirectApi<'_, I, D, S, M, N> {
+impl<I: IceAgent, D: DtlsInstance, S: Association, M: MediaSession, N: Ids> Drop
+    for DirectApi<'_, I, D, S, M, N> {
     fn drop(self)
         ensures { self.exit.0.now ≡ self.entry.rtc.now }
     {
@@ -77,45 +80,50 @@ impl<'a, I: IceAgent, D: DtlsInstance, S: Association, M: MediaSession, N: Ids> 
     /// Sets whether this side is controlling (RFC 8445, section 6.1.1).
     pub fn set_ice_controlling(&mut self, on: bool)
         ensures same_reference { self.new.rtc.ghost_name ≡ self.old.rtc.ghost_name }
-        ensures does { SetsControlling I.ice on self.old.rtc.now self.new.rtc.now }
+        ensures does { SetsControlling I.ice on (polled_of self.old.rtc.now) (polled_of self.new.rtc.now) }
     {
         let rtc = &mut *self.rtc;
+        wake_all(&mut rtc.readiness);
         set_ice_controlling(&mut rtc.polled, on);
     }
 
     /// Sets whether this side only answers checks (RFC 8445, section 2.5).
     pub fn set_ice_lite(&mut self, on: bool)
         ensures same_reference { self.new.rtc.ghost_name ≡ self.old.rtc.ghost_name }
-        ensures does { SetsLite I.ice on self.old.rtc.now self.new.rtc.now }
+        ensures does { SetsLite I.ice on (polled_of self.old.rtc.now) (polled_of self.new.rtc.now) }
     {
         let rtc = &mut *self.rtc;
+        wake_all(&mut rtc.readiness);
         set_ice_lite(&mut rtc.polled, on);
     }
 
     /// Sets the credentials of this side.
     pub fn set_local_ice_credentials(&mut self, creds: IceCreds)
         ensures same_reference { self.new.rtc.ghost_name ≡ self.old.rtc.ghost_name }
-        ensures does { SetsLocalCreds I.ice creds self.old.rtc.now self.new.rtc.now }
+        ensures does { SetsLocalCreds I.ice creds (polled_of self.old.rtc.now) (polled_of self.new.rtc.now) }
     {
         let rtc = &mut *self.rtc;
+        wake_all(&mut rtc.readiness);
         set_local_credentials(&mut rtc.polled, creds);
     }
 
     /// Sets the credentials of the other side.
     pub fn set_remote_ice_credentials(&mut self, creds: IceCreds)
         ensures same_reference { self.new.rtc.ghost_name ≡ self.old.rtc.ghost_name }
-        ensures does { SetsRemoteCreds I.ice creds self.old.rtc.now self.new.rtc.now }
+        ensures does { SetsRemoteCreds I.ice creds (polled_of self.old.rtc.now) (polled_of self.new.rtc.now) }
     {
         let rtc = &mut *self.rtc;
+        wake_all(&mut rtc.readiness);
         set_remote_credentials(&mut rtc.polled, creds);
     }
 
     /// Stops using a candidate. Returns whether it was there.
     pub fn invalidate_candidate(&mut self, candidate: &Candidate) -> bool
         ensures same_reference { self.new.rtc.ghost_name ≡ self.old.rtc.ghost_name }
-        ensures does { InvalidatesCandidate I.ice candidate.now result self.old.rtc.now self.new.rtc.now }
+        ensures does { InvalidatesCandidate I.ice candidate.now result (polled_of self.old.rtc.now) (polled_of self.new.rtc.now) }
     {
         let rtc = &mut *self.rtc;
+        wake_all(&mut rtc.readiness);
         invalidate_candidate(&mut rtc.polled, candidate)
     }
 
@@ -130,18 +138,20 @@ impl<'a, I: IceAgent, D: DtlsInstance, S: Association, M: MediaSession, N: Ids> 
     /// Sets the fingerprint that the certificate of the other side has to match (RFC 8122, section 5).
     pub fn set_remote_fingerprint(&mut self, fingerprint: Fingerprint)
         ensures same_reference { self.new.rtc.ghost_name ≡ self.old.rtc.ghost_name }
-        ensures does { self.new.rtc.now ≡ with_fingerprint fingerprint self.old.rtc.now }
+        ensures does { polled_of self.new.rtc.now ≡ with_fingerprint fingerprint (polled_of self.old.rtc.now) }
     {
         let rtc = &mut *self.rtc;
+        wake_all(&mut rtc.readiness);
         set_remote_fingerprint(&mut rtc.polled, fingerprint);
     }
 
     /// Takes a DTLS role; an active side begins the handshake. Ok, and nothing happens, if there is a role.
     pub fn start_dtls(&mut self, active: bool) -> Result<(), RtcError>
         ensures same_reference { self.new.rtc.ghost_name ≡ self.old.rtc.ghost_name }
-        ensures does { TakesDtlsRole D.dtls active self.old.rtc.now result self.new.rtc.now }
+        ensures does { TakesDtlsRole D.dtls active (polled_of self.old.rtc.now) result (polled_of self.new.rtc.now) }
     {
         let rtc = &mut *self.rtc;
+        wake_all(&mut rtc.readiness);
         start_dtls(&mut rtc.polled, active)
     }
 
@@ -173,9 +183,10 @@ impl<'a, I: IceAgent, D: DtlsInstance, S: Association, M: MediaSession, N: Ids> 
     /// Starts the association as client or as server. Ok, and nothing happens, if it was started before.
     pub fn start_sctp(&mut self, client: bool) -> Result<(), RtcError>
         ensures same_reference { self.new.rtc.ghost_name ≡ self.old.rtc.ghost_name }
-        ensures does { StartsStreams S.association client None self.old.rtc.now result self.new.rtc.now }
+        ensures does { StartsStreams S.association client None (polled_of self.old.rtc.now) result (polled_of self.new.rtc.now) }
     {
         let rtc = &mut *self.rtc;
+        wake_all(&mut rtc.readiness);
         start_sctp(&mut rtc.polled, client)
     }
 
@@ -188,18 +199,20 @@ impl<'a, I: IceAgent, D: DtlsInstance, S: Association, M: MediaSession, N: Ids> 
         halves: SctpInitData,
     ) -> Result<(), RtcError>
         ensures same_reference { self.new.rtc.ghost_name ≡ self.old.rtc.ghost_name }
-        ensures does { StartsStreams S.association client (Some halves) self.old.rtc.now result self.new.rtc.now }
+        ensures does { StartsStreams S.association client (Some halves) (polled_of self.old.rtc.now) result (polled_of self.new.rtc.now) }
     {
         let rtc = &mut *self.rtc;
+        wake_all(&mut rtc.readiness);
         start_sctp_with_snap(&mut rtc.polled, client, halves)
     }
 
     /// Makes a channel, and returns its number. It is opened once the association is started and it has a stream.
     pub fn create_data_channel(&mut self, config: ChannelConfig) -> Result<ChannelId, RtcError>
         ensures same_reference { self.new.rtc.ghost_name ≡ self.old.rtc.ghost_name }
-        ensures does { CreatesChannel config self.old.rtc.now result self.new.rtc.now }
+        ensures does { CreatesChannel config (polled_of self.old.rtc.now) result (polled_of self.new.rtc.now) }
     {
         let rtc = &mut *self.rtc;
+        wake_all(&mut rtc.readiness);
         create_data_channel(&mut rtc.polled, config)
     }
 
@@ -207,9 +220,11 @@ impl<'a, I: IceAgent, D: DtlsInstance, S: Association, M: MediaSession, N: Ids> 
     /// no such channel, or it has no stream yet.
     pub fn close_data_channel(&mut self, id: ChannelId) -> Result<(), AllocError>
         ensures same_reference { self.new.rtc.ghost_name ≡ self.old.rtc.ghost_name }
-        ensures does { ClosesDataChannel (meanings I.ice D.dtls S.association M.media N.ids) id self.old.rtc.now result self.new.rtc.now }
+        ensures does { ClosesDataChannel (meanings I.ice D.dtls S.association M.media N.ids) id (polled_of self.old.rtc.now) result
+            (polled_of self.new.rtc.now) }
     {
         let rtc = &mut *self.rtc;
+        wake_all(&mut rtc.readiness);
         rtc.polled.close_data_channel(id)
     }
 

@@ -3,8 +3,10 @@ ghost use Rattle.std.specs.Prelude.{◌≡◌, IfSome, is_some};
 ghost use Rattle.std.specs.Borrow.{LendsSo, sem};
 ghost use Rattle.rtc_peer.specs.contracts.rtc.Rtc.{the_row};
 ghost use Rattle.rtc_peer_direct.specs.Streams.{gives_writer, LendsWriter};
+ghost use Rattle.rtc_peer.specs.CachedPeer.{polled_of};
 
 use crate::Rtc;
+use crate::waking::wake_all;
 use rtc_lines::Mid;
 use rtc_part_association::Association;
 use rtc_part_dtls::DtlsInstance;
@@ -18,11 +20,14 @@ impl<I: IceAgent, D: DtlsInstance, S: Association, M: MediaSession, N: Ids> Rtc<
     /// if the media part has none.
     pub fn writer(&mut self, mid: Mid) -> Option<&mut M::Writer>
         ensures* leaves { sem 𝓛 (LendsSo
-            (the_row I.row D.row S.row M.row N.row S.Association)
+            (the_row I.row D.row S.row M.row N.row M.E.row M.Rx.row M.Tx.row M.Writer.row
+            (record { ice = I.ice }) (record { stun = I.stun }) D.DtlsInstance S.Association M.MediaSession M.E.MediaEvent N.Ids)
             M.Writer.row self.entry result
-            (λ n x. IfSome result (λ lent. LendsWriter M.media mid self.old lent.now x n)) (λ n. n ≡ self.old)) }
-        ensures found { is_some result ≡ gives_writer M.media mid self.old }
+            (λ n x. IfSome result (λ lent. LendsWriter M.media mid (polled_of self.old) lent.now x (polled_of n)))
+            (λ n. polled_of n ≡ polled_of self.old)) }
+        ensures found { is_some result ≡ gives_writer M.media mid (polled_of self.old) }
     {
+        wake_all(&mut self.readiness);
         lend_writer(&mut self.polled, mid)
     }
 }

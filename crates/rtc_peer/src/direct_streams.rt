@@ -7,8 +7,10 @@ ghost use Rattle.rtc_part_media.specs.StreamLends.{IfLent, LendsStream};
 ghost use Rattle.rtc_peer.specs.contracts.direct_api.DirectApi.{the_row};
 ghost use Rattle.rtc_peer_direct.specs.Streams.{gives_no_rx, gives_no_tx};
 ghost use Rattle.rtc_peer_direct.specs.Streams.{ExpectsRx, DeclaresTx, LendsRx, LendsTx, LendsNamedRx, LendsNamedTx, ResetsTx};
+ghost use Rattle.rtc_peer.specs.CachedPeer.{polled_of};
 
 use crate::DirectApi;
+use crate::waking::wake_all;
 use rtc_lines::{Mid, Rid, Ssrc};
 use rtc_part_association::Association;
 use rtc_part_dtls::DtlsInstance;
@@ -38,14 +40,16 @@ impl<'a, I: IceAgent, D: DtlsInstance, S: Association, M: MediaSession, N: Ids> 
         rid: Option<Rid>,
     ) -> Result<&mut M::Rx, NoStream>
         ensures* leaves { sem 𝓛 (LendsSoOk
-            (the_row (record { mir = named 1; lft = [] }) I.row D.row S.row M.row N.row S.Association)
+            (the_row (record { mir = named 1; lft = [] }) I.row D.row S.row M.row N.row M.E.row M.Rx.row M.Tx.row M.Writer.row
+            (record { ice = I.ice }) (record { stun = I.stun }) D.DtlsInstance S.Association M.MediaSession M.E.MediaEvent N.Ids)
             M.Rx.row self.entry result
             (λ n x. IfOk result (λ lent. (n.rtc.ghost_name ≡ self.old.rtc.ghost_name)
-            × ExpectsRx M.media ssrc rtx mid rid self.old.rtc.now lent.now x n.rtc.now))
-            (λ n. (n.rtc.ghost_name ≡ self.old.rtc.ghost_name) × (n.rtc.now ≡ self.old.rtc.now))) }
-        ensures answer { StreamAnswers (gives_no_rx M.media ssrc rtx mid rid self.old.rtc.now) result }
+            × ExpectsRx M.media ssrc rtx mid rid (polled_of self.old.rtc.now) lent.now x (polled_of n.rtc.now)))
+            (λ n. (n.rtc.ghost_name ≡ self.old.rtc.ghost_name) × (polled_of n.rtc.now ≡ polled_of self.old.rtc.now))) }
+        ensures answer { StreamAnswers (gives_no_rx M.media ssrc rtx mid rid (polled_of self.old.rtc.now)) result }
     {
         let rtc = &mut *self.rtc;
+        wake_all(&mut rtc.readiness);
         make_stream_rx(&mut rtc.polled, ssrc, rtx, mid, rid)
     }
 
@@ -58,14 +62,16 @@ impl<'a, I: IceAgent, D: DtlsInstance, S: Association, M: MediaSession, N: Ids> 
         rid: Option<Rid>,
     ) -> Result<&mut M::Tx, NoStream>
         ensures* leaves { sem 𝓛 (LendsSoOk
-            (the_row (record { mir = named 1; lft = [] }) I.row D.row S.row M.row N.row S.Association)
+            (the_row (record { mir = named 1; lft = [] }) I.row D.row S.row M.row N.row M.E.row M.Rx.row M.Tx.row M.Writer.row
+            (record { ice = I.ice }) (record { stun = I.stun }) D.DtlsInstance S.Association M.MediaSession M.E.MediaEvent N.Ids)
             M.Tx.row self.entry result
             (λ n x. IfOk result (λ lent. (n.rtc.ghost_name ≡ self.old.rtc.ghost_name)
-            × DeclaresTx M.media ssrc rtx mid rid self.old.rtc.now lent.now x n.rtc.now))
-            (λ n. (n.rtc.ghost_name ≡ self.old.rtc.ghost_name) × (n.rtc.now ≡ self.old.rtc.now))) }
-        ensures answer { StreamAnswers (gives_no_tx M.media ssrc rtx mid rid self.old.rtc.now) result }
+            × DeclaresTx M.media ssrc rtx mid rid (polled_of self.old.rtc.now) lent.now x (polled_of n.rtc.now)))
+            (λ n. (n.rtc.ghost_name ≡ self.old.rtc.ghost_name) × (polled_of n.rtc.now ≡ polled_of self.old.rtc.now))) }
+        ensures answer { StreamAnswers (gives_no_tx M.media ssrc rtx mid rid (polled_of self.old.rtc.now)) result }
     {
         let rtc = &mut *self.rtc;
+        wake_all(&mut rtc.readiness);
         make_stream_tx(&mut rtc.polled, ssrc, rtx, mid, rid)
     }
 
@@ -78,12 +84,13 @@ impl<'a, I: IceAgent, D: DtlsInstance, S: Association, M: MediaSession, N: Ids> 
         rid: Option<Rid>,
     ) -> Result<Option<&mut M::Rx>, AllocError>
         ensures* leaves { sem 𝓛 (LendsStream
-            (the_row (record { mir = named 1; lft = [] }) I.row D.row S.row M.row N.row S.Association)
+            (the_row (record { mir = named 1; lft = [] }) I.row D.row S.row M.row N.row M.E.row M.Rx.row M.Tx.row M.Writer.row
+            (record { ice = I.ice }) (record { stun = I.stun }) D.DtlsInstance S.Association M.MediaSession M.E.MediaEvent N.Ids)
             M.Rx.row self.entry result
             (λ n x. IfLent result (λ lent. (n.rtc.ghost_name ≡ self.old.rtc.ghost_name)
-            × ExpectsRx M.media ssrc rtx mid rid self.old.rtc.now lent.now x n.rtc.now))
-            (λ n. (n.rtc.ghost_name ≡ self.old.rtc.ghost_name) × (n.rtc.now ≡ self.old.rtc.now))) }
-        ensures answer { IfOk result (λ lent. IsNone lent ↔ IsTrue (gives_no_rx M.media ssrc rtx mid rid self.old.rtc.now)) }
+            × ExpectsRx M.media ssrc rtx mid rid (polled_of self.old.rtc.now) lent.now x (polled_of n.rtc.now)))
+            (λ n. (n.rtc.ghost_name ≡ self.old.rtc.ghost_name) × (polled_of n.rtc.now ≡ polled_of self.old.rtc.now))) }
+        ensures answer { IfOk result (λ lent. IsNone lent ↔ IsTrue (gives_no_rx M.media ssrc rtx mid rid (polled_of self.old.rtc.now))) }
     {
         answer_of(self.make_stream_rx(ssrc, rtx, mid, rid))
     }
@@ -97,12 +104,13 @@ impl<'a, I: IceAgent, D: DtlsInstance, S: Association, M: MediaSession, N: Ids> 
         rid: Option<Rid>,
     ) -> Result<Option<&mut M::Tx>, AllocError>
         ensures* leaves { sem 𝓛 (LendsStream
-            (the_row (record { mir = named 1; lft = [] }) I.row D.row S.row M.row N.row S.Association)
+            (the_row (record { mir = named 1; lft = [] }) I.row D.row S.row M.row N.row M.E.row M.Rx.row M.Tx.row M.Writer.row
+            (record { ice = I.ice }) (record { stun = I.stun }) D.DtlsInstance S.Association M.MediaSession M.E.MediaEvent N.Ids)
             M.Tx.row self.entry result
             (λ n x. IfLent result (λ lent. (n.rtc.ghost_name ≡ self.old.rtc.ghost_name)
-            × DeclaresTx M.media ssrc rtx mid rid self.old.rtc.now lent.now x n.rtc.now))
-            (λ n. (n.rtc.ghost_name ≡ self.old.rtc.ghost_name) × (n.rtc.now ≡ self.old.rtc.now))) }
-        ensures answer { IfOk result (λ lent. IsNone lent ↔ IsTrue (gives_no_tx M.media ssrc rtx mid rid self.old.rtc.now)) }
+            × DeclaresTx M.media ssrc rtx mid rid (polled_of self.old.rtc.now) lent.now x (polled_of n.rtc.now)))
+            (λ n. (n.rtc.ghost_name ≡ self.old.rtc.ghost_name) × (polled_of n.rtc.now ≡ polled_of self.old.rtc.now))) }
+        ensures answer { IfOk result (λ lent. IsNone lent ↔ IsTrue (gives_no_tx M.media ssrc rtx mid rid (polled_of self.old.rtc.now))) }
     {
         answer_of(self.make_stream_tx(ssrc, rtx, mid, rid))
     }
@@ -110,56 +118,64 @@ impl<'a, I: IceAgent, D: DtlsInstance, S: Association, M: MediaSession, N: Ids> 
     /// The received stream of an SSRC.
     pub fn stream_rx(&mut self, ssrc: Ssrc) -> Option<&mut M::Rx>
         ensures* leaves { sem 𝓛 (LendsSo
-            (the_row (record { mir = named 1; lft = [] }) I.row D.row S.row M.row N.row S.Association)
+            (the_row (record { mir = named 1; lft = [] }) I.row D.row S.row M.row N.row M.E.row M.Rx.row M.Tx.row M.Writer.row
+            (record { ice = I.ice }) (record { stun = I.stun }) D.DtlsInstance S.Association M.MediaSession M.E.MediaEvent N.Ids)
             M.Rx.row self.entry result
             (λ n x. IfSome result (λ lent. (n.rtc.ghost_name ≡ self.old.rtc.ghost_name)
-            × LendsRx M.media ssrc self.old.rtc.now lent.now x n.rtc.now))
-            (λ n. (n.rtc.ghost_name ≡ self.old.rtc.ghost_name) × (n.rtc.now ≡ self.old.rtc.now))) }
+            × LendsRx M.media ssrc (polled_of self.old.rtc.now) lent.now x (polled_of n.rtc.now)))
+            (λ n. (n.rtc.ghost_name ≡ self.old.rtc.ghost_name) × (polled_of n.rtc.now ≡ polled_of self.old.rtc.now))) }
         ensures found { is_some result ≡ M.media.has_rx self.old.rtc.now.core.media ssrc }
     {
         let rtc = &mut *self.rtc;
+        wake_all(&mut rtc.readiness);
         lend_stream_rx(&mut rtc.polled, ssrc)
     }
 
     /// The sent stream of an SSRC.
     pub fn stream_tx(&mut self, ssrc: Ssrc) -> Option<&mut M::Tx>
         ensures* leaves { sem 𝓛 (LendsSo
-            (the_row (record { mir = named 1; lft = [] }) I.row D.row S.row M.row N.row S.Association)
+            (the_row (record { mir = named 1; lft = [] }) I.row D.row S.row M.row N.row M.E.row M.Rx.row M.Tx.row M.Writer.row
+            (record { ice = I.ice }) (record { stun = I.stun }) D.DtlsInstance S.Association M.MediaSession M.E.MediaEvent N.Ids)
             M.Tx.row self.entry result
             (λ n x. IfSome result (λ lent. (n.rtc.ghost_name ≡ self.old.rtc.ghost_name)
-            × LendsTx M.media ssrc self.old.rtc.now lent.now x n.rtc.now))
-            (λ n. (n.rtc.ghost_name ≡ self.old.rtc.ghost_name) × (n.rtc.now ≡ self.old.rtc.now))) }
+            × LendsTx M.media ssrc (polled_of self.old.rtc.now) lent.now x (polled_of n.rtc.now)))
+            (λ n. (n.rtc.ghost_name ≡ self.old.rtc.ghost_name) × (polled_of n.rtc.now ≡ polled_of self.old.rtc.now))) }
         ensures found { is_some result ≡ M.media.has_tx self.old.rtc.now.core.media ssrc }
     {
         let rtc = &mut *self.rtc;
+        wake_all(&mut rtc.readiness);
         lend_stream_tx(&mut rtc.polled, ssrc)
     }
 
     /// The stream of a line and a layer that is received.
     pub fn stream_rx_by_mid(&mut self, mid: Mid, rid: Option<Rid>) -> Option<&mut M::Rx>
         ensures* leaves { sem 𝓛 (LendsSo
-            (the_row (record { mir = named 1; lft = [] }) I.row D.row S.row M.row N.row S.Association)
+            (the_row (record { mir = named 1; lft = [] }) I.row D.row S.row M.row N.row M.E.row M.Rx.row M.Tx.row M.Writer.row
+            (record { ice = I.ice }) (record { stun = I.stun }) D.DtlsInstance S.Association M.MediaSession M.E.MediaEvent N.Ids)
             M.Rx.row self.entry result
             (λ n x. IfSome result (λ lent. (n.rtc.ghost_name ≡ self.old.rtc.ghost_name)
-            × LendsNamedRx M.media mid rid self.old.rtc.now lent.now x n.rtc.now))
-            (λ n. (n.rtc.ghost_name ≡ self.old.rtc.ghost_name) × (n.rtc.now ≡ self.old.rtc.now))) }
+            × LendsNamedRx M.media mid rid (polled_of self.old.rtc.now) lent.now x (polled_of n.rtc.now)))
+            (λ n. (n.rtc.ghost_name ≡ self.old.rtc.ghost_name) × (polled_of n.rtc.now ≡ polled_of self.old.rtc.now))) }
         ensures found { is_some result ≡ M.media.has_rx_named self.old.rtc.now.core.media mid rid }
     {
         let rtc = &mut *self.rtc;
+        wake_all(&mut rtc.readiness);
         lend_stream_rx_by_mid(&mut rtc.polled, mid, rid)
     }
 
     /// The stream of a line and a layer that is sent.
     pub fn stream_tx_by_mid(&mut self, mid: Mid, rid: Option<Rid>) -> Option<&mut M::Tx>
         ensures* leaves { sem 𝓛 (LendsSo
-            (the_row (record { mir = named 1; lft = [] }) I.row D.row S.row M.row N.row S.Association)
+            (the_row (record { mir = named 1; lft = [] }) I.row D.row S.row M.row N.row M.E.row M.Rx.row M.Tx.row M.Writer.row
+            (record { ice = I.ice }) (record { stun = I.stun }) D.DtlsInstance S.Association M.MediaSession M.E.MediaEvent N.Ids)
             M.Tx.row self.entry result
             (λ n x. IfSome result (λ lent. (n.rtc.ghost_name ≡ self.old.rtc.ghost_name)
-            × LendsNamedTx M.media mid rid self.old.rtc.now lent.now x n.rtc.now))
-            (λ n. (n.rtc.ghost_name ≡ self.old.rtc.ghost_name) × (n.rtc.now ≡ self.old.rtc.now))) }
+            × LendsNamedTx M.media mid rid (polled_of self.old.rtc.now) lent.now x (polled_of n.rtc.now)))
+            (λ n. (n.rtc.ghost_name ≡ self.old.rtc.ghost_name) × (polled_of n.rtc.now ≡ polled_of self.old.rtc.now))) }
         ensures found { is_some result ≡ M.media.has_tx_named self.old.rtc.now.core.media mid rid }
     {
         let rtc = &mut *self.rtc;
+        wake_all(&mut rtc.readiness);
         lend_stream_tx_by_mid(&mut rtc.polled, mid, rid)
     }
 
@@ -173,14 +189,16 @@ impl<'a, I: IceAgent, D: DtlsInstance, S: Association, M: MediaSession, N: Ids> 
         new_rtx: Option<Ssrc>,
     ) -> Option<&mut M::Tx>
         ensures* leaves { sem 𝓛 (LendsSo
-            (the_row (record { mir = named 1; lft = [] }) I.row D.row S.row M.row N.row S.Association)
+            (the_row (record { mir = named 1; lft = [] }) I.row D.row S.row M.row N.row M.E.row M.Rx.row M.Tx.row M.Writer.row
+            (record { ice = I.ice }) (record { stun = I.stun }) D.DtlsInstance S.Association M.MediaSession M.E.MediaEvent N.Ids)
             M.Tx.row self.entry result
             (λ n x. IfSome result (λ lent. (n.rtc.ghost_name ≡ self.old.rtc.ghost_name)
-            × ResetsTx M.media mid rid new_ssrc new_rtx self.old.rtc.now lent.now x n.rtc.now))
-            (λ n. (n.rtc.ghost_name ≡ self.old.rtc.ghost_name) × (n.rtc.now ≡ self.old.rtc.now))) }
+            × ResetsTx M.media mid rid new_ssrc new_rtx (polled_of self.old.rtc.now) lent.now x (polled_of n.rtc.now)))
+            (λ n. (n.rtc.ghost_name ≡ self.old.rtc.ghost_name) × (polled_of n.rtc.now ≡ polled_of self.old.rtc.now))) }
         ensures found { is_some result ≡ M.media.resets_tx self.old.rtc.now.core.media mid rid new_ssrc new_rtx }
     {
         let rtc = &mut *self.rtc;
+        wake_all(&mut rtc.readiness);
         reset_stream_tx(&mut rtc.polled, mid, rid, new_ssrc, new_rtx)
     }
 }

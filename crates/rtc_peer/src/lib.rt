@@ -15,6 +15,7 @@ mod polls;
 mod previews;
 mod rtc;
 mod sdp_api;
+mod waking;
 
 pub use channel::Channel;
 pub use direct_api::DirectApi;

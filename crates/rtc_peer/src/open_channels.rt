@@ -5,7 +5,9 @@ ghost use Rattle.rtc_peer.specs.contracts.rtc.Rtc.{the_row};
 ghost use Rattle.rtc_peer_core.specs.Meanings.{meanings};
 ghost use Rattle.rtc_peer_transport.specs.ChannelCalls.{ClosesDataChannel, open_stream_under};
 ghost use Rattle.rtc_peer_transport.specs.ChannelCalls.{config_under, stream_under};
+ghost use Rattle.rtc_peer.specs.CachedPeer.{polled_of};
 
+use crate::waking::wake_all;
 use crate::{Channel, Rtc};
 use rtc_part_association::Association;
 use rtc_part_dtls::DtlsInstance;
@@ -19,12 +21,13 @@ impl<I: IceAgent, D: DtlsInstance, S: Association, M: MediaSession, N: Ids> Rtc<
     /// An open data channel. None if the peer is closing or closed, if the channel has no stream, and if that is not open.
     pub fn channel(&mut self, id: ChannelId) -> Option<Channel<'_, I, D, S, M, N>>
         ensures* none { sem 𝓛 (RestsIfNone
-            (the_row I.row D.row S.row M.row N.row S.Association)
+            (the_row I.row D.row S.row M.row N.row M.E.row M.Rx.row M.Tx.row M.Writer.row
+            (record { ice = I.ice }) (record { stun = I.stun }) D.DtlsInstance S.Association M.MediaSession M.E.MediaEvent N.Ids)
             self.entry (λ c. c.rtc.ghost_name) result (λ n. n ≡ self.old)) }
-        ensures open { IsSome result ↔ IsSome (open_stream_under id self.old) }
+        ensures open { IsSome result ↔ IsSome (open_stream_under id (polled_of self.old)) }
         ensures same_reference { IfSome result (λ c. c.rtc.ghost_name ≡ self.entry.ghost_name) }
         ensures peer { IfSome result (λ c. c.rtc.now ≡ self.old) }
-        ensures stream { IfSome result (λ c. open_stream_under id self.old ≡ Some c.stream) }
+        ensures stream { IfSome result (λ c. open_stream_under id (polled_of self.old) ≡ Some c.stream) }
     {
         match self.polled.open_stream_of(id) {
             Some(stream) => Some(Channel { rtc: self, stream }),
@@ -43,8 +46,10 @@ impl<I: IceAgent, D: DtlsInstance, S: Association, M: MediaSession, N: Ids> Rtc<
     /// Closes a data channel: its stream, if it has one, is reset (RFC 8831, section 6.7). Nothing happens if there is
     /// no such channel, or it has no stream yet. Its row is removed by the poll that returns `ChannelClose`.
     pub fn close_data_channel(&mut self, id: ChannelId) -> Result<(), AllocError>
-        ensures { ClosesDataChannel (meanings I.ice D.dtls S.association M.media N.ids) id self.old result self.new }
+        ensures { ClosesDataChannel (meanings I.ice D.dtls S.association M.media N.ids) id (polled_of self.old) result
+            (polled_of self.new) }
     {
+        wake_all(&mut self.readiness);
         self.polled.close_data_channel(id)
     }
 }

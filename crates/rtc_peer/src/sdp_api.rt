@@ -9,6 +9,7 @@ ghost use Rattle.rtc_peer.specs.Labelled.{labelled_config};
 ghost use Rattle.rtc_peer.specs.WantedLine.{wanted_line};
 
 use crate::Rtc;
+use crate::waking::wake_all;
 use rtc_change::{Lines, SdpPendingOffer};
 use rtc_lines::{Direction, IceCreds, MediaKind, Mid, SdpAnswer, SdpOffer, Simulcast};
 use rtc_part_association::Association;
@@ -26,7 +27,7 @@ use std::alloc::AllocError;
 ///
 /// Changes are staged on it, and offered together by `apply`. A handle that is dropped offers nothing; what it set or stopped is kept.
 #[derive(Drop)]
-pub struct SdpApi<'a, I, D, S: Association, M, N> {
+pub struct SdpApi<'a, I: IceAgent, D: DtlsInstance, S: Association, M: MediaSession, N: Ids> {
     pub(crate) rtc: &'a mut Rtc<I, D, S, M, N>,
 }
 
@@ -49,6 +50,7 @@ impl<'a, I: IceAgent, D: DtlsInstance, S: Association, M: MediaSession, N: Ids> 
         ensures connection { self.exit.0.now.transport ≡ self.entry.rtc.now.transport }
     {
         let rtc = &mut *self.rtc;
+        wake_all(&mut rtc.readiness);
         let answer = accept_offer(&mut rtc.polled.core, offer.0)?;
         Ok(SdpAnswer(answer))
     }
@@ -60,6 +62,7 @@ impl<'a, I: IceAgent, D: DtlsInstance, S: Association, M: MediaSession, N: Ids> 
         ensures connection { self.exit.0.now.transport ≡ self.entry.rtc.now.transport }
     {
         let rtc = &mut *self.rtc;
+        wake_all(&mut rtc.readiness);
         accept_answer(&mut rtc.polled.core, pending, answer.0)
     }
 
@@ -73,6 +76,7 @@ impl<'a, I: IceAgent, D: DtlsInstance, S: Association, M: MediaSession, N: Ids> 
         ensures connection { self.exit.0.now.transport ≡ self.entry.rtc.now.transport }
     {
         let rtc = &mut *self.rtc;
+        wake_all(&mut rtc.readiness);
         roll_back(&mut rtc.polled.core, pending)
     }
 
@@ -109,6 +113,7 @@ impl<'a, I: IceAgent, D: DtlsInstance, S: Association, M: MediaSession, N: Ids> 
         ensures connection { self.new.rtc.now.transport ≡ self.old.rtc.now.transport }
     {
         let rtc = &mut *self.rtc;
+        wake_all(&mut rtc.readiness);
         stage_media(
             &mut rtc.polled.core,
             kind,
@@ -127,6 +132,7 @@ impl<'a, I: IceAgent, D: DtlsInstance, S: Association, M: MediaSession, N: Ids> 
         ensures connection { self.new.rtc.now.transport ≡ self.old.rtc.now.transport }
     {
         let rtc = &mut *self.rtc;
+        wake_all(&mut rtc.readiness);
         let mut config = ChannelConfig::new(rtc.polled.core.alloc);
         config.label = Text::new(label);
         stage_channel(&mut rtc.polled.core, config)
@@ -144,6 +150,7 @@ impl<'a, I: IceAgent, D: DtlsInstance, S: Association, M: MediaSession, N: Ids> 
         ensures connection { self.new.rtc.now.transport ≡ self.old.rtc.now.transport }
     {
         let rtc = &mut *self.rtc;
+        wake_all(&mut rtc.readiness);
         stage_channel(&mut rtc.polled.core, config)
     }
 
@@ -157,6 +164,7 @@ impl<'a, I: IceAgent, D: DtlsInstance, S: Association, M: MediaSession, N: Ids> 
         ensures connection { self.new.rtc.now.transport ≡ self.old.rtc.now.transport }
     {
         let rtc = &mut *self.rtc;
+        wake_all(&mut rtc.readiness);
         set_direction(&mut rtc.polled.core, mid, dir)
     }
 
@@ -171,6 +179,7 @@ impl<'a, I: IceAgent, D: DtlsInstance, S: Association, M: MediaSession, N: Ids> 
         ensures connection { self.new.rtc.now.transport ≡ self.old.rtc.now.transport }
     {
         let rtc = &mut *self.rtc;
+        wake_all(&mut rtc.readiness);
         stop_media(&mut rtc.polled.core, mid)
     }
 
@@ -183,6 +192,7 @@ impl<'a, I: IceAgent, D: DtlsInstance, S: Association, M: MediaSession, N: Ids> 
         ensures connection { self.new.rtc.now.transport ≡ self.old.rtc.now.transport }
     {
         let rtc = &mut *self.rtc;
+        wake_all(&mut rtc.readiness);
         stage_restart(&mut rtc.polled.core, keep_local_candidates)
     }
 
@@ -196,6 +206,7 @@ impl<'a, I: IceAgent, D: DtlsInstance, S: Association, M: MediaSession, N: Ids> 
         ensures connection { self.exit.0.now.transport ≡ self.entry.rtc.now.transport }
     {
         let rtc = &mut *self.rtc;
+        wake_all(&mut rtc.readiness);
         match apply_staged(&mut rtc.polled.core)? {
             Some((offer, token)) => Ok(Some((SdpOffer(offer), token))),
             None => Ok(None),

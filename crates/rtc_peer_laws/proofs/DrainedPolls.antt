@@ -17,10 +17,10 @@ use Rattle.rtc_peer_transport.specs.Closing.{is_closing_complete}
 use Rattle.rtc_peer_transport.specs.Deadlines.{least_deadline, wake_moment}
 use Rattle.rtc_peer_polling.specs.Walk.{VisitsParts, Waits, WaitsIf, AnswersMet, Walks, PollsPeerFrom, PollsPeer, with_reason}
 use Rattle.rtc_peer_laws.specs.Drained.{AnswersAgain}
-use Rattle.rtc_peer_laws.proofs.RestingConnection.{Rests, repeats_rest}
-use Rattle.rtc_peer_laws.proofs.RestingStages.{Drained, drained_rests}
-use Rattle.rtc_peer_laws.proofs.KeptTurns.{phase_of_peer, turns_keep, visits_kept}
-use Rattle.rtc_peer_laws.proofs.Draining.{visit_drains}
+use Rattle.rtc_peer_resting.proofs.RestingConnection.{Rests, repeats_rest}
+use Rattle.rtc_peer_resting.proofs.RestingStages.{Drained, drained_rests}
+use Rattle.rtc_peer_resting.proofs.KeptTurns.{phase_of_peer, turns_keep, visits_kept}
+use Rattle.rtc_peer_resting.proofs.Draining.{visit_drains}
 
 module _ {I D S M E X T W N : Type 0} (m : Meanings I D S M E X T W N) where
   -- how a poll that answered a timeout ended: the peer is closed, or a visit met nothing and it waits

@@ -27,7 +27,7 @@ use Rattle.rtc_sctp_entries.proofs.StillVisits.{Idle, attends_still}
 use Rattle.rtc_sctp.specs.Rest.{AreUnclosed}
 use Rattle.rtc_sctp.proofs.CallsTended.{unclosed_left}
 use Rattle.rtc_sctp.proofs.RestingLemmas.{else_nothing, poll_rests}
-use Rattle.rtc_peer_laws.proofs.RestingStreams.{GaveNoEvent, transmit_nothing, event_nothing}
+use Rattle.rtc_peer_resting.proofs.RestingStreams.{GaveNoEvent, transmit_nothing, event_nothing}
 
 first_of_and : (x y : Bool) → (x && y) ≡ true → x ≡ true
 first_of_and true y h = refl

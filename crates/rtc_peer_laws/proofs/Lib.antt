@@ -1,10 +1,3 @@
-pub mod RestingStreams
-pub mod PushedAgain
-pub mod RestingConnection
-pub mod RestingStages
-pub mod KeptTurns
-pub mod DrainingStreams
-pub mod Draining
 pub mod DrainedPolls
 pub mod StreamCallActs
 pub mod ActWords

@@ -18,4 +18,4 @@ pub use laws::{
     channels_are_numbered, negotiation_is_kept, stance_is_kept, starts_are_kept,
     want_of_memory_closes,
 };
-pub use walking::poll_output;
+pub use walking::{rest, visit};

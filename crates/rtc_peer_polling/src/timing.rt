@@ -8,7 +8,7 @@ use rtc_sctp::RtcSctp;
 use rtc_wire::Moment;
 use std::alloc::AllocError;
 
-/// Gives the association and the streams over it a moment. A poll visits every part, so that no mark of the wake is kept.
+/// Gives the association and the streams over it a moment. A moment raises both signals of the peer, and no mark of the wake is kept.
 pub(crate) fn time_sctp<S: Association>(
     sctp: &mut RtcSctp<S>,
     now: Moment,

@@ -3,8 +3,7 @@ ghost use Rattle.std.specs.Prelude.{◌≡◌, ◌≤◌, if◌then◌else◌, l
 ghost use Rattle.rtc_peer_core.specs.Meanings.{meanings};
 ghost use Rattle.rtc_peer_transport.specs.Stages.{RepeatsStage};
 ghost use Rattle.rtc_peer_transport.specs.declared.met.Met.TheVariants.{Again, Nothing};
-ghost use Rattle.rtc_peer_polling.specs.Walk.{PollsPeer, RestsClosed, TellsArrivals, TellsConnection};
-ghost use Rattle.rtc_peer_polling.specs.Walk.{VisitsParts, Waits, Walks};
+ghost use Rattle.rtc_peer_polling.specs.Walk.{RestsClosed, TellsArrivals, TellsConnection, VisitsParts};
 
 use crate::polling_dtls::{has_come, poll_dtls_outputs, time_dtls};
 use crate::polling_ice::poll_ice_events;
@@ -17,7 +16,7 @@ use rtc_part_dtls::DtlsInstance;
 use rtc_part_ice::IceAgent;
 use rtc_part_media::MediaSession;
 use rtc_part_values::{Ids, Reason};
-use rtc_peer_core::{Phase, RtcError};
+use rtc_peer_core::RtcError;
 use rtc_peer_transport::{Event, Handshake, Met, Output, PolledPeer};
 use rtc_wire::{DATAGRAM_MAX_PACKET_SIZE, Moment};
 
@@ -138,54 +137,22 @@ fn walk<I: IceAgent, D: DtlsInstance, S: Association, M: MediaSession, N: Ids>(
     }
 }
 
-fn rest<I: IceAgent, D: DtlsInstance, S: Association, M: MediaSession, N: Ids>(
+/// Visits the parts up to the first thing that they give, over and over while a visit starts over.
+pub fn visit<I: IceAgent, D: DtlsInstance, S: Association, M: MediaSession, N: Ids>(
+    peer: &mut PolledPeer<I, D, S, M, N>,
+) -> Met<M::E>
+    ensures { RepeatsStage (VisitsParts (meanings I.ice D.dtls S.association M.media N.ids)) peer.old result peer.new }
+{
+    let mut buf = empty_buffer();
+    walk(peer, &mut buf)
+}
+
+/// A timeout that a closed peer returns: it waits for nothing.
+pub fn rest<I: IceAgent, D: DtlsInstance, S: Association, M: MediaSession, N: Ids>(
     peer: &mut PolledPeer<I, D, S, M, N>,
 ) -> Result<Output<M::E>, RtcError>
     ensures { RestsClosed peer.old result peer.new }
 {
     peer.transport.last_reason = Reason::NotHappening;
     Ok(Output::Timeout(Moment::FAR_FUTURE))
-}
-
-fn wait<I: IceAgent, D: DtlsInstance, S: Association, M: MediaSession, N: Ids>(
-    peer: &mut PolledPeer<I, D, S, M, N>,
-) -> Result<Output<M::E>, RtcError>
-    ensures { Waits (meanings I.ice D.dtls S.association M.media N.ids) peer.old result peer.new }
-{
-    if peer.is_closing_done() {
-        peer.core.phase = Phase::Closed;
-        return rest(peer);
-    }
-    let (moment, reason) = peer.least_deadline();
-    let wake = Moment::from_nanos(peer.core.greatest.nanos().max(moment.nanos()));
-    peer.transport.last_reason = reason;
-    Ok(Output::Timeout(wake))
-}
-
-fn walk_parts<I: IceAgent, D: DtlsInstance, S: Association, M: MediaSession, N: Ids>(
-    peer: &mut PolledPeer<I, D, S, M, N>,
-) -> Result<Output<M::E>, RtcError>
-    ensures { Walks (meanings I.ice D.dtls S.association M.media N.ids) peer.old result peer.new }
-{
-    let mut buf = empty_buffer();
-    match walk(peer, &mut buf) {
-        Met::Nothing => wait(peer),
-        Met::Again => unreachable!(),
-        Met::Transmit(transmit) => Ok(Output::Transmit(transmit)),
-        Met::Event(event) => Ok(Output::Event(event)),
-        Met::Error(error) => Err(error),
-    }
-}
-
-/// The next event or datagram, or, if there is none, the moment of a timeout. After every call on a peer, it is called
-/// until it returns a timeout.
-pub fn poll_output<I: IceAgent, D: DtlsInstance, S: Association, M: MediaSession, N: Ids>(
-    peer: &mut PolledPeer<I, D, S, M, N>,
-) -> Result<Output<M::E>, RtcError>
-    ensures { PollsPeer (meanings I.ice D.dtls S.association M.media N.ids) peer.old result peer.new }
-{
-    match peer.core.phase {
-        Phase::Alive | Phase::Closing => walk_parts(peer),
-        Phase::Closed => rest(peer),
-    }
 }

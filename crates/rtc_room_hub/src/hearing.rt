@@ -1,6 +1,7 @@
 //! What the hub hears of a member.
 ghost use Rattle.std.specs.Prelude.{◌≡◌, ◌++◌, IfOk, OnOk};
 ghost use Rattle.std.specs.Option.{option_copied};
+ghost use Rattle.rtc_peer.specs.CachedPeer.{polled_of};
 ghost use Rattle.rtc_room_hub.specs.Hearing.{can_be_line, event_heard, heard_in, heard_shown, is_line_config, is_reliable, line_behind};
 ghost use Rattle.rtc_room_hub.specs.Hearing.{line_by, line_opened, line_shown, message_heard};
 
@@ -34,14 +35,14 @@ fn is_line_config(config: Option<&ChannelConfig>) -> bool
 
 // Whether a channel can be a line.
 fn can_be_line(peer: &PlainPeer, id: ChannelId) -> bool
-    ensures { result ≡ can_be_line peer.now id }
+    ensures { result ≡ can_be_line (polled_of peer.now) id }
 {
     is_line_config(peer.channel_config(id))
 }
 
 // The line of a member behind the announcement of a channel.
 fn line_opened(peer: &PlainPeer, id: ChannelId, line: Option<ChannelId>) -> Option<ChannelId>
-    ensures { result ≡ line_opened (can_be_line peer.now id) id line }
+    ensures { result ≡ line_opened (can_be_line (polled_of peer.now) id) id line }
 {
     match line {
         Some(line) => Some(line),
@@ -60,7 +61,7 @@ fn line_by(
     peer: &PlainPeer,
     line: Option<ChannelId>,
 ) -> Option<ChannelId>
-    ensures { result ≡ line_by event.now peer.now line }
+    ensures { result ≡ line_by event.now (polled_of peer.now) line }
 {
     match event {
         Event::ChannelOpen(id, _) => line_opened(peer, *id, line),
@@ -73,7 +74,7 @@ fn line_shown(
     peer: &PlainPeer,
     line: Option<ChannelId>,
 ) -> Option<ChannelId>
-    ensures { result ≡ line_shown shown.now peer.now line }
+    ensures { result ≡ line_shown shown.now (polled_of peer.now) line }
 {
     match shown {
         Shown::Event(event) => line_by(event, peer, line),
@@ -148,7 +149,7 @@ fn hear_output(
     peer: &PlainPeer,
     sender: u32,
 ) -> Result<(), AllocError>
-    ensures line { OnOk result (told.new.line ≡ line_shown shown.now peer.now told.old.line) }
+    ensures line { OnOk result (told.new.line ≡ line_shown shown.now (polled_of peer.now) told.old.line) }
     ensures heard { OnOk result (told.new.heard.items ≡ told.old.heard.items ++ heard_shown shown.now sender told.old.line) }
 {
     hear(shown, sender, told.line, &mut told.heard)?;
@@ -165,8 +166,8 @@ pub fn hear_outputs(
     sender: u32,
     outputs: &[Shown<PlainMediaEvent>],
 ) -> Result<Told, AllocError>
-    ensures line { IfOk result (λ told. told.line ≡ line_behind peer.now line outputs.now) }
-    ensures heard { IfOk result (λ told. told.heard.items ≡ heard_in sender peer.now line outputs.now) }
+    ensures line { IfOk result (λ told. told.line ≡ line_behind (polled_of peer.now) line outputs.now) }
+    ensures heard { IfOk result (λ told. told.heard.items ≡ heard_in sender (polled_of peer.now) line outputs.now) }
 {
     let mut told = Told {
         line,

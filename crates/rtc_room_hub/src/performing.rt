@@ -5,6 +5,7 @@ ghost use Rattle.rtc_run_history.specs.PairState.{rtc_at};
 ghost use Rattle.rtc_run_history.specs.Past.{Entry};
 ghost use Rattle.rtc_run_history.specs.Sizes.{step_size};
 ghost use Rattle.rtc_run_plain.specs.ProgramPair.{PlainPairState};
+ghost use Rattle.rtc_peer.specs.CachedPeer.{polled_of};
 ghost use Rattle.rtc_room_hub.specs.Hearing.{members_after, members_behind, members_told};
 ghost use Rattle.rtc_room_hub.specs.Members.{MemberState, hearing_members};
 ghost use Rattle.rtc_room_hub.specs.RoomSizes.{HaveRoom};
@@ -98,7 +99,7 @@ fn hear_step(
     requires place { k < length members.old }
     requires few { length members.old ≤ 256 }
     ensures { OnOk result ((member : MemberState) → slice_get members.old k ≡ Some member
-        → members.new ≡ members_told k member peer.now outputs.now members.old) }
+        → members.new ≡ members_told k member (polled_of peer.now) outputs.now members.old) }
 {
     let line = members[k].line();
     let room = members[k].room();
@@ -119,7 +120,7 @@ fn hear_outcome(
     requires place { k < length members.old }
     requires few { length members.old ≤ 256 }
     ensures { OnOk result ((member : MemberState) → slice_get members.old k ≡ Some member
-        → members.new ≡ members_after outcome.now k member peer.now members.old) }
+        → members.new ≡ members_after outcome.now k member (polled_of peer.now) members.old) }
 {
     match outcome {
         Outcome::Polled { outputs, .. } => {

@@ -2,6 +2,7 @@
 ghost use Rattle.std.specs.Prelude.{◌≡◌, ◌+◌, ◌<◌, ◌≤◌, ◌^◌, ◌-◌, [], IsTrue, ◌↔◌, length, Some, None, All};
 ghost use Rattle.std.specs.Option.{option_copied};
 ghost use Rattle.rtc_peer_core.specs.Meanings.{meanings};
+ghost use Rattle.rtc_peer.specs.CachedPeer.{polled_of};
 
 use crate::performing::perform_step;
 use rtc_peer::{Association, DtlsInstance, IceAgent, Ids, MediaSession, Rtc};
@@ -12,7 +13,7 @@ use std::alloc::Global;
 use std::marker::Model;
 
 /// Two peers, an address of each, the session descriptions that they made, the tokens of their offers, and the datagrams that they sent.
-pub struct Pair<I, D, S: Association, M, N> {
+pub struct Pair<I: IceAgent, D: DtlsInstance, S: Association, M: MediaSession, N: Ids> {
     alloc: Global,
     left: Rtc<I, D, S, M, N>,
     right: Rtc<I, D, S, M, N>,
@@ -24,7 +25,13 @@ pub struct Pair<I, D, S: Association, M, N> {
 }
 
 // Written out, so that the proof of what owns a pair sees one call and not the drop of each part of both peers.
-impl<I: Drop, D: Drop, S: Association + Drop, M: Drop, N: Drop> Drop for Pair<I, D, S, M, N> {
+impl<
+    I: IceAgent + Drop,
+    D: DtlsInstance + Drop,
+    S: Association + Drop,
+    M: MediaSession + Drop,
+    N: Ids + Drop,
+> Drop for Pair<I, D, S, M, N> {
     fn drop(self) {
         let Pair {
             alloc: _alloc,
@@ -39,15 +46,16 @@ impl<I: Drop, D: Drop, S: Association + Drop, M: Drop, N: Drop> Drop for Pair<I,
     }
 }
 
-impl<I, D, S: Association, M, N> Model for Pair<I, D, S, M, N> {
+impl<I: IceAgent, D: DtlsInstance, S: Association, M: MediaSession, N: Ids> Model
+    for Pair<I, D, S, M, N> {
     ghost use Rattle.std.specs.Prelude.{◌≤◌, length};
     ghost use Rattle.rtc_run_history.specs.PairState.{PairState};
 
     ghost Value = { PairState I D S M N };
 
     ghost view = { λ pair. record {
-      left = pair.left;
-      right = pair.right;
+      left = polled_of pair.left;
+      right = polled_of pair.right;
       left_addr = pair.left_addr;
       right_addr = pair.right_addr;
       sdps = pair.sdps.items;
@@ -75,8 +83,8 @@ impl<I: IceAgent, D: DtlsInstance, S: Association, M: MediaSession, N: Ids> Pair
         right_addr: Addr,
     ) -> Pair<I, D, S, M, N>
         ensures { result ≡ record {
-          left = left;
-          right = right;
+          left = polled_of left;
+          right = polled_of right;
           left_addr = left_addr;
           right_addr = right_addr;
           sdps = [];
@@ -98,14 +106,14 @@ impl<I: IceAgent, D: DtlsInstance, S: Association, M: MediaSession, N: Ids> Pair
 
     /// Lends the left peer.
     pub fn left(&self) -> &Rtc<I, D, S, M, N>
-        ensures { result.now ≡ self.now.left }
+        ensures { polled_of result.now ≡ self.now.left }
     {
         &self.left
     }
 
     /// Lends the right peer.
     pub fn right(&self) -> &Rtc<I, D, S, M, N>
-        ensures { result.now ≡ self.now.right }
+        ensures { polled_of result.now ≡ self.now.right }
     {
         &self.right
     }

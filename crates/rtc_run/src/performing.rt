@@ -4,6 +4,7 @@ ghost use Rattle.rtc_run_history.specs.declared.kept.Kept.{Kept};
 ghost use Rattle.rtc_run_history.specs.Performs.{Acts};
 ghost use Rattle.rtc_run.specs.ConnectionSteps.{is_at_connection};
 ghost use Rattle.rtc_peer_core.specs.Meanings.{meanings};
+ghost use Rattle.rtc_peer.specs.CachedPeer.{polled_of};
 
 use rtc_peer::{Association, DtlsInstance, IceAgent, Ids, MediaSession, Rtc};
 use rtc_run_history::{Kept, Reply, SentPacket, Step};
@@ -26,7 +27,7 @@ fn perform_connected<I: IceAgent, D: DtlsInstance, S: Association, M: MediaSessi
 ) -> Reply<M::E>
     requires connection { is_at_connection step.now ≡ true }
     ensures { (sdps : List Kept) → Acts (meanings I.ice D.dtls S.association M.media N.ids) I.stun other own step.now
-        rtc.old sdps packets.old.items result.outcome result.table rtc.new sdps packets.new.items }
+        (polled_of rtc.old) sdps packets.old.items result.outcome result.table (polled_of rtc.new) sdps packets.new.items }
 {
     match step {
         Step::Time { now, .. } => take_moment(alloc, rtc, *now),
@@ -60,8 +61,8 @@ pub fn perform_step<I: IceAgent, D: DtlsInstance, S: Association, M: MediaSessio
     step: &Step,
 ) -> Reply<M::E>
     requires count { length sdps.old.items < 2 ^ 32 }
-    ensures { Acts (meanings I.ice D.dtls S.association M.media N.ids) I.stun other own step.now rtc.old sdps.old.items packets.old.items
-        result.outcome result.table rtc.new sdps.new.items packets.new.items }
+    ensures { Acts (meanings I.ice D.dtls S.association M.media N.ids) I.stun other own step.now (polled_of rtc.old) sdps.old.items packets.old.items
+        result.outcome result.table (polled_of rtc.new) sdps.new.items packets.new.items }
 {
     match step {
         Step::Negotiate { at, ops, apply } => {

@@ -25,7 +25,7 @@ use Rattle.rtc_peer_laws.specs.Drained.{AllHeard, AreHeard, IsHeard}
 use Rattle.rtc_peer_laws.specs.PeerActs.{PeerActs}
 use Rattle.rtc_peer_laws.proofs.ChannelsOver.{under_over}
 use Rattle.rtc_peer_laws.proofs.DrainedPolls.{Ends, AtRest, Waiting, poll_ends}
-use Rattle.rtc_peer_laws.proofs.Draining.{visit_drains}
+use Rattle.rtc_peer_resting.proofs.Draining.{visit_drains}
 use Rattle.rtc_peer_laws.proofs.HeardPolls.{timeout_heard}
 use Rattle.rtc_run_laws.specs.PlainPairs.{PlainPolled, plain_over}
 use Rattle.rtc_run_laws.proofs.StepsExchange.{plain_over_laws}

@@ -25,10 +25,10 @@ use Rattle.rtc_peer_laws.specs.ChannelStreams.{IsGone}
 use Rattle.rtc_peer_laws.specs.Drained.{AllHeard, AreHeard, IsHeard}
 use Rattle.rtc_peer_laws.specs.PeerActs.{PeerActs}
 use Rattle.rtc_peer_laws.proofs.DrainedPolls.{Ends, AtRest, Waiting, poll_ends}
-use Rattle.rtc_peer_laws.proofs.Draining.{visit_drains}
+use Rattle.rtc_peer_resting.proofs.Draining.{visit_drains}
 use Rattle.rtc_peer_laws.proofs.HeardPolls.{timeout_heard}
-use Rattle.rtc_peer_laws.proofs.RestingConnection.{DtlsRests}
-use Rattle.rtc_peer_laws.proofs.RestingStages.{Drained, WaitsOver}
+use Rattle.rtc_peer_resting.proofs.RestingConnection.{DtlsRests}
+use Rattle.rtc_peer_resting.proofs.RestingStages.{Drained, WaitsOver}
 use Rattle.rtc_run_laws.proofs.UnusedStreams.{IsUnused}
 use Rattle.rtc_run_laws.specs.PlainPairs.{PlainPolled, plain_over}
 use Rattle.rtc_run_laws.proofs.StepsExchange.{plain_over_laws}

@@ -4,6 +4,7 @@ ghost use Rattle.rtc_run_history.specs.CallReplies.{ClosesOpenChannel, StepCalls
 ghost use Rattle.rtc_peer_core.specs.Meanings.{meanings};
 ghost use Rattle.rtc_peer_transport.specs.ChannelCalls.{open_stream_under};
 ghost use Rattle.rtc_run_steps.specs.Written.{WritesIfOpen, written_outcome};
+ghost use Rattle.rtc_peer.specs.CachedPeer.{polled_of};
 
 use crate::hearing::outcome_of;
 use crate::{reply_no_memory, reply_no_such, reply_with, room_for};
@@ -33,7 +34,7 @@ fn write_if_open<I: IceAgent, D: DtlsInstance, S: Association, M: MediaSession, 
     bytes: &[u8],
 ) -> Option<Result<bool, RtcError>>
     ensures writes { WritesIfOpen (meanings I.ice D.dtls S.association M.media N.ids)
-        (open_stream_under id rtc.old) binary bytes.now rtc.old result rtc.new }
+        (open_stream_under id (polled_of rtc.old)) binary bytes.now (polled_of rtc.old) result (polled_of rtc.new) }
     ensures lines { rtc.new.core.lines ≡ rtc.old.core.lines }
     ensures channels { length rtc.new.core.channels.rows ≤ length rtc.old.core.channels.rows }
 {
@@ -52,7 +53,7 @@ pub fn write_message<I: IceAgent, D: DtlsInstance, S: Association, M: MediaSessi
     bytes: &[u8],
 ) -> Reply<M::E>
     ensures { StepWrites (meanings I.ice D.dtls S.association M.media N.ids)
-        (open_stream_under id rtc.old) binary bytes.now rtc.old result.outcome result.table rtc.new }
+        (open_stream_under id (polled_of rtc.old)) binary bytes.now (polled_of rtc.old) result.outcome result.table (polled_of rtc.new) }
 {
     let Ok(room) = room_for(alloc, rtc, 0, 0) else {
         return reply_no_memory();
@@ -66,8 +67,8 @@ fn is_open_channel<I: IceAgent, D: DtlsInstance, S: Association, M: MediaSession
     rtc: &mut Rtc<I, D, S, M, N>,
     id: ChannelId,
 ) -> bool
-    ensures open { result ≡ is_some (open_stream_under id rtc.old) }
-    ensures same { rtc.new ≡ rtc.old }
+    ensures open { result ≡ is_some (open_stream_under id (polled_of rtc.old)) }
+    ensures same { polled_of rtc.new ≡ polled_of rtc.old }
 {
     match rtc.channel(id) {
         Some(_channel) => true,
@@ -80,7 +81,7 @@ fn shut_channel<I: IceAgent, D: DtlsInstance, S: Association, M: MediaSession, N
     rtc: &mut Rtc<I, D, S, M, N>,
     id: ChannelId,
 ) -> Result<(), RtcError>
-    ensures closes { ClosesOpenChannel (meanings I.ice D.dtls S.association M.media N.ids) id rtc.old result rtc.new }
+    ensures closes { ClosesOpenChannel (meanings I.ice D.dtls S.association M.media N.ids) id (polled_of rtc.old) result (polled_of rtc.new) }
     ensures lines { rtc.new.core.lines ≡ rtc.old.core.lines }
     ensures channels { length rtc.new.core.channels.rows ≤ length rtc.old.core.channels.rows }
 {
@@ -98,7 +99,7 @@ fn close_open_channel<I: IceAgent, D: DtlsInstance, S: Association, M: MediaSess
 ) -> Reply<M::E>
     ensures { StepCalls (meanings I.ice D.dtls S.association M.media N.ids)
         (ClosesOpenChannel (meanings I.ice D.dtls S.association M.media N.ids) id)
-        rtc.old result.outcome result.table rtc.new }
+        (polled_of rtc.old) result.outcome result.table (polled_of rtc.new) }
 {
     let Ok(room) = room_for(alloc, rtc, 0, 0) else {
         return reply_no_memory();
@@ -114,7 +115,7 @@ pub fn close_channel<I: IceAgent, D: DtlsInstance, S: Association, M: MediaSessi
     id: ChannelId,
 ) -> Reply<M::E>
     ensures { StepClosesChannel (meanings I.ice D.dtls S.association M.media N.ids)
-        (open_stream_under id rtc.old) id rtc.old result.outcome result.table rtc.new }
+        (open_stream_under id (polled_of rtc.old)) id (polled_of rtc.old) result.outcome result.table (polled_of rtc.new) }
 {
     if is_open_channel(rtc, id) {
         close_open_channel(alloc, rtc, id)

@@ -10,6 +10,7 @@ ghost use Rattle.rtc_peer_core.specs.Meanings.{meanings};
 ghost use Rattle.rtc_peer_transport.specs.Closing.{ClosesPeer};
 ghost use Rattle.rtc_peer_polling.specs.Inputs.{HandlesInput};
 ghost use Rattle.rtc_peer_transport.specs.declared.input.Input.TheVariants as given;
+ghost use Rattle.rtc_peer.specs.CachedPeer.{polled_of};
 
 use crate::{is_same_side, reply_no_memory, reply_no_such, reply_with, room_for};
 use rtc_peer::{Association, DtlsInstance, IceAgent, Ids, Input, MediaSession, Rtc, RtcError};
@@ -35,7 +36,7 @@ pub fn take_moment<I: IceAgent, D: DtlsInstance, S: Association, M: MediaSession
 ) -> Reply<M::E>
     ensures { StepCalls (meanings I.ice D.dtls S.association M.media N.ids)
         (HandlesInput (meanings I.ice D.dtls S.association M.media N.ids) (given.Timeout now))
-        rtc.old result.outcome result.table rtc.new }
+        (polled_of rtc.old) result.outcome result.table (polled_of rtc.new) }
 {
     let Ok(room) = room_for(alloc, rtc, 0, 0) else {
         return reply_no_memory();
@@ -68,7 +69,7 @@ fn give_datagram<I: IceAgent, D: DtlsInstance, S: Association, M: MediaSession, 
     now: Moment,
 ) -> Result<(), RtcError>
     ensures handles { HandlesRead (meanings I.ice D.dtls S.association M.media N.ids)
-        (kind_by I.stun transmit.now.contents) transmit.now now rtc.old result rtc.new }
+        (kind_by I.stun transmit.now.contents) transmit.now now (polled_of rtc.old) result (polled_of rtc.new) }
     ensures lines { rtc.new.core.lines ≡ rtc.old.core.lines }
     ensures channels { length rtc.new.core.channels.rows ≤ length rtc.old.core.channels.rows }
 {
@@ -88,7 +89,7 @@ pub fn take_datagram<I: IceAgent, D: DtlsInstance, S: Association, M: MediaSessi
     now: Moment,
 ) -> Reply<M::E>
     ensures { StepTakesDatagram (meanings I.ice D.dtls S.association M.media N.ids)
-        I.stun (remote_packet packets.now at packet) now rtc.old result.outcome result.table rtc.new }
+        I.stun (remote_packet packets.now at packet) now (polled_of rtc.old) result.outcome result.table (polled_of rtc.new) }
 {
     let Some(transmit) = find_packet(packets, at, packet) else {
         return reply_no_such(alloc, rtc);
@@ -110,7 +111,7 @@ fn give_raw<I: IceAgent, D: DtlsInstance, S: Association, M: MediaSession, N: Id
     now: Moment,
 ) -> Result<(), RtcError>
     ensures handles { HandlesRead (meanings I.ice D.dtls S.association M.media N.ids)
-        (kind_by I.stun bytes.now) (raw_datagram other own bytes.now) now rtc.old result rtc.new }
+        (kind_by I.stun bytes.now) (raw_datagram other own bytes.now) now (polled_of rtc.old) result (polled_of rtc.new) }
     ensures lines { rtc.new.core.lines ≡ rtc.old.core.lines }
     ensures channels { length rtc.new.core.channels.rows ≤ length rtc.old.core.channels.rows }
 {
@@ -132,7 +133,7 @@ pub fn take_raw<I: IceAgent, D: DtlsInstance, S: Association, M: MediaSession, N
     ensures { StepCalls (meanings I.ice D.dtls S.association M.media N.ids)
         (HandlesRead (meanings I.ice D.dtls S.association M.media N.ids)
         (kind_by I.stun bytes.now) (raw_datagram other own bytes.now) now)
-        rtc.old result.outcome result.table rtc.new }
+        (polled_of rtc.old) result.outcome result.table (polled_of rtc.new) }
 {
     let Ok(room) = room_for(alloc, rtc, 0, 0) else {
         return reply_no_memory();
@@ -148,7 +149,7 @@ pub fn close<I: IceAgent, D: DtlsInstance, S: Association, M: MediaSession, N: I
 ) -> Reply<M::E>
     ensures { StepCalls (meanings I.ice D.dtls S.association M.media N.ids)
         (ClosesPeer (meanings I.ice D.dtls S.association M.media N.ids))
-        rtc.old result.outcome result.table rtc.new }
+        (polled_of rtc.old) result.outcome result.table (polled_of rtc.new) }
 {
     let Ok(room) = room_for(alloc, rtc, 0, 0) else {
         return reply_no_memory();

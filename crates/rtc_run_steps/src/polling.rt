@@ -6,6 +6,7 @@ ghost use Rattle.rtc_run_history.specs.declared.shown.Shown.TheVariants.{Packet}
 ghost use Rattle.rtc_peer_core.specs.Meanings.{meanings};
 ghost use Rattle.rtc_run_steps.specs.Turns.{TakesTurn, ShowsOutput, end_of, is_timeout, moment_of};
 ghost use Rattle.rtc_run_steps.specs.declared.turn.Turn.TheVariants.{More, Over};
+ghost use Rattle.rtc_peer.specs.CachedPeer.{polled_of};
 
 use crate::turn::Turn;
 use crate::{Room, make_channel_room, reply_no_memory, reply_with, room_for};
@@ -88,7 +89,7 @@ fn take_turn<I: IceAgent, D: DtlsInstance, S: Association, M: MediaSession, N: I
     requires packet { vec_len packets.old < vec_capacity packets.old }
     requires output { vec_len outputs.old < vec_capacity outputs.old }
     ensures takes { TakesTurn (meanings I.ice D.dtls S.association M.media N.ids)
-        at rtc.old packets.old.items outputs.old.items result rtc.new packets.new.items outputs.new.items }
+        at (polled_of rtc.old) packets.old.items outputs.old.items result (polled_of rtc.new) packets.new.items outputs.new.items }
     ensures lines { rtc.new.core.lines ≡ rtc.old.core.lines }
     ensures channels { length rtc.new.core.channels.rows ≤ length rtc.old.core.channels.rows + 1 }
 {
@@ -137,7 +138,7 @@ fn drain_outputs<I: IceAgent, D: DtlsInstance, S: Association, M: MediaSession, 
     requires channel { length rtc.old.core.channels.rows + 1 ≤ vec_capacity channels.old }
     requires empty { outputs.old.items ≡ [] }
     ensures drains { DrainsPeer (meanings I.ice D.dtls S.association M.media N.ids)
-        at rtc.old packets.old.items outputs.new.items result rtc.new packets.new.items }
+        at (polled_of rtc.old) packets.old.items outputs.new.items result (polled_of rtc.new) packets.new.items }
     ensures lines { rtc.new.core.lines ≡ rtc.old.core.lines }
     ensures channels { length rtc.new.core.channels.rows ≤ vec_capacity channels.new }
     ensures no_channels { channels.new.items ≡ channels.old.items }
@@ -203,8 +204,8 @@ pub fn poll<I: IceAgent, D: DtlsInstance, S: Association, M: MediaSession, N: Id
     at: Side,
 ) -> Reply<M::E>
     ensures { StepPollsPeer (meanings I.ice D.dtls S.association M.media N.ids)
-        (PollsOnce (meanings I.ice D.dtls S.association M.media N.ids) at rtc.old)
-        rtc.old packets.old.items result.outcome result.table rtc.new packets.new.items }
+        (PollsOnce (meanings I.ice D.dtls S.association M.media N.ids) at (polled_of rtc.old))
+        (polled_of rtc.old) packets.old.items result.outcome result.table (polled_of rtc.new) packets.new.items }
 {
     let Ok((outputs, room)) = make_first_room(alloc, rtc, packets) else {
         return reply_no_memory();
@@ -222,8 +223,8 @@ pub fn drain<I: IceAgent, D: DtlsInstance, S: Association, M: MediaSession, N: I
     at: Side,
 ) -> Reply<M::E>
     ensures { StepPollsPeer (meanings I.ice D.dtls S.association M.media N.ids)
-        (DrainsPeer (meanings I.ice D.dtls S.association M.media N.ids) at rtc.old)
-        rtc.old packets.old.items result.outcome result.table rtc.new packets.new.items }
+        (DrainsPeer (meanings I.ice D.dtls S.association M.media N.ids) at (polled_of rtc.old))
+        (polled_of rtc.old) packets.old.items result.outcome result.table (polled_of rtc.new) packets.new.items }
 {
     let Ok((outputs, room)) = make_first_room(alloc, rtc, packets) else {
         return reply_no_memory();

@@ -23,6 +23,7 @@ use Rattle.rtc_part_media.specs.declared.media_event.MediaEvent.{Ghosts as Event
 use Rattle.rtc_part_media.specs.declared.media_session.MediaSession.{Ghosts}
 use Rattle.rtc_part_values.specs.declared.ids.Ids.{Ghosts as IdsGhosts}
 use Rattle.rtc_peer_direct.specs.Streams.{ExpectsRx, gives_no_rx}
+use Rattle.rtc_peer.specs.CachedPeer.{polled_of}
 use Rattle.rtc_peer.specs.contracts.direct_api.DirectApi as D-type
 use Rattle.rtc_peer.specs.contracts.direct_api.DirectApi.make_stream_rx as F
 use Rattle.rtc_peer.specs.contracts.direct_api.DirectApi.expect_stream_rx as T
@@ -40,10 +41,10 @@ module _ (Y D C V N E X U W : RattleType) (gi : IceGhosts Y.Denot) (di : Dict) (
   end = T.ended Y D C V N E X U W gi di gr dr gd dd ga da gm dm ge de gn dn
 
   abbrev Handle : Lfts 11 → RattleType
-  Handle κs = D-type.the_row (named_lft 11 1 tt κs) (param 0 Y) (param 1 D) (param 2 C) (param 3 V) (param 4 N) ga
+  Handle κs = D-type.the_row (named_lft 11 1 tt κs) (param 0 Y) (param 1 D) (param 2 C) (param 3 V) (param 4 N) (param 5 E) (param 6 X) (param 7 U) (param 8 W) gi gr gd ga gm ge gn
 
   abbrev Row : RattleType
-  Row = D-type.the_row (record { mir = named 1; lft = [] }) (param 0 Y) (param 1 D) (param 2 C) (param 3 V) (param 4 N) ga
+  Row = D-type.the_row (record { mir = named 1; lft = [] }) (param 0 Y) (param 1 D) (param 2 C) (param 3 V) (param 4 N) (param 5 E) (param 6 X) (param 7 U) (param 8 W) gi gr gd ga gm ge gn
 
   abbrev Stream : RattleType
   Stream = param 6 X
@@ -67,17 +68,17 @@ module _ (Y D C V N E X U W : RattleType) (gi : IceGhosts Y.Denot) (di : Dict) (
   module _ (self : MutBor Row.Denot) (ssrc : Ssrc) (rtx : Option Ssrc) (mid : List ℕ) (rid : Option (List ℕ)) where
     -- what the handle holds if a stream was lent, and if none was
     abbrev Holds : MutBor X.Denot → Row.Denot → X.Denot → Type 0
-    Holds lent n x = (n.rtc.ghost_name ≡ self.now.rtc.ghost_name) × ExpectsRx gm.media ssrc rtx mid rid self.now.rtc.now lent.now x n.rtc.now
+    Holds lent n x = (n.rtc.ghost_name ≡ self.now.rtc.ghost_name) × ExpectsRx gm.media ssrc rtx mid rid (polled_of self.now.rtc.now) lent.now x (polled_of n.rtc.now)
 
     abbrev Kept : Row.Denot → Type 0
-    Kept n = (n.rtc.ghost_name ≡ self.now.rtc.ghost_name) × (n.rtc.now ≡ self.now.rtc.now)
+    Kept n = (n.rtc.ghost_name ≡ self.now.rtc.ghost_name) × (polled_of n.rtc.now ≡ polled_of self.now.rtc.now)
 
     -- what the first call says of its answer
     abbrev Owed : Result (MutBor X.Denot) NoStream → Fml
     Owed r = LendsSoOk Row Stream self r (λ n x. IfOk r (λ lent. Holds lent n x)) Kept
 
     abbrev Known : Result (MutBor X.Denot) NoStream → Type 0
-    Known r = StreamAnswers (gives_no_rx gm.media ssrc rtx mid rid self.now.rtc.now) r
+    Known r = StreamAnswers (gives_no_rx gm.media ssrc rtx mid rid (polled_of self.now.rtc.now)) r
 
 pub expect_stream_rx_spec : {M : Type 1} → stated.statement M
 expect_stream_rx_spec 𝓤 𝓛 𝓜 𝓡 wired Y D C V N E X U W LY LD LC LV LN LE LX LU LW gi di gr dr gd dd ga da gm dm ge de gn dn ice stun dtls association media event ids =
@@ -139,6 +140,6 @@ expect_stream_rx_spec 𝓤 𝓛 𝓜 𝓡 wired Y D C V N E X U W LY LD LC LV LN
     use1 𝓛 (‵ (LendsStream (Row Y D C V N E X U W gi di gr dr gd dd ga da gm dm ge de gn dn) (Stream Y D C V N E X U W gi di gr dr gd dd ga da gm dm ge de gn dn) self (none_where_declined r) (λ n x. IfLent (none_where_declined r) (λ lent. Holds Y D C V N E X U W gi di gr dr gd dd ga da gm dm ge de gn dn self ssrc rtx mid rid lent n x)) (Kept Y D C V N E X U W gi di gr dr gd dd ga da gm dm ge de gn dn self ssrc rtx mid rid)))
     (lent_without_reason 𝓛 (Row Y D C V N E X U W gi di gr dr gd dd ga da gm dm ge de gn dn) (Stream Y D C V N E X U W gi di gr dr gd dd ga da gm dm ge de gn dn) self r (Holds Y D C V N E X U W gi di gr dr gd dd ga da gm dm ge de gn dn self ssrc rtx mid rid) (Kept Y D C V N E X U W gi di gr dr gd dd ga da gm dm ge de gn dn self ssrc rtx mid rid)) $
     suffices ! _ (ends_at 𝓛 T' stays c y' v' (none_where_declined r) (tt, (tt, (tt, (tt, (tt, tt))))) (tt, (tt, (tt, (tt, (tt, tt)))))) $
-    use0 𝓛 (raw (fact 𝓤 (IfOk (none_where_declined r) (λ lent. IsNone lent ↔ IsTrue (gives_no_rx gm.media ssrc rtx mid rid self.now.rtc.now))))) (fact_i 𝓤 _ (emp 𝓤) (none_without_reason _ r told)) $
+    use0 𝓛 (raw (fact 𝓤 (IfOk (none_where_declined r) (λ lent. IsNone lent ↔ IsTrue (gives_no_rx gm.media ssrc rtx mid rid (polled_of self.now.rtc.now)))))) (fact_i 𝓤 _ (emp 𝓤) (none_without_reason _ r told)) $
     move ! (1 ∷ 0 ∷ []) $ join ! $ nothing ! $ nothing ! $ fjoin ! $ nothing ! $ fjoin ! $ nothing ! $ fjoin ! $ nothing ! $ fjoin ! $ nothing ! $ fjoin ! $ move ! (0 ∷ 2 ∷ []) $ join ! $
     move ! (2 ∷ []) $ split3 ! $ move ! (2 ∷ []) $ drop ! $ move ! (1 ∷ 4 ∷ []) $ join ! $ move ! (4 ∷ 0 ∷ []) $ join ! $ move ! (4 ∷ 0 ∷ []) $ join ! $ move ! (4 ∷ 0 ∷ []) $ join ! $ move ! (4 ∷ 0 ∷ []) $ join ! $ move ! (4 ∷ 0 ∷ []) $ join ! $ move ! (4 ∷ 0 ∷ []) $ join ! $ move ! (4 ∷ 0 ∷ []) $ join ! $ move ! (1 ∷ 0 ∷ []) $ join ! $ join ! $ join ! $ done !)))))))))))

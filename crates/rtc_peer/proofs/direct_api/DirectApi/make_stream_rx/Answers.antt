@@ -1,7 +1,8 @@
-use Rattle.std.proofs.Common.{◌≡◌, refl, subst}
+use Rattle.std.proofs.Common.{◌≡◌, refl, ap, subst}
 use Rattle.std.specs.Borrow.{MutBor}
 use Rattle.rtc_part_media.specs.NoStream.{StreamAnswers}
 use Rattle.rtc_peer_transport.specs.declared.polled_peer.PolledPeer.{PolledPeer}
+use Rattle.rtc_peer.specs.CachedPeer.{CachedPeer, polled_of}
 use Rattle.rtc_peer_direct.specs.Streams.{ExpectsRx, gives_no_rx}
 use Rattle.rtc_peer.proofs.HandleLoans.{made_beside, refused_beside}
 use Rattle.rtc_peer.proofs.direct_api.DirectApi.make_stream_rx.Goals as goal
@@ -12,11 +13,11 @@ returns g c = (
     refl,
     (λ w. made_beside c.make_stream_rx.result
         (λ (p : PolledPeer g.row.I.Denot g.row.D.Denot g.row.S.Denot g.row.M.Denot g.row.N.Denot) (lent : MutBor g.row.M-Rx.Denot). ExpectsRx g.M.MediaSession.media c.args.ssrc c.args.rtx c.args.mid c.args.rid p lent.now w (c.make_stream_rx.follows.lender w))
-        _ _ (c.args.self.now.rtc.ghost_name ≡ c.args.self.now.rtc.ghost_name) c.rtc.view_is refl (c.make_stream_rx.follows.holds w)),
-    refused_beside c.make_stream_rx.result (λ (p : PolledPeer g.row.I.Denot g.row.D.Denot g.row.S.Denot g.row.M.Denot g.row.N.Denot). c.make_stream_rx.follows.lender-at-none ≡ p) _ _ (c.args.self.now.rtc.ghost_name ≡ c.args.self.now.rtc.ghost_name) c.rtc.view_is refl c.make_stream_rx.follows.holds-at-none,
+        _ _ (c.args.self.now.rtc.ghost_name ≡ c.args.self.now.rtc.ghost_name) (ap (λ (x : CachedPeer g.row.I.Denot g.row.D.Denot g.row.S.Denot g.row.M.Denot g.row.N.Denot). polled_of x) c.rtc.view_is) refl (c.make_stream_rx.follows.holds w)),
+    refused_beside c.make_stream_rx.result (λ (p : PolledPeer g.row.I.Denot g.row.D.Denot g.row.S.Denot g.row.M.Denot g.row.N.Denot). c.make_stream_rx.follows.lender-at-none ≡ p) _ _ (c.args.self.now.rtc.ghost_name ≡ c.args.self.now.rtc.ghost_name) (ap (λ (x : CachedPeer g.row.I.Denot g.row.D.Denot g.row.S.Denot g.row.M.Denot g.row.N.Denot). polled_of x) c.rtc.view_is) refl c.make_stream_rx.follows.holds-at-none,
   ),
   record {
     leaves = tt;
-    answer = subst (λ (p : PolledPeer g.row.I.Denot g.row.D.Denot g.row.S.Denot g.row.M.Denot g.row.N.Denot). StreamAnswers (gives_no_rx g.M.MediaSession.media c.args.ssrc c.args.rtx c.args.mid c.args.rid p) c.make_stream_rx.result) c.rtc.view_is c.make_stream_rx.ensures.answer;
+    answer = subst (λ (p : PolledPeer g.row.I.Denot g.row.D.Denot g.row.S.Denot g.row.M.Denot g.row.N.Denot). StreamAnswers (gives_no_rx g.M.MediaSession.media c.args.ssrc c.args.rtx c.args.mid c.args.rid p) c.make_stream_rx.result) (ap (λ (x : CachedPeer g.row.I.Denot g.row.D.Denot g.row.S.Denot g.row.M.Denot g.row.N.Denot). polled_of x) c.rtc.view_is) c.make_stream_rx.ensures.answer;
   },
 )

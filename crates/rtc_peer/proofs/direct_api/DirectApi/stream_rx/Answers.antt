@@ -1,6 +1,7 @@
 use Rattle.std.proofs.Common.{◌≡◌, ◌∙◌, refl, ap}
 use Rattle.std.specs.Borrow.{MutBor}
 use Rattle.rtc_peer_transport.specs.declared.polled_peer.PolledPeer.{PolledPeer}
+use Rattle.rtc_peer.specs.CachedPeer.{CachedPeer, polled_of}
 use Rattle.rtc_peer_direct.specs.Streams.{LendsRx}
 use Rattle.rtc_peer.proofs.HandleLoans.{lent_beside}
 use Rattle.rtc_peer.proofs.direct_api.DirectApi.stream_rx.Goals as goal
@@ -11,11 +12,11 @@ returns g c = (
     refl,
     (λ w. lent_beside c.lend_stream_rx.result
         (λ (p : PolledPeer g.row.I.Denot g.row.D.Denot g.row.S.Denot g.row.M.Denot g.row.N.Denot) (lent : MutBor g.row.M-Rx.Denot). LendsRx g.M.MediaSession.media c.args.ssrc p lent.now w (c.lend_stream_rx.follows.lender w))
-        _ _ (c.args.self.now.rtc.ghost_name ≡ c.args.self.now.rtc.ghost_name) c.rtc.view_is refl (c.lend_stream_rx.follows.holds w)),
-    (refl, c.lend_stream_rx.follows.holds-at-none ∙ c.rtc.view_is),
+        _ _ (c.args.self.now.rtc.ghost_name ≡ c.args.self.now.rtc.ghost_name) (ap (λ (x : CachedPeer g.row.I.Denot g.row.D.Denot g.row.S.Denot g.row.M.Denot g.row.N.Denot). polled_of x) c.rtc.view_is) refl (c.lend_stream_rx.follows.holds w)),
+    (refl, c.lend_stream_rx.follows.holds-at-none ∙ (ap (λ (x : CachedPeer g.row.I.Denot g.row.D.Denot g.row.S.Denot g.row.M.Denot g.row.N.Denot). polled_of x) c.rtc.view_is)),
   ),
   record {
     leaves = tt;
-    found = c.lend_stream_rx.ensures.found ∙ ap (λ (p : PolledPeer g.row.I.Denot g.row.D.Denot g.row.S.Denot g.row.M.Denot g.row.N.Denot). g.M.MediaSession.media.has_rx p.core.media c.args.ssrc) c.rtc.view_is;
+    found = c.lend_stream_rx.ensures.found ∙ ap (λ (p : PolledPeer g.row.I.Denot g.row.D.Denot g.row.S.Denot g.row.M.Denot g.row.N.Denot). g.M.MediaSession.media.has_rx p.core.media c.args.ssrc) (ap (λ (x : CachedPeer g.row.I.Denot g.row.D.Denot g.row.S.Denot g.row.M.Denot g.row.N.Denot). polled_of x) c.rtc.view_is);
   },
 )

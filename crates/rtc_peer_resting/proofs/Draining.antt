@@ -31,10 +31,10 @@ use Rattle.rtc_peer_transport.proofs.StatisticsTurns.{HasNoReport, no_report_lef
 use Rattle.rtc_peer_polling.specs.StreamStages.{TellsStreams}
 use Rattle.rtc_peer_polling.specs.Walk.{StartsOverWhenDue, TellsConnection, TellsArrivals, SendsDatagrams, VisitsParts}
 use Rattle.rtc_peer_transport.proofs.StageLemmas.{went_through}
-use Rattle.rtc_peer_laws.proofs.RestingConnection.{DtlsRests}
-use Rattle.rtc_peer_laws.proofs.RestingStages.{AreSent, WaitsOver, Drained}
-use Rattle.rtc_peer_laws.proofs.KeptTurns.{outputs_kept, streams_kept, arrivals_kept}
-use Rattle.rtc_peer_laws.proofs.DrainingStreams.{Stays, streams_drain}
+use Rattle.rtc_peer_resting.proofs.RestingConnection.{DtlsRests}
+use Rattle.rtc_peer_resting.proofs.RestingStages.{AreSent, WaitsOver, Drained}
+use Rattle.rtc_peer_resting.proofs.KeptTurns.{outputs_kept, streams_kept, arrivals_kept}
+use Rattle.rtc_peer_resting.proofs.DrainingStreams.{Stays, streams_drain}
 
 -- the agent alone
 abbrev only_ice : {I : Type 0} → Phase → I → I

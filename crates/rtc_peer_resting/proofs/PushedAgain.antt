@@ -16,7 +16,7 @@ use Rattle.rtc_sctp_laws.proofs.PollActs.{tour_did}
 use Rattle.rtc_sctp.specs.Rest.{AreUnclosed}
 use Rattle.rtc_sctp.proofs.CallsTended.{unclosed_left}
 use Rattle.rtc_sctp.proofs.TendedLemmas.{unclosed_same}
-use Rattle.rtc_peer_laws.proofs.RestingStreams.{not_sent, over_rests}
+use Rattle.rtc_peer_resting.proofs.RestingStreams.{not_sent, over_rests}
 
 module _ {S : Type 0} (m : AssociationMeaning S) where
   transmit_if_keeps : (b : Bool) (p : SctpStreams S) (met : Met) (q : SctpStreams S) → TransmitIf m b p met q → q.entries ≡ p.entries
@@ -119,14 +119,14 @@ module _ {S : Type 0} (m : AssociationMeaning S) (w : AssociationLaws m) where
   else_not packets first rest one other p q h =
       then_not packets rest other h.0 (λ is. one p h.1.0 (subst (λ (x : Met). first p x h.1.0) is h.1.1.0)) h.1.0 q h.1.1.1
 
-  later_not : (packet : List ℕ) (rest : List (List ℕ)) → NeverGives (packet ∷ rest) (Else (HandlesEvent m) (Else (VisitsEntries m) GivesCompletion))
+  pub later_not : (packet : List ℕ) (rest : List (List ℕ)) → NeverGives (packet ∷ rest) (Else (HandlesEvent m) (Else (VisitsEntries m) GivesCompletion))
   later_not packet rest =
       else_not (packet ∷ rest) (HandlesEvent m) (Else (VisitsEntries m) GivesCompletion) (handled_not (packet ∷ rest))
       (else_not (packet ∷ rest) (VisitsEntries m) GivesCompletion
       (λ p q h. visited_not (is_established p.state && m.started p.association) packet rest p q h)
       (λ p q h. completed_not p.completed (packet ∷ rest) p q h))
 
-  steps_left : (packet : List ℕ) (rest : List (List ℕ)) (p q : SctpStreams S) → TakesSteps m p (Output (event.Transmit (packet ∷ rest))) q
+  pub steps_left : (packet : List ℕ) (rest : List (List ℕ)) (p q : SctpStreams S) → TakesSteps m p (Output (event.Transmit (packet ∷ rest))) q
       → AreUnclosed q.entries
   unfolding TakesSteps
   steps_left packet rest p q h =

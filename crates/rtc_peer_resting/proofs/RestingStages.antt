@@ -10,6 +10,7 @@ use Rattle.rtc_part_media.specs.MediaMeaning.{held_media}
 use Rattle.rtc_sctp_entries.specs.declared.sctp_event.SctpEvent.{SctpEvent}
 use Rattle.rtc_sctp_entries.specs.declared.sctp_event.SctpEvent.TheVariants as event
 use Rattle.rtc_sctp.specs.Streams.{SctpStreams}
+use Rattle.rtc_sctp.specs.Polls.{PollsStreams}
 use Rattle.rtc_peer_core.specs.declared.rtc_error.RtcError.TheVariants.{Dtls, Media, Alloc}
 use Rattle.rtc_peer_core.specs.Meanings.{Meanings, PartsLaws}
 use Rattle.rtc_peer_transport.specs.declared.event.Event.TheVariants as told
@@ -28,9 +29,9 @@ use Rattle.rtc_peer_transport.specs.Statistics.{TellsStatistics}
 use Rattle.rtc_peer_transport.proofs.StatisticsTurns.{HasNoReport, statistics_rest}
 use Rattle.rtc_peer_polling.specs.StreamStages.{TakesStreamAnswer, PollsStreamEvent, PollsStreamEvents, SendsPacket, SendsFirst, SendsKeptPackets, TellsStreams}
 use Rattle.rtc_peer_polling.specs.Walk.{StartsOverWhenDue, TellsConnection, TellsArrivals, SendsDatagrams, VisitsParts}
-use Rattle.rtc_peer_laws.proofs.RestingStreams.{StreamsRest}
-use Rattle.rtc_peer_laws.proofs.PushedAgain.{StreamsGive}
-use Rattle.rtc_peer_laws.proofs.RestingConnection.{Rests, StageRests, else_rests, repeats_rest, DtlsRests, ice_rests, times_rest, outputs_rest, connected_rests}
+use Rattle.rtc_peer_resting.proofs.RestingStreams.{StreamsRest}
+use Rattle.rtc_peer_resting.proofs.PushedAgain.{StreamsGive}
+use Rattle.rtc_peer_resting.proofs.RestingConnection.{Rests, StageRests, else_rests, repeats_rest, DtlsRests, ice_rests, times_rest, outputs_rest, connected_rests}
 
 module _ {I D S M E X T W N : Type 0} (m : Meanings I D S M E X T W N) where
   module _ (laws : PartsLaws m) where
@@ -177,9 +178,10 @@ module _ {I D S M E X T W N : Type 0} (m : Meanings I D S M E X T W N) where
     -- the streams have nothing to give, or their packets cannot go yet
     abbrev pub WaitsOver : SctpStreams S → DtlsState D → Type 0
     WaitsOver s d =
-        (StreamsRest m.association laws.association s × (s.pushed ≡ None))
+        (StreamsRest m.association laws.association s × (s.pushed ≡ None) × PollsStreams m.association s (Ok None) s)
         ⊎ ((packet : List ℕ) × (rest : List (List ℕ)) × StreamsGive m.association (packet ∷ rest) s × (s.pushed ≡ Some (packet ∷ rest))
-        × (can_send m.dtls d ≡ false))
+        × (can_send m.dtls d ≡ false)
+        × PollsStreams m.association s (Ok (Some (event.Transmit (packet ∷ rest)))) (record s { pushed = None }))
 
     waiting_rests : (p : PolledPeer I D S M N) → WaitsOver p.core.sctp p.core.dtls → StageRests (TellsStreams m) p
     waiting_rests p (inl h) = streams_rest p h.0 h.1

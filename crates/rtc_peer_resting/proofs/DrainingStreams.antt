@@ -7,6 +7,7 @@ use Rattle.rtc_sctp_entries.specs.declared.sctp_event.SctpEvent.{SctpEvent}
 use Rattle.rtc_sctp_entries.specs.declared.sctp_event.SctpEvent.TheVariants as event
 use Rattle.rtc_sctp.specs.Streams.{SctpStreams}
 use Rattle.rtc_sctp.specs.Polls.{PollsStreams}
+use Rattle.rtc_sctp.proofs.RestingLemmas.{poll_rests}
 use Rattle.rtc_peer_core.specs.Meanings.{Meanings, PartsLaws}
 use Rattle.rtc_peer_transport.specs.declared.met.Met.TheVariants.{Nothing}
 use Rattle.rtc_peer_transport.specs.declared.polled_peer.PolledPeer.{PolledPeer}
@@ -15,9 +16,10 @@ use Rattle.rtc_peer_polling.specs.StreamStages.{OpensChannelOver, ClosesChannelO
 use Rattle.rtc_peer_polling.specs.StreamStages.{PollsStreamEvents, SendsPacket, SendsFirst, SendsKeptPackets, TellsStreams, channel_over}
 use Rattle.rtc_peer_transport.proofs.StageLemmas.{went_through}
 use Rattle.rtc_peer_polling.proofs.StreamTurns.{streams_polled, kept_stay}
-use Rattle.rtc_peer_laws.proofs.RestingStreams.{StreamsRest, polled_rest}
-use Rattle.rtc_peer_laws.proofs.PushedAgain.{StreamsGive, polled_gives}
-use Rattle.rtc_peer_laws.proofs.RestingStages.{WaitsOver}
+use Rattle.rtc_peer_resting.proofs.RestingStreams.{StreamsRest, polled_rest}
+use Rattle.rtc_peer_resting.proofs.PushedAgain.{StreamsGive, polled_gives}
+use Rattle.rtc_peer_resting.proofs.QuietStreams.{quiet_polls, polled_again}
+use Rattle.rtc_peer_resting.proofs.RestingStages.{WaitsOver}
 
 module _ {I D S M E X T W N : Type 0} (m : Meanings I D S M E X T W N) (laws : PartsLaws m) where
   -- packets are kept, and nothing else is met by nothing
@@ -58,8 +60,9 @@ module _ {I D S M E X T W N : Type 0} (m : Meanings I D S M E X T W N) (laws : P
       → SendsKeptPackets m n Nothing q → q.core.sctp ≡ n.core.sctp → q.core.dtls ≡ n.core.dtls → WaitsOver m laws q.core.sctp q.core.dtls
   polled_wait (Ok None) streams p n q polled taken sends same dtls =
       let is : q.core.sctp ≡ streams = same ∙ ap (λ (x : PolledPeer I D S M N). x.core.sctp) taken.1 in
-      inl (subst (λ (s : SctpStreams S). StreamsRest m.association laws.association s × (s.pushed ≡ None)) (sym is)
-      (polled_rest m.association laws.association p.core.sctp streams polled))
+      let rest = polled_rest m.association laws.association p.core.sctp streams polled in
+      inl (subst (λ (s : SctpStreams S). StreamsRest m.association laws.association s × (s.pushed ≡ None) × PollsStreams m.association s (Ok None) s) (sym is)
+      (rest.0, rest.1, quiet_polls m.association streams (poll_rests m.association p.core.sctp streams polled)))
   polled_wait (Ok (Some e)) streams p n q polled taken sends same dtls =
       let kept = kept_packets e (with_sctp streams p) n taken in
       let back : n.core.sctp ≡ record streams { pushed = Some kept.0 } = ap (λ (x : PolledPeer I D S M N). x.core.sctp) kept.1.1 in
@@ -86,6 +89,8 @@ module _ {I D S M E X T W N : Type 0} (m : Meanings I D S M E X T W N) (laws : P
             subst (λ (s : SctpStreams S). StreamsGive m.association (sent.0 ∷ sent.1) s) (sym is) gives,
             ap (λ (s : SctpStreams S). s.pushed) is,
             ap (λ (d : DtlsState D). can_send m.dtls d) dtls ∙ sent.3,
+            subst (λ (s : SctpStreams S). PollsStreams m.association s (Ok (Some (event.Transmit (sent.0 ∷ sent.1)))) (record s { pushed = None })) (sym is)
+                (polled_again m.association laws.association sent.0 sent.1 p.core.sctp streams poll),
           )
   polled_wait (Err error) streams p n q polled taken sends same dtls = cc (taken.0)
 
