@@ -77,6 +77,15 @@ fn hold_on(alloc: Global, channels: &mut ChannelHandler) -> bool {
     given & (channels.held_count(4) == 1)
 }
 
+// A stream that the other side opened is given to a channel, even one that is held here, and is then held on.
+fn take_held(channels: &mut ChannelHandler) -> bool {
+    let held = hold(channels, 4);
+    let none = channels.channel_id_by_stream_id(4).is_none();
+    let taken = is_ok(channels.ensure_channel_id_for(4));
+    let given = channels.channel_id_by_stream_id(4).is_some();
+    every(&[held, none, taken, given, channels.held_count(4) == 1])
+}
+
 // The number of a channel that went is not given again.
 fn count_up(alloc: Global, channels: &mut ChannelHandler) -> bool {
     let first = makes(alloc, channels, None, 0) & makes(alloc, channels, None, 1);
@@ -146,6 +155,7 @@ fn agrees<S: Association + Drop>(alloc: Global, sctp: RtcSctp<S>, example: &str)
     match example {
         "hold a stream twice" => hold_twice(&mut channels),
         "hold a stream however often streams are given" => hold_on(alloc, &mut channels),
+        "take a held stream that the other side opened" => take_held(&mut channels),
         "have numbers that count up" => count_up(alloc, &mut channels),
         "wait for a settled stream" => wait(alloc, &mut channels, &mut sctp),
         "get no stream where all are held" => get_none(alloc, &mut channels, &mut sctp),

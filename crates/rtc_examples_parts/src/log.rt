@@ -28,6 +28,18 @@ impl Log {
         self.need(added.is_ok());
     }
 
+    /// Notes a line of one word.
+    pub fn add_word(&mut self, word: &str) {
+        let added = writeln!(self.text, "{word}");
+        self.need(added.is_ok());
+    }
+
+    /// Notes a line of an event of a stream.
+    pub fn add_event(&mut self, word: &str, id: u16, sign: &str, text: &str) {
+        let added = writeln!(self.text, "{word} {id}{sign}{text}");
+        self.need(added.is_ok());
+    }
+
     /// Whether this text was noted, and nothing failed.
     pub fn is(&self, text: &str) -> bool {
         !self.failed & (self.text.as_str() == text)

@@ -9,6 +9,7 @@ mod calls;
 mod channels;
 mod chunks;
 mod closes;
+mod dcep;
 mod dtls;
 mod ends_work;
 mod free_ids;
@@ -50,6 +51,7 @@ impl Examples for Parts {
             "channels" => channels::does_agree(alloc, name),
             "chunks" => chunks::does_agree(alloc, name),
             "closes" => closes::does_agree(alloc, name),
+            "dcep" => dcep::does_agree(alloc, name),
             "dtls" => dtls::does_agree(alloc, name),
             "ids" => free_ids::does_agree(name),
             "losses" => losses::does_agree(alloc, name),
