@@ -43,14 +43,15 @@ class Page:
 
 class Chromium(Page):
     name = "Chromium"
+    SNAP = "--force-fieldtrials=WebRTC-Sctp-Snap/Enabled/"
 
-    def __init__(self):
+    def __init__(self, *flags):
         self.folder = tempfile.mkdtemp(prefix="interop-chromium-")
         theirs, self.out = os.pipe()
         self.into, ours = os.pipe()
         words = ["chromium", "--headless=new", "--no-sandbox", "--disable-gpu", "--no-first-run", "--remote-debugging-pipe",
                  "--user-data-dir=" + self.folder, "--disable-background-networking", "--disable-component-update", "--disable-sync",
-                 "--allow-loopback-in-peer-connection", "--autoplay-policy=no-user-gesture-required", "about:blank"]
+                 "--allow-loopback-in-peer-connection", "--autoplay-policy=no-user-gesture-required", *flags, "about:blank"]
         # The browser reads commands from the descriptor 3, and writes to 4.
         shell = ["sh", "-c", f'exec "$@" 3<&{theirs} 4>&{ours}', "sh", *words]
         self.process = subprocess.Popen(shell, pass_fds=(theirs, ours), stdout=subprocess.DEVNULL, stderr=subprocess.DEVNULL)

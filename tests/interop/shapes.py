@@ -24,7 +24,10 @@ SHAPES = {
     "simulcast": [[("layers",)], [AUDIO]],
     "50 lines": [[("video", "recvonly")] * 50],
     "no codec in common": [[("codec", "audio", "pcmu"), VIDEO]],
+    "SNAP": [[CHANNEL], [AUDIO]],
 }
+# The settings of the engine that are not the usual ones.
+SETTINGS = {"SNAP": "session-ids snap"}
 
 # The sides take turns, with these settings of the engine: the second side adds lines to those of the first.
 OTHER = {"theirs": "ours", "ours": "theirs"}
@@ -51,15 +54,23 @@ def named(changes, mids):
     return [tuple(mids[int(word[1:])] if word.startswith("#") else word for word in change) for change in changes]
 
 
-# Media lines of a text: kind, port, formats, mid, header extensions.
+# Media lines of a text: kind, port, formats, mid, direction, header extensions.
 def media_lines(text):
     found = []
     for part in re.split(r"\r?\nm=", text)[1:]:
         words = part.splitlines()[0].split()
         mid = re.search(r"^a=mid:(\S+)", part, re.M)
+        direction = re.search(r"^a=(sendrecv|sendonly|recvonly|inactive)\r?$", part, re.M)
         extensions = dict(re.findall(r"^a=extmap:(\d+)(?:/\S+)? (\S+)", part, re.M))
-        found.append({"kind": words[0], "port": words[1], "formats": words[3:], "mid": mid and mid.group(1), "extensions": extensions})
+        found.append({"kind": words[0], "port": words[1], "formats": words[3:], "mid": mid and mid.group(1),
+                      "direction": direction.group(1) if direction else "sendrecv", "extensions": extensions})
     return found
+
+
+# The directions of a stack by the answer, where it has no call for them: `side` is who offered.
+def directions_of(answer, side):
+    lines = [(line["mid"], line["direction"]) for line in media_lines(answer) if line["port"] != "0"]
+    return [[mid, direction if side == "ours" else INVERSE[direction]] for mid, direction in lines]
 
 
 # Whether a number denotes two extensions in a text.
@@ -92,17 +103,18 @@ def compare(offer, answer, ours, theirs, engine_text):
     return None
 
 
-# A random session: rounds of changes, each with the side that offers. The lines are added by one side.
-def random_session(seed, can):
+# A random session: rounds of changes, each with the side of these that offers. The lines are added by one side.
+def random_session(seed, can, sides=("ours", "theirs")):
     chance = random.Random(seed)
-    adder, rounds, lines, channel = chance.choice(("ours", "theirs")), [], 0, False
+    allowed = [direction for direction in DIRECTIONS if direction in can or direction.startswith("send")]
+    adder, rounds, lines, channel = chance.choice(sides), [], 0, False
     for place in range(chance.randint(3, 8)):
-        side = adder if place == 0 else chance.choice(("ours", "theirs"))
+        side = adder if place == 0 else chance.choice(sides)
         changes, known = [], lines
         for _ in range(chance.randint(1, 2)):
             what = chance.random()
             if side == adder and (what < 0.5 or lines == 0):
-                changes.append((chance.choice(("audio", "video")), chance.choice(DIRECTIONS)))
+                changes.append((chance.choice(("audio", "video")), chance.choice(allowed if side == "theirs" else DIRECTIONS)))
                 lines += 1
             elif what < 0.6 and not channel:
                 changes.append(CHANNEL)
