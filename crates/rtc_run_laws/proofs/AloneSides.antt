@@ -1,5 +1,5 @@
--- In a settled pair a stream in its first generation whose opening is refused for now was opened by the other side, which waits for its
--- answer: the stream is not there otherwise.
+-- In a settled pair a stream whose opening is refused for now was opened by the other side, which waits for its answer: the stream is not
+-- there otherwise.
 use Rattle.std.proofs.Common.{◌≡◌, ◌∙◌, ◌⊎◌, ◌++◌, ◌∷◌, ◌==◌, ◌&&◌, ◌||◌, if◌then◌else◌, ℕ, Bool, true, false, true≢false, List, [], map, Option, inl, inr, refl, sym, ap, subst, arith}
 use Rattle.std.proofs.lemmas.Bool.{eqb-true}
 use Rattle.rtc_part_association.specs.AssociationWords.{AssociationMessage, ended, read, written}
@@ -125,15 +125,15 @@ module _ {N : Type 0} (draws : Draws N) where
       → has_unacknowledged s q.core.sctp.association.outbox.items ≡ false
       → read s g a.association ++ unread s g p.core.sctp.association.inbox.unread ≡ written s g b.association)
       (parts : (s g : ℕ) → HasPart s g p.core.sctp.association.inbox.parts → written s g b.association ≡ [] → ⊥)
-      (s : ℕ) (kept : AreKeptStreams s p q) (alone : IsRefusedAlone s p q) (first : generation_of p.core.sctp.association s ≡ 0) where
+      (s : ℕ) (kept : AreKeptStreams s p q) (alone : IsRefusedAlone s p q) where
+    abbrev g : ℕ
+    g = generation_of p.core.sctp.association s
+
     free_here : is_spent_stream plain_meaning s p.core.sctp.association ≡ false
     free_here = free_of draws p s here kept.unclosed_here
 
     free_there : is_spent_stream plain_meaning s q.core.sctp.association ≡ false
     free_there = free_of draws q s there kept.unclosed_there
-
-    first_there : generation_of q.core.sctp.association s ≡ 0
-    first_there = kept.generation_is ∙ first
 
     -- the entry of the stream waits to be opened, so that none is past its opening
     none_past : UsedUnlessClosed (plain_over draws) x.written x.read p → HasPast s p.core.sctp.entries → ⊥
@@ -151,22 +151,23 @@ module _ {N : Type 0} (draws : Draws N) where
         ∙ ap is_past_opening e.is_so)
 
     -- so the other side wrote to the stream
-    message_written : HasMessage s 0 p.core.sctp.association.inbox.unread → written s 0 b.association ≡ [] → ⊥
+    message_written : HasMessage s g p.core.sctp.association.inbox.unread → written s g b.association ≡ [] → ⊥
     message_written stands none =
-        unread_some s 0 p.core.sctp.association.inbox.unread stands
-        (second_none (read s 0 a.association) (unread s 0 p.core.sctp.association.inbox.unread)
-        (all s 0 (not_ended plain_meaning plain_laws plain_generations s 0 b.association fresh_contents q.core.sctp.association y.went first_there free_there)
-        (not_ended plain_meaning plain_laws plain_generations s 0 a.association fresh_contents p.core.sctp.association x.went first free_here)
+        unread_some s g p.core.sctp.association.inbox.unread stands
+        (second_none (read s g a.association) (unread s g p.core.sctp.association.inbox.unread)
+        (all s g
+        (not_ended plain_meaning plain_laws plain_generations s g b.association fresh_contents q.core.sctp.association y.went kept.generation_is free_there)
+        (not_ended plain_meaning plain_laws plain_generations s g a.association fresh_contents p.core.sctp.association x.went refl free_here)
         (none_has s q.core.sctp.association.outbox.items there.acknowledged)
         ∙ none))
 
-    kept_written : IsKept p.core.sctp.association s → written s 0 b.association ≡ [] → ⊥
+    kept_written : IsKept p.core.sctp.association s → written s g b.association ≡ [] → ⊥
     kept_written (inl stands) none = message_written stands none
-    kept_written (inr part) none = parts s 0 part none
+    kept_written (inr part) none = parts s g part none
 
-    by_begun : IsBegunStream plain_meaning IsKeptIf s p.core.sctp.association p.core.sctp.entries → written s 0 b.association ≡ [] → ⊥
+    by_begun : IsBegunStream plain_meaning IsKeptIf s p.core.sctp.association p.core.sctp.entries → written s g b.association ≡ [] → ⊥
     by_begun (inl past) none = none_past x.told.used past
-    by_begun (inr fine) none = by (fine first alone.0.1)
+    by_begun (inr fine) none = by (fine alone.0.1)
       where
         by : IsKeptIf p.core.sctp.association s ⊎ (is_spent_stream plain_meaning s p.core.sctp.association ≡ true) → ⊥
         by (inl it) = kept_written (it ok) none
@@ -175,8 +176,8 @@ module _ {N : Type 0} (draws : Draws N) where
     wrote_some : messages_of s (generation_of q.core.sctp.association s) y.written ≡ [] → ⊥
     wrote_some none =
         by_begun (begun s)
-        (written_are s 0 b.association y.written y.wrote_is
-        ∙ ap (map numbered_message) (ap (λ (n : ℕ). messages_of s n y.written) (sym first_there) ∙ none))
+        (written_are s g b.association y.written y.wrote_is
+        ∙ ap (map numbered_message) (ap (λ (n : ℕ). messages_of s n y.written) (sym kept.generation_is) ∙ none))
 
     -- by an opening that waits for its answer
     waits_in : (st : StreamEntryState) (own : Option ℕ) → (st ≡ Open → ⊥)

@@ -28,7 +28,7 @@ use Rattle.rtc_run_laws.specs.PlainPairs.{PlainPair, PlainPolled, plain_over}
 use Rattle.rtc_run_laws.proofs.StepsExchange.{plain_over_laws}
 use Rattle.rtc_run_laws.specs.ConfirmedChannels.{WasConfirmed}
 use Rattle.rtc_run_laws.specs.InBandSteps.{AreInBandSteps, IsInBandStep}
-use Rattle.rtc_run_laws.specs.SettledPairs.{AreConfirmedFirst, AreInBandChannels, AreInBandStreams, HasNothingDue, IsInBandStream, IsSettledPair}
+use Rattle.rtc_run_laws.specs.SettledPairs.{AreAllConfirmedOpen, AreInBandChannels, AreInBandStreams, HasNothingDue, IsInBandStream, IsSettledPair}
 use Rattle.rtc_run_laws.specs.UsesOfRuns.{uses_of}
 use Rattle.rtc_run_laws.proofs.BandedRows.{banded_in_band}
 use Rattle.rtc_run_laws.proofs.BandedMoments.{IsBanded}
@@ -38,7 +38,7 @@ use Rattle.rtc_run_laws.proofs.BandedSteps.{acts_band}
 use Rattle.rtc_run_laws.proofs.OpenSides.{not_closed}
 use Rattle.rtc_run_laws.proofs.RunsTold.{PairTold}
 use Rattle.rtc_run_laws.proofs.StandingEntries.{AreBanded}
-use Rattle.rtc_run_laws.proofs.UnresetSides.{settled_unreset}
+use Rattle.rtc_run_laws.proofs.ConfirmedPairs.{settled_due_none}
 use Rattle.rtc_run_laws.proofs.NativeSteps.{native_entry}
 
 -- the last of the steps, and those before
@@ -139,12 +139,12 @@ module _ {N : Type 0} (draws : Draws N) where
       },
     )
 
-    -- each channel that was confirmed over a stream that was never reset is open at both sides
-    pub settled_first : PairTold draws start (λ x. []) (λ x s g. []) (λ x c s g. []) → AreUnused (plain_over draws) (plain_over_laws draws) start
+    -- each channel that was confirmed is open at both sides
+    pub settled_all : PairTold draws start (λ x. []) (λ x s g. []) (λ x c s g. []) → AreUnused (plain_over draws) (plain_over_laws draws) start
         → (at : Side) → HasNothingDue at past pair
-        → AreConfirmedFirst draws (λ c. WasConfirmed (plain_over draws) stun start at c past pair ran)
+        → AreAllConfirmedOpen draws (λ c. WasConfirmed (plain_over draws) stun start at c past pair ran)
         (uses_of (plain_over draws) stun start at past pair ran) (rtc_at at pair)
         (uses_of (plain_over draws) stun start (other_side at) past pair ran) (rtc_at (other_side at) pair)
-    settled_first told unused at later = λ c s confirmed under stand first.
+    settled_all told unused at later = λ c s confirmed under stand.
         let band = settled_in_band at s in
-        settled_unreset draws stun start past pair go ran new told unused settled at later c s confirmed under band.0 band.1 stand first
+        settled_due_none draws stun start past pair go ran new told unused settled at later c s confirmed under band.0 band.1 stand

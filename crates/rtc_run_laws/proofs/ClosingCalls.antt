@@ -62,6 +62,17 @@ go_thresholded f id n p =
       keeps = same_row id row p (record { generation_is = refl; close_is = refl; finished_is = refl });
     }))
 
+-- no close was sent of the generation of a stream that this end did not close
+unsent : (id : ℕ) (p : Contents) (w r : List Item) → is_closed_here (stream_of id p.streams) ≡ false
+    → RowKeeps id (stream_of id p.streams) p.outbox.items w r → HasClose id (stream_of id p.streams).generation w → ⊥
+unsent id p w r unclosed h k = by (h.mine (stream_of id p.streams).generation k)
+  where
+    by : ((stream_of id p.streams).generation < (stream_of id p.streams).generation)
+        ⊎ (((stream_of id p.streams).generation ≡ (stream_of id p.streams).generation) × (is_closed_here (stream_of id p.streams) ≡ true))
+        → ⊥
+    by (inl less) = absurd (omega (arith, less))
+    by (inr c) = true≢false (sym c.1 ∙ unclosed)
+
 pub go_ended : (f : Option Frame) (now id : ℕ) (p : Contents) → is_closed_here (stream_of id p.streams) ≡ false → EndGo f p (stream_ended now id p)
 unfolding stream_ended sent
 go_ended f now id p unclosed =
@@ -80,20 +91,14 @@ go_ended f now id p unclosed =
       brings = tt;
       own = λ s g k. absurd k;
       sent = (refl, tt);
-      fits = λ w r h. (((λ g less. h.below g less), (λ e k. unsent w r h k)), tt);
+      fits = λ w r h. (((λ g less. h.below g less), (λ k. unsent id p w r unclosed h k)), tt);
       keeps = λ w r h. row_queued id old c p.outbox.items w r (record { part_is = refl; stream_is = refl; generation_is = refl }) h;
     }))
-  where
-    unsent : (w r : List Item) → RowKeeps id (stream_of id p.streams) p.outbox.items w r → HasClose id (stream_of id p.streams).generation w → ⊥
-    unsent w r h k = by (h.mine (stream_of id p.streams).generation k)
-      where
-        by : ((stream_of id p.streams).generation < (stream_of id p.streams).generation) ⊎ (((stream_of id p.streams).generation ≡ (stream_of id p.streams).generation) × (is_closed_here (stream_of id p.streams) ≡ true)) → ⊥
-        by (inl less) = absurd (omega (arith, less))
-        by (inr c) = true≢false (sym c.1 ∙ unclosed)
 
-pub go_written : (f : Option Frame) (id i : ℕ) (bytes : List ℕ) (p : Contents) → EndGo f p (message_written id i bytes p)
+pub go_written : (f : Option Frame) (id i : ℕ) (bytes : List ℕ) (p : Contents) → is_closed_here (stream_of id p.streams) ≡ false
+    → EndGo f p (message_written id i bytes p)
 unfolding sent
-go_written f id i bytes p =
+go_written f id i bytes p unclosed =
     let more : List Item = pieces_of (p.limits.max_payload - 28) id (stream_of id p.streams).generation i bytes in
     go_of f p (message_written id i bytes p)
     (record {
@@ -107,7 +112,7 @@ go_written f id i bytes p =
       keeps = λ w r h. λ s.
           row_more s (stream_of s p.streams) (stream_of s p.streams) p.outbox.items (p.outbox.items ++ more) w more r []
           (record { generation_is = refl; close_is = refl; finished_is = refl }) (λ g c. close-left s g p.outbox.items more c) (λ g c. absurd c) (λ g c. close-pieces _ _ id _ i s g bytes c) (pieces_low id (stream_of id p.streams).generation s (stream_of s p.streams).generation more all (λ e. subst (λ (n : ℕ). (stream_of id p.streams).generation ≤ (stream_of n p.streams).generation) e (omega arith))) (h s);
-      fits = λ w r k. pieces_fit id (stream_of id p.streams).generation w more all (λ g less. RowKeeps.below (k id) g less);
+      fits = λ w r k. pieces_fit id (stream_of id p.streams).generation w more all (λ g less. RowKeeps.below (k id) g less) (λ c. unsent id p w r unclosed (k id) c);
     })
   where
     h : ℕ

@@ -1,5 +1,5 @@
 -- What each act of an end of the plain association does to the closes of generations.
-use Rattle.std.proofs.Common.{◌≡◌, ◌∙◌, ◌+◌, ◌≤◌, ◌||◌, not, ℕ, cond, Bool, true, false, List, [], ◌∷◌, ◌++◌, drop, length, append-nil, Option, Some, None, Result, refl, sym, ap, arith}
+use Rattle.std.proofs.Common.{◌≡◌, ◌∙◌, ◌+◌, ◌||◌, not, nat_lt, ℕ, cond, Bool, true, false, List, [], ◌∷◌, ◌++◌, drop, length, append-nil, Option, Some, None, Result, refl, sym, ap, arith}
 use Rattle.std.specs.declared.alloc.AllocError.{AllocError}
 use Rattle.rtc_part_association.specs.Ppi.{ppi_number}
 use Rattle.rtc_part_association.specs.AssociationActs.{AssociationAct, Started, Opened, Wrote, Ended, Given, Taken, Read, Told as ToldEvent, Stirred, Starts, ByConnect, ByAccept, BySnap, Stirs, LimitsSet, ConnectRefused, AcceptRefused, SnapRefused, OpenRefused, WriteRefused, ReadRefused, EndRefused, ThresholdSet, ReliabilitySet, Acted}
@@ -16,7 +16,7 @@ use Rattle.rtc_assoc_state.specs.PlainMeaning.{plain_meaning, open_cause, write_
 use Rattle.rtc_assoc_state.proofs.DoesLemmas.{refused_changes_nothing, does_leaves, gives, times, polls_some, transmits_some, reads_some}
 use Rattle.rtc_part_association.specs.AssociationNeeds.{need}
 use Rattle.rtc_part_association.specs.declared.assoc_error.AssocError.{AssocError}
-use Rattle.rtc_part_association.specs.declared.assoc_error.AssocError.TheVariants.{NoStream}
+use Rattle.rtc_part_association.specs.declared.assoc_error.AssocError.TheVariants.{NoStream, TooLong}
 use Rattle.rtc_assoc_state.specs.Contents.{closed_here, generation_of, has_stream}
 use Rattle.rtc_run_laws.proofs.ClosingSettled.{settled_keeps}
 use Rattle.rtc_run_laws.proofs.ClosingSteps.{EndGo, TakeGo, ghosts_at, go_as, go_at, go_same, take_same}
@@ -83,12 +83,12 @@ go_then f n p q h =
       fits = λ w r k. h.fits w r (settled_keeps count p.outbox.items (told_of p.streams (greeted p).events) w r k);
     }
 
--- the item of a packet that is next is of a generation that its stream has come to, once the acknowledgement beside it is taken
+-- the item of a packet that is next is of the generation that its stream has, once the acknowledgement beside it is taken
 abbrev pub InTime : Contents → Option Frame → Type 0
 InTime p None = Unit {0}
 InTime p (Some Hello) = Unit {0}
 InTime p (Some Welcome) = Unit {0}
-InTime p (Some (Data n number item)) = number ≡ p.inbox.received + 1 → item.generation ≤ generation_of (acknowledged n (greeted p)) item.stream
+InTime p (Some (Data n number item)) = number ≡ p.inbox.received + 1 → item.generation ≡ generation_of (acknowledged n (greeted p)) item.stream
 InTime p (Some (Acknowledgement n)) = Unit {0}
 InTime p (Some Shutdown) = Unit {0}
 
@@ -156,7 +156,9 @@ go_stirs p q (ReliabilitySet id u t n r h) = does_leaves (EndGo None p) (stream_
 pub act_go : (p q : Contents) (act : AssociationAct) → Acted plain_meaning p act q → InTime p (act_frame act) → EndGo (act_frame act) p q
 act_go p q Started h timely = go_started p q h.1
 act_go p q (Opened s n) h timely = go_at None p q (opened s p) h.0.1 (go_opened None s p)
-act_go p q (Wrote s n i b) h timely = go_at None p q (message_written s (ppi_number h.0) b p) h.1.1.0.1.1.0 (go_written None s (ppi_number h.0) b p)
+act_go p q (Wrote s n i b) h timely = go_at None p q (message_written s (ppi_number h.0) b p) h.1.1.0.1.1.0
+    (go_written None s (ppi_number h.0) b p
+    (end_open (has_stream p s) (closed_here p s) (need (nat_lt p.limits.max_send (length b)) TooLong (ending_cause p)) h.1.1.0.0))
 act_go p q (Ended s n) h timely = go_at None p q (stream_ended p.clock.now s p) h.0.1.0 (go_ended None p.clock.now s p (end_open (has_stream p s) (closed_here p s) (ending_cause p) h.0.0))
 act_go p q (Given b) h timely = go_given p q h.0 b h.1.0 h.1.1 timely
 act_go p q (Taken b) h timely =

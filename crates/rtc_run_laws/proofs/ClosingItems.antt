@@ -1,7 +1,6 @@
 -- What an item that comes to an end of the plain association does to the closes of generations.
-use Rattle.std.proofs.Common.{◌≡◌, ◌∙◌, ◌⊎◌, inl, inr, ◌+◌, ◌<◌, ◌≤◌, ◌==◌, ◌&&◌, ◌||◌, nat_lt, ℕ, not, cond, Bool, true, false, true≢false, List, [], ◌∷◌, ◌++◌, append-nil, Option, Some, refl, sym, ap, subst, arith}
-use Rattle.std.proofs.lemmas.Bool.{eqb-true}
-use Rattle.std.proofs.lemmas.Bool.Decides.{nat_tests}
+use Rattle.std.proofs.Common.{◌≡◌, ◌∙◌, ◌⊎◌, inl, inr, ◌+◌, ◌<◌, ◌==◌, ◌&&◌, ◌||◌, ℕ, not, cond, Bool, true, false, true≢false, List, [], ◌∷◌, ◌++◌, append-nil, Option, Some, refl, sym, ap, subst, arith}
+use Rattle.std.proofs.lemmas.Bool.{eqb-false, eqb-true}
 use Rattle.rtc_assoc_packets.specs.declared.item.Item.{Item}
 use Rattle.rtc_assoc_packets.specs.declared.item_part.ItemPart.{ItemPart}
 use Rattle.rtc_assoc_packets.specs.declared.item_part.ItemPart.TheVariants.{More, Last, Close}
@@ -29,13 +28,16 @@ no_more h = cc
 no_last : Last ≡ Close → ⊥
 no_last h = cc
 
--- an item that is not strayed leaves no mark
+-- an item that is not a stray leaves no mark
 or_none : (a b : Bool) → b ≡ false → (a || b) ≡ a
 or_none true b e = refl
 or_none false b e = e
 
-not_stray : (g own : ℕ) → g ≤ own → nat_lt own g ≡ false
-not_stray g own le = grind (arith, le)
+same_test : (m n : ℕ) → m ≡ n → (m == n) ≡ true
+same_test m n e = grind (arith, e)
+
+not_stray : (g own : ℕ) → g ≡ own → not (g == own) ≡ false
+not_stray g own e = ap not (same_test g own e)
 
 take_with_stray : (f : Option Frame) (p q : Contents) (b : Bool) → b ≡ false → TakeGo f p q → TakeGo f p (with_stray b q)
 take_with_stray f p q b none h = take_as f p q (with_stray b q) refl refl refl (or_none q.inbox.strayed b none) h
@@ -174,7 +176,7 @@ module _ (n number : ℕ) (item : Item) (p : Contents) (number_is : number ≡ p
           brings = brought;
           own = own_stream;
           sent = (stream_of-stream item.stream p.streams, tt);
-          fits = λ w r h. (((λ g less. subst (λ (n : ℕ). HasClose n g w) (sym (stream_of-stream item.stream p.streams)) (h.below g less)), (λ e c. unsent w r h (subst (λ (n : ℕ). HasClose n row.generation w) (stream_of-stream item.stream p.streams) c))), tt);
+          fits = λ w r h. (((λ g less. subst (λ (n : ℕ). HasClose n g w) (sym (stream_of-stream item.stream p.streams)) (h.below g less)), (λ c. unsent w r h (subst (λ (n : ℕ). HasClose n row.generation w) (stream_of-stream item.stream p.streams) c))), tt);
           keeps = λ w r h.
               row_answered item.stream row (close_of row.stream row.generation) item p.outbox.items w r
               (record { part_is = refl; stream_is = stream_of-stream item.stream p.streams; generation_is = refl }) closes_it (row_is w r h);
@@ -204,36 +206,33 @@ module _ (n number : ℕ) (item : Item) (p : Contents) (number_is : number ≡ p
     close_at Queued now is = done (ap (λ (c : CloseState). not (is_unclosed c)) is) (λ e. absurd (no_rest (sym is ∙ e)))
     close_at Acknowledged now is = reset (can_reset row) refl (ap (λ (c : CloseState). not (is_unclosed c)) is)
 
-  close_came : (b : Bool) (now : ℕ) → item.part ≡ Close → (item.generation == row.generation) ≡ b → item.generation ≤ row.generation
+  close_came : (b : Bool) (now : ℕ) → item.part ≡ Close → (item.generation == row.generation) ≡ b → item.generation ≡ row.generation
       → TakeGo (Some (Data n number item)) p (cond b (close_came_at row.close now row (finished row p)) (item_counted row p))
-  close_came true now part_is e behind = close_at part_is (eqb-true item.generation row.generation e) row.close now refl
-  close_came false now part_is e behind =
-      counted p refl refl refl refl (λ g c. subst (λ (k : ℕ). k < row.generation) c.generation_is (below item.generation row.generation e behind))
-    where
-      below : (a b : ℕ) → (a == b) ≡ false → a ≤ b → a < b
-      below a b ne le = grind (arith, nat_tests, ne, le)
+  close_came true now part_is e own = close_at part_is (eqb-true item.generation row.generation e) row.close now refl
+  close_came false now part_is e own = absurd (eqb-false item.generation row.generation e own)
 
-  part_came_so : (part : ItemPart) (now : ℕ) → item.part ≡ part → item.generation ≤ row.generation
+  part_came_so : (part : ItemPart) (now : ℕ) → item.part ≡ part → item.generation ≡ row.generation
       → TakeGo (Some (Data n number item)) p (part_came part now item row p)
-  part_came_so Close now is behind = close_came (item.generation == row.generation) now is refl behind
-  part_came_so More now is behind =
+  part_came_so Close now is own = close_came (item.generation == row.generation) now is refl own
+  part_came_so More now is own =
       piece_came (takes_messages row item.generation) (counted p refl refl refl refl (λ g c. absurd (no_more (sym is ∙ c.part_is))))
-  part_came_so Last now is behind =
+  part_came_so Last now is own =
       piece_came (takes_messages row item.generation) (counted p refl refl refl refl (λ g c. absurd (no_last (sym is ∙ c.part_is))))
 
-  item_taken_so : (now : ℕ) → item.generation ≤ row.generation → TakeGo (Some (Data n number item)) p (item_taken now item p)
-  item_taken_so now behind =
-      take_with_stray (Some (Data n number item)) p (item_put now item p) (is_stray item p) (not_stray item.generation row.generation behind) (part_came_so item.part now refl behind)
+  item_taken_so : (now : ℕ) → item.generation ≡ row.generation → TakeGo (Some (Data n number item)) p (item_taken now item p)
+  item_taken_so now own =
+      take_with_stray (Some (Data n number item)) p (item_put now item p) (is_stray item p) (not_stray item.generation row.generation own)
+      (part_came_so item.part now refl own)
 
 item_if : (next ending : Bool) (n now number : ℕ) (item : Item) (p : Contents) → (number == p.inbox.received + 1) ≡ next
-    → (number ≡ p.inbox.received + 1 → item.generation ≤ generation_of p item.stream)
+    → (number ≡ p.inbox.received + 1 → item.generation ≡ generation_of p item.stream)
     → TakeGo (Some (Data n number item)) p (cond (next && not ending) (item_taken now item p) p)
 item_if true true n now number item p e timely = take_same (Some (Data n number item)) p p refl refl refl refl
 item_if true false n now number item p e timely =
     let next = eqb-true number (p.inbox.received + 1) e in item_taken_so n number item p next now (timely next)
 item_if false ending n now number item p e timely = take_same (Some (Data n number item)) p p refl refl refl refl
 
-pub item_come : (n now number : ℕ) (item : Item) (p : Contents) → (number ≡ p.inbox.received + 1 → item.generation ≤ generation_of p item.stream)
+pub item_come : (n now number : ℕ) (item : Item) (p : Contents) → (number ≡ p.inbox.received + 1 → item.generation ≡ generation_of p item.stream)
     → TakeGo (Some (Data n number item)) p (item_came now number item p)
 unfolding item_came
 item_come n now number item p timely = item_if (number == p.inbox.received + 1) (is_ending p) n now number item p refl timely

@@ -41,7 +41,7 @@ level_left acts pair x here there = λ s.
     (level_run x.joined.moves (ends_of (parts_past acts.left) (packet_parts pair.left) (parts_past acts.right) (packet_parts pair.right)) x.joined.run)
     here.acknowledged there.acknowledged here.lasting there.lasting s
 
--- no end took an item of a generation to come
+-- no end took an item of another generation than its stream had
 pub pair_sound : {N : Type 0} (acts : PairActs) (pair : PlainPair N) → PairExchanges acts pair → (at : Side) → plain_sound (rtc_at at pair).core.sctp.association
 pair_sound acts pair x Left =
     Level.left_sound

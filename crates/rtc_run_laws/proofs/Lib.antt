@@ -208,7 +208,7 @@ pub mod ThereRows
 pub mod ThereRuns
 pub mod PiecePairs
 pub mod AloneSides
-pub mod UnresetSides
+pub mod ConfirmedPairs
 pub mod BandedRows
 pub mod BandedMoments
 pub mod BandedInputs

@@ -1,5 +1,5 @@
 -- In a settled pair each opening is over a stream of its own side, so that the sides open no stream both.
-use Rattle.std.proofs.Common.{◌≡◌, ◌∙◌, ◌⊎◌, inl, inr, ℕ, Bool, true, false, List, [], ◌∷◌, None, refl, sym, arith}
+use Rattle.std.proofs.Common.{◌≡◌, ◌∙◌, ◌⊎◌, inl, inr, ℕ, Bool, true, false, List, [], ◌∷◌, None, refl, sym, arith, Some}
 use Rattle.rtc_channels.specs.Ids.{parity_of}
 use Rattle.rtc_assoc_state.specs.PlainMeaning.{plain_meaning}
 use Rattle.rtc_channels.specs.Openings.{channels_wake}
@@ -15,11 +15,13 @@ use Rattle.rtc_run_history.specs.Runs.{Reached}
 use Rattle.rtc_run_history.specs.Sides.{other_side}
 use Rattle.rtc_run_laws.proofs.EmptyStreams.{AreUnused}
 use Rattle.rtc_run_laws.specs.NewPairs.{IsNewPair}
+use Rattle.rtc_peer_transport.specs.ChannelCalls.{stream_under}
+use Rattle.rtc_run_laws.specs.ChannelUses.{ChannelUse}
 use Rattle.rtc_run_laws.specs.PlainPairs.{PlainPair, PlainPolled, plain_over}
 use Rattle.rtc_run_laws.proofs.StepsExchange.{plain_over_laws}
 use Rattle.rtc_run_laws.specs.ConfirmedChannels.{WasConfirmed}
 use Rattle.rtc_run_laws.specs.OwnOpenings.{HasEntryOf, HasOpening}
-use Rattle.rtc_run_laws.specs.SettledPairs.{AreBothOpening, AreConfirmedAlone, AreInBandChannels, AreOnSides, AreOwnOpenings}
+use Rattle.rtc_run_laws.specs.SettledPairs.{AreBothOpening, AreInBandChannels, AreInBandStreams, AreKeptUses, AreOnSides, AreOwnOpenings}
 use Rattle.rtc_run_laws.specs.SettledPairs.{IsOpenAtBoth, IsOpeningRefused, IsRefusedAlone, IsSettledPair, IsSettledPeer, OpenNoneBoth, WaitsForAnswer, WaitsNone}
 use Rattle.rtc_run_laws.specs.UsesOfRuns.{uses_of}
 use Rattle.rtc_run_laws.proofs.ConfirmedRuns.{SideSound}
@@ -56,6 +58,18 @@ pub never_both : {N : Type 0} (s : ℕ) (p q : PlainPolled N) → AreOwnOpenings
     → HasOpening s p.core.sctp.entries → HasOpening s q.core.sctp.entries → ⊥
 never_both s p q own theirs sides band here there =
     sides (one_side q.core.sctp.client p.core.sctp.client (sym (theirs s band.there there) ∙ own s band.here here))
+
+-- each channel of one side that was confirmed is open at both, or the opening of its stream is refused alone
+abbrev pub AreConfirmedAlone : {N : Type 0} → Draws N → (confirmed : ℕ → Type 0) → (uses : List ChannelUse) → PlainPolled N
+    → (others : List ChannelUse) → PlainPolled N → Type 0
+AreConfirmedAlone draws confirmed uses p others q =
+    (channel stream : ℕ)
+    → confirmed channel
+    → stream_under channel p.core.channels ≡ Some stream
+    → AreInBandStreams stream p q
+    → AreInBandChannels stream p q
+    → AreKeptUses stream uses p others q
+    → IsOpenAtBoth draws channel uses p others q ⊎ IsRefusedAlone stream p q
 
 module _ {N : Type 0} (draws : Draws N) (stun : List ℕ → Bool) (start : PlainPair N) (past : List (Entry PlainMediaEvent)) (pair : PlainPair N)
     (go : are_native (steps_of past) ≡ true) (ran : Reached (plain_over draws) stun start past pair) (new : IsNewPair draws start) where

@@ -1,12 +1,12 @@
--- The items that an end sent, in order: the closes below the generation of an item stand before it, and a close stands once.
-use Rattle.std.proofs.Common.{◌≡◌, ◌∙◌, inl, inr, ◌<◌, ◌≤◌, nat_le, ℕ, zero, suc, cond, Bool, true, false, List, [], ◌∷◌, ◌++◌, take, drop, length, take-append-drop, append-nil, append_assoc, refl, sym, subst, arith}
+-- The items that an end sent, in order: the closes below the generation of an item stand before it, and none of its own generation does.
+use Rattle.std.proofs.Common.{◌≡◌, ◌∙◌, ◌⊎◌, inl, inr, ◌<◌, ◌≤◌, nat_le, ℕ, zero, suc, cond, Bool, true, false, List, [], ◌∷◌, ◌++◌, take, drop, length, take-append-drop, append-nil, append_assoc, refl, sym, subst, arith}
 use Rattle.rtc_assoc_packets.specs.declared.item.Item.{Item}
 use Rattle.rtc_assoc_packets.specs.declared.item_part.ItemPart.TheVariants.{Close, Last, More}
 use Rattle.rtc_assoc_packets.specs.Pieces.{piece, pieces_within}
-use Rattle.rtc_assoc.proofs.MessageLemmas.{HasClose, close-left}
+use Rattle.rtc_assoc.proofs.MessageLemmas.{HasClose, close-append, close-left}
 
 abbrev pub IsAfter : List Item → Item → Type 0
-IsAfter pre x = ((g : ℕ) → g < x.generation → HasClose x.stream g pre) × (x.part ≡ Close → HasClose x.stream x.generation pre → ⊥)
+IsAfter pre x = ((g : ℕ) → g < x.generation → HasClose x.stream g pre) × (HasClose x.stream x.generation pre → ⊥)
 
 abbrev pub OrderedFrom : List Item → List Item → Type 0
 OrderedFrom pre [] = Unit {0}
@@ -30,7 +30,7 @@ ordered_rest pre (x ∷ xs) ys h = subst (λ (l : List Item). OrderedFrom l ys) 
 pub once : (pre xs : List Item) (s g : ℕ) → OrderedFrom pre xs → HasClose s g pre → HasClose s g xs → ⊥
 once pre [] s g h before after = after
 once pre (x ∷ xs) s g h before (inl c) =
-    h.0.1 c.part_is (subst (λ (n : ℕ). HasClose n x.generation pre) (sym c.stream_is) (subst (λ (n : ℕ). HasClose s n pre) (sym c.generation_is) before))
+    h.0.1 (subst (λ (n : ℕ). HasClose n x.generation pre) (sym c.stream_is) (subst (λ (n : ℕ). HasClose s n pre) (sym c.generation_is) before))
 once pre (x ∷ xs) s g h before (inr c) = once (pre ++ x ∷ []) xs s g h.1 (close-left s g pre (x ∷ []) before) c
 
 -- ---- generations of items
@@ -91,12 +91,17 @@ pub pieces_low : (id h s n : ℕ) (xs : List Item) → AllPieces id h xs → (id
 pieces_low id h s n [] all low = tt
 pieces_low id h s n (x ∷ xs) all low = ((λ e. let le = low (sym all.0.0 ∙ e) in let same = all.0.1 in omega (arith, le, same)), pieces_low id h s n xs all.1 low)
 
-pub pieces_fit : (id h : ℕ) (pre xs : List Item) → AllPieces id h xs → ((g : ℕ) → g < h → HasClose id g pre) → OrderedFrom pre xs
-pieces_fit id h pre [] all below = tt
-pieces_fit id h pre (x ∷ xs) all below = (
-  ((λ g less. subst (λ (n : ℕ). HasClose n g pre) (sym all.0.0) (below g (subst (λ (n : ℕ). g < n) all.0.1 less))), (λ e c. all.0.2 e)),
-  pieces_fit id h (pre ++ x ∷ []) xs all.1 (λ g less. close-left id g pre (x ∷ []) (below g less)),
+pub pieces_fit : (id h : ℕ) (pre xs : List Item) → AllPieces id h xs → ((g : ℕ) → g < h → HasClose id g pre) → (HasClose id h pre → ⊥) → OrderedFrom pre xs
+pieces_fit id h pre [] all below unclosed = tt
+pieces_fit id h pre (x ∷ xs) all below unclosed = (
+  ((λ g less. subst (λ (n : ℕ). HasClose n g pre) (sym all.0.0) (below g (subst (λ (n : ℕ). g < n) all.0.1 less))), (λ c. unclosed (subst (λ (n : ℕ). HasClose n h pre) all.0.0 (subst (λ (n : ℕ). HasClose x.stream n pre) all.0.1 c)))),
+  pieces_fit id h (pre ++ x ∷ []) xs all.1 (λ g less. close-left id g pre (x ∷ []) (below g less)) (λ c. by (close-append id h pre (x ∷ []) c)),
 )
+  where
+    by : HasClose id h pre ⊎ HasClose id h (x ∷ []) → ⊥
+    by (inl c) = unclosed c
+    by (inr (inl c)) = all.0.2 c.part_is
+    by (inr (inr c)) = absurd c
 
 -- ---- the first items
 

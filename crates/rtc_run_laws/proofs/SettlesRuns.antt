@@ -15,10 +15,10 @@ use Rattle.rtc_run_laws.specs.UsesOfRuns.{reached_by}
 use Rattle.rtc_run_laws.proofs.DrainedRuns.{new_unused}
 use Rattle.rtc_run_laws.proofs.RunsTold.{new_pair_told}
 use Rattle.rtc_run_laws.proofs.SettledRuns.{settled_answered, settled_confirmed, settled_idle, settled_later, settled_level, settled_open, settled_refused}
-use Rattle.rtc_run_laws.proofs.OwnSides.{settled_alone, settled_own, settled_parted, settled_waits_none}
+use Rattle.rtc_run_laws.proofs.OwnSides.{settled_own, settled_parted, settled_waits_none}
 use Rattle.rtc_run_laws.proofs.RoleSides.{settled_sides}
-use Rattle.rtc_run_laws.proofs.UnresetSides.{settled_unreset}
-use Rattle.rtc_run_laws.proofs.BandedRuns.{settled_first, settled_in_band}
+use Rattle.rtc_run_laws.proofs.ConfirmedPairs.{settled_due_none, settled_wants_none}
+use Rattle.rtc_run_laws.proofs.BandedRuns.{settled_all, settled_in_band}
 
 module _ {N : Type 0} (draws : Draws N) where
   pub run_settles_open : (stun : List ℕ → Bool) (start pair : PlainPair N) (steps : List Step) (replies : List (Reply PlainMediaEvent))
@@ -45,15 +45,15 @@ module _ {N : Type 0} (draws : Draws N) where
         parted = λ settled at. settled_parted draws stun start run.past pair go ran new settled at;
         waits_none = λ settled at.
             settled_waits_none draws stun start run.past pair go ran new (new_pair_told draws start new) (new_unused draws start new) settled at;
-        alone = λ settled at idle.
-            settled_alone draws stun start run.past pair go ran new (new_pair_told draws start new) (new_unused draws start new) settled at idle;
-        unreset = λ settled at later.
-            settled_unreset draws stun start run.past pair go ran new (new_pair_told draws start new) (new_unused draws start new) settled at later;
+        wants_none = λ settled at idle.
+            settled_wants_none draws stun start run.past pair go ran new (new_pair_told draws start new) (new_unused draws start new) settled at idle;
+        due_none = λ settled at later.
+            settled_due_none draws stun start run.past pair go ran new (new_pair_told draws start new) (new_unused draws start new) settled at later;
         in_band = λ none steps settled at s.
             settled_in_band draws stun start run.past pair go ran new none
             (subst (λ (l : List Step). AreInBandSteps l) (sym run.steps_are) steps) settled at s;
         all_in_band = λ none steps settled at later.
-            settled_first draws stun start run.past pair go ran new none
+            settled_all draws stun start run.past pair go ran new none
             (subst (λ (l : List Step). AreInBandSteps l) (sym run.steps_are) steps) settled (new_pair_told draws start new)
             (new_unused draws start new) at later;
       }

@@ -1,4 +1,4 @@
--- An act that comes in time leaves an end where no item of a generation to come was taken.
+-- An act that comes in time leaves an end that took no stray where it took none.
 use Rattle.std.proofs.Common.{◌∙◌}
 use Rattle.rtc_part_association.specs.AssociationActs.{Acted, AssociationAct}
 use Rattle.rtc_assoc_state.specs.Contents.{Contents}

@@ -1,4 +1,4 @@
--- Each stream that is there in its first generation has an entry past its opening, or is held: by each change of channels and of their
+-- Each stream that is there has an entry past its opening, or is held: by each change of channels and of their
 -- entries.
 use Rattle.std.proofs.Common.{◌≡◌, ℕ, zero, suc, Bool, true, false, List, [], ◌∷◌, Option, Some, None, Result, Ok, Err, sym, subst}
 use Rattle.std.specs.declared.alloc.AllocError.{AllocError}

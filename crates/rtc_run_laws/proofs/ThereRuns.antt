@@ -1,4 +1,4 @@
--- In runs of new pairs each stream that is there in its first generation has an entry past its opening, or is held.
+-- In runs of new pairs each stream that is there has an entry past its opening, or is held.
 use Rattle.std.proofs.Common.{◌≡◌, ◌⊎◌, inl, inr, ℕ, Bool, true, true≢false, List, [], ◌∷◌, refl, sym, ap, subst}
 use Rattle.rtc_part_association.specs.AssociationActs.{Stirred, LimitsSet}
 use Rattle.rtc_part_values.specs.Why.{Other}
@@ -70,7 +70,7 @@ module _ {N : Type 0} (draws : Draws N) where
           (fine_on plain_meaning IsKeptIf s fresh_contents h.built.sctp.association
           (goes_act plain_meaning IsKeptIf plain_laws plain_generations plain_keeping s fresh_contents h.built.sctp.association (Stirred Other)
           (LimitsSet (payload_of_mtu h.config.mtu.0) h.config.sctp.max_message_size h.by_build.by_limits) refl)
-          (λ z there. absurd (true≢false (sym there))))
+          (λ there. absurd (true≢false (sym there))))
 
   pub new_pair_there : (pair : PlainPair N) → IsNewPair draws pair → (at : Side)
       → SideThere (plain_over draws) (plain_over_laws draws) plain_generations IsKeptIf plain_keeping (rtc_at at pair)

@@ -1,4 +1,4 @@
--- In joined ends no item is of a generation that its stream has not come to.
+-- In joined ends each item is of the generation that its stream has.
 use Rattle.std.proofs.Common.{◌≡◌, ◌∙◌, ◌⊎◌, inl, inr, ◌+◌, ◌<◌, ◌≤◌, nat_le, nat_lt, ℕ, not, true, false, true≢false, List, [], ◌∷◌, ◌++◌, drop, take, length, Option, Some, None, refl, sym, ap, subst, arith}
 use Rattle.std.proofs.Math.Seq.{drop-drop, take-append_seam}
 use Rattle.std.proofs.lemmas.Bool.Decides.{leb_tells}
@@ -29,11 +29,11 @@ use Rattle.rtc_run_laws.proofs.SentOrder.{IsAfter, OrderedFrom, Within, close_ta
 lt_true : (a b : ℕ) → a < b → nat_lt a b ≡ true
 lt_true a b less = grind (arith, less)
 
--- An item that is next is of a generation that its stream has come to, once the acknowledgement that its packet brings is taken.
+-- An item that is next is of the generation that its stream has, once the acknowledgement that its packet brings is taken.
 pub level_timely : (a b : Contents) (v u : List AssociationAct) (packet : List ℕ) (n number : ℕ) (item : Item) → Level a b v u → Member packet (taken u) → frame_in packet ≡ Some (Data n number item) → number ≡ a.inbox.received + 1
-    → item.generation ≤ (stream_of item.stream (acknowledged n (greeted a)).streams).generation
+    → item.generation ≡ (stream_of item.stream (acknowledged n (greeted a)).streams).generation
 unfolding acknowledged greeted
-level_timely a b v u packet n number item h m is next = by (leb_tells item.generation row.generation)
+level_timely a b v u packet n number item h m is next = by (leb_tells item.generation row.generation) (leb_tells row.generation item.generation)
   where
     count : ℕ
     count = settled_count n a.outbox
@@ -108,9 +108,19 @@ level_timely a b v u packet n number item h m is next = by (leb_tells item.gener
         by_known (inl l) = absurd (omega (arith, l))
         by_known (inr k) = by_close row.close refl k.1
 
-    by : ((nat_le item.generation row.generation ≡ true) × (item.generation ≤ row.generation)) ⊎ ((nat_le item.generation row.generation ≡ false) × (row.generation < item.generation)) → item.generation ≤ row.generation
-    by (inl le) = le.1
-    by (inr less) = absurd (never less.1)
+    -- of each generation before its own one a close came, and no item is behind the close of its generation
+    not_behind : item.generation < row.generation → ⊥
+    not_behind less =
+        before_it.1
+        (subst (λ (l : List Item). HasClose item.stream item.generation l) front_is (RowKeeps.heard (keeps item.stream) item.generation less))
+
+    by : ((nat_le item.generation row.generation ≡ true) × (item.generation ≤ row.generation))
+        ⊎ ((nat_le item.generation row.generation ≡ false) × (row.generation < item.generation))
+        → ((nat_le row.generation item.generation ≡ true) × (row.generation ≤ item.generation))
+        ⊎ ((nat_le row.generation item.generation ≡ false) × (item.generation < row.generation)) → item.generation ≡ row.generation
+    by (inr less) k = absurd (never less.1)
+    by (inl le) (inr less) = absurd (not_behind less.1)
+    by (inl le) (inl ge) = let low = le.1 in let high = ge.1 in omega (arith, low, high)
 
 packet_in_time : (a b : Contents) (v u : List AssociationAct) (packet : List ℕ) (f : Option Frame) → frame_in packet ≡ f → Level a b v u → Member packet (taken u) → InTime a f
 packet_in_time a b v u packet None is h m = tt

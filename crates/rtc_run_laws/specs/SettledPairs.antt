@@ -200,42 +200,26 @@ WaitsNone p q =
     → WaitsForAnswer stream p.core.sctp.entries
     → ⊥
 
--- Each channel of one side that was confirmed is open at both, if neither side negotiated its stream out-of-band; or the opening of the
--- stream is refused for now, and it is not open at the other side either.
-abbrev pub AreConfirmedAlone : {N : Type 0} → Draws N → (confirmed : ℕ → Type 0) → (uses : List ChannelUse) → PlainPolled N
+-- each channel of one side that was confirmed is open at both, if neither side negotiated its stream out-of-band
+abbrev pub AreConfirmedInBand : {N : Type 0} → Draws N → (confirmed : ℕ → Type 0) → (uses : List ChannelUse) → PlainPolled N
     → (others : List ChannelUse) → PlainPolled N → Type 0
-AreConfirmedAlone draws confirmed uses p others q =
+AreConfirmedInBand draws confirmed uses p others q =
     (channel stream : ℕ)
     → confirmed channel
     → stream_under channel p.core.channels ≡ Some stream
     → AreInBandStreams stream p q
     → AreInBandChannels stream p q
     → AreKeptUses stream uses p others q
-    → IsOpenAtBoth draws channel uses p others q ⊎ IsRefusedAlone stream p q
-
--- Each channel of one side that was confirmed is open at both, if neither side negotiated its stream out-of-band, and the stream is in its
--- first generation: it was never reset.
-abbrev pub AreConfirmedUnreset : {N : Type 0} → Draws N → (confirmed : ℕ → Type 0) → (uses : List ChannelUse) → PlainPolled N
-    → (others : List ChannelUse) → PlainPolled N → Type 0
-AreConfirmedUnreset draws confirmed uses p others q =
-    (channel stream : ℕ)
-    → confirmed channel
-    → stream_under channel p.core.channels ≡ Some stream
-    → AreInBandStreams stream p q
-    → AreInBandChannels stream p q
-    → AreKeptUses stream uses p others q
-    → generation_of p.core.sctp.association stream ≡ 0
     → IsOpenAtBoth draws channel uses p others q
 
--- each channel of one side that was confirmed is open at both, if its stream was never reset
-abbrev pub AreConfirmedFirst : {N : Type 0} → Draws N → (confirmed : ℕ → Type 0) → (uses : List ChannelUse) → PlainPolled N
+-- each channel of one side that was confirmed is open at both
+abbrev pub AreAllConfirmedOpen : {N : Type 0} → Draws N → (confirmed : ℕ → Type 0) → (uses : List ChannelUse) → PlainPolled N
     → (others : List ChannelUse) → PlainPolled N → Type 0
-AreConfirmedFirst draws confirmed uses p others q =
+AreAllConfirmedOpen draws confirmed uses p others q =
     (channel stream : ℕ)
     → confirmed channel
     → stream_under channel p.core.channels ≡ Some stream
     → AreKeptUses stream uses p others q
-    → generation_of p.core.sctp.association stream ≡ 0
     → IsOpenAtBoth draws channel uses p others q
 
 -- A run by these steps with these replies leaves it so at both sides, if it left the pair settled. Of channels that were confirmed it
@@ -276,15 +260,15 @@ pub record SettlesOpen {N : Type 0} (draws : Draws N) (stun : List ℕ → Bool)
   pub sides : IsSettledPair run.past pair → (at : Side) → AreOnSides (rtc_at at pair) (rtc_at (other_side at) pair)
   pub parted : IsSettledPair run.past pair → (at : Side) → OpenNoneBoth (rtc_at at pair) (rtc_at (other_side at) pair)
   pub waits_none : IsSettledPair run.past pair → (at : Side) → WaitsNone (rtc_at at pair) (rtc_at (other_side at) pair)
-  pub alone : IsSettledPair run.past pair → (at : Side)
+  pub wants_none : IsSettledPair run.past pair → (at : Side)
       → channels_wake plain_meaning (rtc_at at pair).core.channels (rtc_at at pair).core.sctp ≡ None
-      → AreConfirmedAlone draws
+      → AreConfirmedInBand draws
       (λ channel. WasConfirmed (plain_over draws) stun start at channel run.past pair
       (reached_by (plain_over draws) stun start run.past pair run.went))
       (uses_in_run (plain_over draws) stun start steps replies pair run at) (rtc_at at pair)
       (uses_in_run (plain_over draws) stun start steps replies pair run (other_side at)) (rtc_at (other_side at) pair)
-  pub unreset : IsSettledPair run.past pair → (at : Side) → HasNothingDue at run.past pair
-      → AreConfirmedUnreset draws
+  pub due_none : IsSettledPair run.past pair → (at : Side) → HasNothingDue at run.past pair
+      → AreConfirmedInBand draws
       (λ channel. WasConfirmed (plain_over draws) stun start at channel run.past pair
       (reached_by (plain_over draws) stun start run.past pair run.went))
       (uses_in_run (plain_over draws) stun start steps replies pair run at) (rtc_at at pair)
@@ -293,7 +277,7 @@ pub record SettlesOpen {N : Type 0} (draws : Draws N) (stun : List ℕ → Bool)
       → AreInBandStreams stream (rtc_at at pair) (rtc_at (other_side at) pair)
       × AreInBandChannels stream (rtc_at at pair) (rtc_at (other_side at) pair)
   pub all_in_band : start.sdps ≡ [] → AreInBandSteps steps → IsSettledPair run.past pair → (at : Side) → HasNothingDue at run.past pair
-      → AreConfirmedFirst draws
+      → AreAllConfirmedOpen draws
       (λ channel. WasConfirmed (plain_over draws) stun start at channel run.past pair
       (reached_by (plain_over draws) stun start run.past pair run.went))
       (uses_in_run (plain_over draws) stun start steps replies pair run at) (rtc_at at pair)

@@ -15,9 +15,9 @@ ghost use Rattle.rtc_run_laws.specs.NewPairs.{IsNewPair};
 ghost use Rattle.rtc_run_laws.specs.PlainPairs.{PlainPair, plain_over};
 ghost use Rattle.rtc_run_laws.specs.ConfirmedChannels.{WasConfirmed};
 ghost use Rattle.rtc_run_laws.specs.InBandSteps.{AreInBandSteps};
-ghost use Rattle.rtc_run_laws.specs.SettledPairs.{AreConfirmedFirst, AreInBandChannels, AreInBandStreams};
-ghost use Rattle.rtc_run_laws.specs.SettledPairs.{AreAnswered, AreConfirmedAlone, AreConfirmedOpen, AreConfirmedSettled};
-ghost use Rattle.rtc_run_laws.specs.SettledPairs.{AreConfirmedUnreset, AreOnSides, AreOpenAtBoth, AreOwnOpenings, OpenNoneBoth};
+ghost use Rattle.rtc_run_laws.specs.SettledPairs.{AreAllConfirmedOpen, AreInBandChannels, AreInBandStreams};
+ghost use Rattle.rtc_run_laws.specs.SettledPairs.{AreAnswered, AreConfirmedInBand, AreConfirmedOpen, AreConfirmedSettled};
+ghost use Rattle.rtc_run_laws.specs.SettledPairs.{AreOnSides, AreOpenAtBoth, AreOwnOpenings, OpenNoneBoth};
 ghost use Rattle.rtc_run_laws.specs.SettledPairs.{HasNothingDue, HasNothingSoon, IsLevelStream, IsSettledPair, SettlesOpen, WaitsNone};
 ghost use Rattle.rtc_run_laws.specs.StillPairs.{IsStillPair};
 ghost use Rattle.rtc_run_laws.specs.UsesOfRuns.{uses_of};
@@ -25,35 +25,28 @@ ghost use Rattle.rtc_run_laws.specs.UsesOfRuns.{uses_of};
 use rtc_part_values::Ids;
 
 /// The premises are: both peers are alive, with their DTLS connections and their associations; each was polled up to a
-/// timeout since its last input and its last call; and no association has an unacknowledged item. Then both
-/// associations have each stream in one generation, and neither closed it. A channel that is open at one side is open
-/// at both. Each side announced it, over one generation of one stream, and got all that the other sent over it.
-///
-/// So it is over each stream that neither side negotiated out-of-band, if channel numbers are not exhausted. An opening
-/// over such a stream waits for its acknowledgement only if the other side has the stream not in use, and its own
-/// opening of it is refused for now.
+/// timeout since its last input and its last call; no association has an unacknowledged item; and channel numbers are
+/// not exhausted. Then both associations have each stream in one generation, and neither closed it. A channel that is
+/// open at one side is open at both. Each side announced it, over one generation of one stream, and got all that the
+/// other sent over it. So it is over each stream that neither side negotiated out-of-band.
 ///
 /// Nothing is due for the channels of a side whose last timeout is later than each moment that its peer took. If
-/// nothing is, each of them that was confirmed in the run, and has such a stream, is in one of three cases. It is open
-/// at both sides so. Or the opening of its stream is refused for now, as the stream is there already, and has been for
-/// less than ten seconds, while it is not open at the other side either. Or both sides opened the stream themselves, so
-/// that the opening from here waits for its acknowledgement, and the one from there is refused so.
+/// nothing is, each channel that was confirmed in the run, and whose stream neither side negotiated out-of-band, is open
+/// at both sides so. If no step added a channel that is negotiated out-of-band, and the pair kept no session description
+/// at its start, no stream was negotiated so.
 ///
-/// It is open at both, if neither the associations with their streams nor the channels over them want a moment; and if
-/// both last timeouts are later than each moment that the peers took, and than half a second after the last one that
-/// their streams took.
+/// One side started its association as the client, and the other one as the server: each did by its DTLS role, and a
+/// handshake is finished only between the two roles. A stream that is opened from here is even if this side is the
+/// client, and odd if it is the server, unless a channel was negotiated out-of-band for the stream. So no such stream is
+/// opened from both, and no opening of one waits for its acknowledgement.
 ///
-/// A stream that is opened from here is even if this side started the association as the client, and odd if it did as
-/// the server, unless a channel was negotiated out-of-band for the stream. One side started it as the client, and the
-/// other one as the server: each did by its DTLS role, and a handshake is finished only between the two roles. So no
-/// such stream is opened from both, no opening waits for its acknowledgement, and the last of the three cases does not
-/// occur. Nor does the second one, of a stream that was never reset, which is in its first generation: each channel
-/// that was confirmed and has such a stream is then open at both sides, if the last timeout of its side is later than
-/// each moment that its peer took.
-///
-/// If no step added a channel that is negotiated out-of-band, and the pair kept no session description at its start, no
-/// stream was negotiated so. Each channel that was confirmed, and whose stream was never reset, is then open at both
-/// sides, if the last timeout of its side is later than each moment that its peer took.
+/// If a channel was negotiated out-of-band for a stream, but no entry of the stream was, a confirmed channel over the
+/// stream is open at both sides so, or it is in one of two other cases. The opening of its stream is refused for now, as
+/// the stream is there already, and has been for less than ten seconds, while it is not open at the other side either.
+/// Or both sides opened the stream: the opening from here waits for its acknowledgement, and the one from there is
+/// refused so. Neither occurs if neither the associations with their streams nor the channels over them want a moment,
+/// nor if both last timeouts are later than each moment that the peers took, and than half a second after the last one
+/// that their streams took.
 ///
 /// Of open and of confirmed channels this says nothing if a side rolled back a channel that it had announced over the
 /// stream, in the generation that the stream has. No step brings in a text or bytes of anybody.
@@ -105,17 +98,17 @@ pub fn settled_pairs_have_open_channels<N: Ids>()
     ensures waits_none { (stun : List ℕ → Bool) (start pair : PlainPair N) (past : List (Entry PlainMediaEvent)) → IsNewPair N.ids start
         → are_native (steps_of past) ≡ true → Reached (plain_over N.ids) stun start past pair → IsSettledPair past pair → (at : Side)
         → WaitsNone (rtc_at at pair) (rtc_at (other_side at) pair) }
-    ensures alone { (stun : List ℕ → Bool) (start pair : PlainPair N) (past : List (Entry PlainMediaEvent)) → IsNewPair N.ids start
+    ensures wants_none { (stun : List ℕ → Bool) (start pair : PlainPair N) (past : List (Entry PlainMediaEvent)) → IsNewPair N.ids start
         → are_native (steps_of past) ≡ true
         → (ran : Reached (plain_over N.ids) stun start past pair) → IsSettledPair past pair → (at : Side)
         → channels_wake plain_meaning (rtc_at at pair).core.channels (rtc_at at pair).core.sctp ≡ None
-        → AreConfirmedAlone N.ids (λ channel. WasConfirmed (plain_over N.ids) stun start at channel past pair ran)
+        → AreConfirmedInBand N.ids (λ channel. WasConfirmed (plain_over N.ids) stun start at channel past pair ran)
         (uses_of (plain_over N.ids) stun start at past pair ran) (rtc_at at pair)
         (uses_of (plain_over N.ids) stun start (other_side at) past pair ran) (rtc_at (other_side at) pair) }
-    ensures unreset { (stun : List ℕ → Bool) (start pair : PlainPair N) (past : List (Entry PlainMediaEvent)) → IsNewPair N.ids start
+    ensures due_none { (stun : List ℕ → Bool) (start pair : PlainPair N) (past : List (Entry PlainMediaEvent)) → IsNewPair N.ids start
         → are_native (steps_of past) ≡ true
         → (ran : Reached (plain_over N.ids) stun start past pair) → IsSettledPair past pair → (at : Side) → HasNothingDue at past pair
-        → AreConfirmedUnreset N.ids (λ channel. WasConfirmed (plain_over N.ids) stun start at channel past pair ran)
+        → AreConfirmedInBand N.ids (λ channel. WasConfirmed (plain_over N.ids) stun start at channel past pair ran)
         (uses_of (plain_over N.ids) stun start at past pair ran) (rtc_at at pair)
         (uses_of (plain_over N.ids) stun start (other_side at) past pair ran) (rtc_at (other_side at) pair) }
     ensures in_band { (stun : List ℕ → Bool) (start pair : PlainPair N) (past : List (Entry PlainMediaEvent)) → IsNewPair N.ids start
@@ -128,7 +121,7 @@ pub fn settled_pairs_have_open_channels<N: Ids>()
         → are_native (steps_of past) ≡ true
         → start.sdps ≡ [] → (ran : Reached (plain_over N.ids) stun start past pair) → AreInBandSteps (steps_of past)
         → IsSettledPair past pair → (at : Side) → HasNothingDue at past pair
-        → AreConfirmedFirst N.ids (λ channel. WasConfirmed (plain_over N.ids) stun start at channel past pair ran)
+        → AreAllConfirmedOpen N.ids (λ channel. WasConfirmed (plain_over N.ids) stun start at channel past pair ran)
         (uses_of (plain_over N.ids) stun start at past pair ran) (rtc_at at pair)
         (uses_of (plain_over N.ids) stun start (other_side at) past pair ran) (rtc_at (other_side at) pair) }
     ensures ran { (stun : List ℕ → Bool) (start pair : PlainPair N) (steps : List Step) (replies : List (Reply PlainMediaEvent))

@@ -1,10 +1,10 @@
 use Rattle.rtc_run_laws.proofs.DrainedRuns.{new_unused}
 use Rattle.rtc_run_laws.proofs.RunsTold.{new_pair_told}
-use Rattle.rtc_run_laws.proofs.OwnSides.{settled_alone, settled_own, settled_parted, settled_waits_none}
+use Rattle.rtc_run_laws.proofs.OwnSides.{settled_own, settled_parted, settled_waits_none}
 use Rattle.rtc_run_laws.proofs.RoleSides.{settled_sides}
 use Rattle.rtc_run_laws.proofs.SettlesRuns.{run_settles_open}
-use Rattle.rtc_run_laws.proofs.UnresetSides.{settled_unreset}
-use Rattle.rtc_run_laws.proofs.BandedRuns.{settled_first, settled_in_band}
+use Rattle.rtc_run_laws.proofs.ConfirmedPairs.{settled_due_none, settled_wants_none}
+use Rattle.rtc_run_laws.proofs.BandedRuns.{settled_all, settled_in_band}
 use Rattle.rtc_run_laws.proofs.SettledRuns.{settled_answered, settled_confirmed, settled_idle, settled_later, settled_level, settled_open, settled_refused}
 use Rattle.rtc_run_laws.proofs.settling.settled_pairs_have_open_channels.Goals as goal
 
@@ -49,13 +49,13 @@ pub returns-clause-waits_none : goal.returns-clause-waits_none
 returns-clause-waits_none g c = λ stun start pair past new go ran settled at.
     settled_waits_none g.N.Ids.ids stun start past pair go ran new (new_pair_told g.N.Ids.ids start new) (new_unused g.N.Ids.ids start new) settled at
 
-pub returns-clause-alone : goal.returns-clause-alone
-returns-clause-alone g c = λ stun start pair past new go ran settled at idle.
-    settled_alone g.N.Ids.ids stun start past pair go ran new (new_pair_told g.N.Ids.ids start new) (new_unused g.N.Ids.ids start new) settled at idle
+pub returns-clause-wants_none : goal.returns-clause-wants_none
+returns-clause-wants_none g c = λ stun start pair past new go ran settled at idle.
+    settled_wants_none g.N.Ids.ids stun start past pair go ran new (new_pair_told g.N.Ids.ids start new) (new_unused g.N.Ids.ids start new) settled at idle
 
-pub returns-clause-unreset : goal.returns-clause-unreset
-returns-clause-unreset g c = λ stun start pair past new go ran settled at later.
-    settled_unreset g.N.Ids.ids stun start past pair go ran new (new_pair_told g.N.Ids.ids start new) (new_unused g.N.Ids.ids start new) settled at
+pub returns-clause-due_none : goal.returns-clause-due_none
+returns-clause-due_none g c = λ stun start pair past new go ran settled at later.
+    settled_due_none g.N.Ids.ids stun start past pair go ran new (new_pair_told g.N.Ids.ids start new) (new_unused g.N.Ids.ids start new) settled at
     later
 
 pub returns-clause-in_band : goal.returns-clause-in_band
@@ -64,7 +64,7 @@ returns-clause-in_band g c = λ stun start pair past new go none ran steps settl
 
 pub returns-clause-all_in_band : goal.returns-clause-all_in_band
 returns-clause-all_in_band g c = λ stun start pair past new go none ran steps settled at later.
-    settled_first g.N.Ids.ids stun start past pair go ran new none steps settled (new_pair_told g.N.Ids.ids start new)
+    settled_all g.N.Ids.ids stun start past pair go ran new none steps settled (new_pair_told g.N.Ids.ids start new)
     (new_unused g.N.Ids.ids start new) at later
 
 pub returns-clause-ran : goal.returns-clause-ran

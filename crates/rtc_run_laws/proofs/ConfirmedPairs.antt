@@ -1,7 +1,6 @@
--- In a settled pair each confirmed channel with a stream that was never reset is open at both sides.
-use Rattle.std.proofs.Common.{◌≡◌, ◌⊎◌, inl, inr, ℕ, Bool, true, List, []}
+-- In a settled pair each confirmed channel is open at both sides, if its stream was not negotiated out-of-band.
+use Rattle.std.proofs.Common.{◌≡◌, ◌⊎◌, inl, inr, ℕ, Bool, true, List, [], None}
 use Rattle.rtc_part_association.specs.AssociationWords.{written}
-use Rattle.rtc_assoc_state.specs.Contents.{generation_of}
 use Rattle.rtc_assoc_state.specs.PlainMeaning.{plain_meaning}
 use Rattle.rtc_part_values.specs.Draws.{Draws}
 use Rattle.rtc_plain_media.specs.declared.plain_media_event.PlainMediaEvent.{PlainMediaEvent}
@@ -24,8 +23,9 @@ use Rattle.rtc_run_laws.specs.NewPairs.{IsNewPair}
 use Rattle.rtc_run_laws.specs.PlainPairs.{PairActs, PairExchanges, PlainPair, acts_at, plain_over}
 use Rattle.rtc_run_laws.proofs.RunsExchange.{side_all}
 use Rattle.rtc_run_laws.proofs.StepsExchange.{plain_over_laws}
+use Rattle.rtc_channels.specs.Openings.{channels_wake}
 use Rattle.rtc_run_laws.specs.ConfirmedChannels.{WasConfirmed}
-use Rattle.rtc_run_laws.specs.SettledPairs.{AreConfirmedUnreset, AreInBandChannels, AreInBandStreams, HasNothingDue, IsOpenAtBoth, IsRefusedAlone, IsSettledPair, WaitsForAnswer}
+use Rattle.rtc_run_laws.specs.SettledPairs.{AreConfirmedInBand, AreInBandChannels, AreInBandStreams, HasNothingDue, IsOpenAtBoth, IsRefusedAlone, IsSettledPair, WaitsForAnswer}
 use Rattle.rtc_run_laws.specs.UsesOfRuns.{uses_of}
 use Rattle.rtc_run_laws.proofs.AloneSides.{alone_waits}
 use Rattle.rtc_run_laws.proofs.OpenSides.{not_closed}
@@ -62,41 +62,47 @@ module _ {N : Type 0} (draws : Draws N) (stun : List ℕ → Bool) (start : Plai
 
   -- the other side opened a stream whose opening is refused alone
   waits_there : (at : Side) (s : ℕ) → AreInBandStreams s (rtc_at at pair) (rtc_at (other_side at) pair)
-      → IsRefusedAlone s (rtc_at at pair) (rtc_at (other_side at) pair) → generation_of (rtc_at at pair).core.sctp.association s ≡ 0
+      → IsRefusedAlone s (rtc_at at pair) (rtc_at (other_side at) pair)
       → WaitsForAnswer s (rtc_at (other_side at) pair).core.sctp.entries
-  waits_there Left s band alone first =
+  waits_there Left s band alone =
       let k = told draws stun start past pair go ran h unused settled in
       alone_waits draws k.acts.left k.acts.right (uses draws stun start past pair go ran h unused settled Left)
       (uses draws stun start past pair go ran h unused settled Right) pair.left pair.right k.left.side k.right.side (settled.peers Left)
       (settled.peers Right) (heard draws stun start past pair go ran h unused settled Right) (begun_at Left) (pair_sound k.acts pair k.exchange Left)
       (λ t g. side_all k.acts pair Right t g k.exchange) (side_parts k.acts pair k.exchange Left) s
-      (kept_streams draws stun start past pair go ran h unused settled Left s band) alone first
-  waits_there Right s band alone first =
+      (kept_streams draws stun start past pair go ran h unused settled Left s band) alone
+  waits_there Right s band alone =
       let k = told draws stun start past pair go ran h unused settled in
       alone_waits draws k.acts.right k.acts.left (uses draws stun start past pair go ran h unused settled Right)
       (uses draws stun start past pair go ran h unused settled Left) pair.right pair.left k.right.side k.left.side (settled.peers Right)
       (settled.peers Left) (heard draws stun start past pair go ran h unused settled Left) (begun_at Right) (pair_sound k.acts pair k.exchange Right)
       (λ t g. side_all k.acts pair Left t g k.exchange) (side_parts k.acts pair k.exchange Right) s
-      (kept_streams draws stun start past pair go ran h unused settled Right s band) alone first
+      (kept_streams draws stun start past pair go ran h unused settled Right s band) alone
 
-  pub settled_unreset : (at : Side) → HasNothingDue at past pair
-      → AreConfirmedUnreset draws (λ c. WasConfirmed (plain_over draws) stun start at c past pair ran)
+  pub settled_wants_none : (at : Side) → channels_wake plain_meaning (rtc_at at pair).core.channels (rtc_at at pair).core.sctp ≡ None
+      → AreConfirmedInBand draws (λ c. WasConfirmed (plain_over draws) stun start at c past pair ran)
       (uses_of (plain_over draws) stun start at past pair ran) (rtc_at at pair)
       (uses_of (plain_over draws) stun start (other_side at) past pair ran) (rtc_at (other_side at) pair)
-  settled_unreset at later = λ c s confirmed under band channels stand first.
-      by c s band channels first
-      (settled_alone draws stun start past pair go ran new h unused settled at
-      (settled_idle draws stun start past pair go ran h unused settled at later) c s confirmed under band channels stand)
+  settled_wants_none at idle = λ c s confirmed under band channels stand.
+      by c s band channels (settled_alone draws stun start past pair go ran new h unused settled at idle c s confirmed under band channels stand)
     where
       by : (c s : ℕ) → AreInBandStreams s (rtc_at at pair) (rtc_at (other_side at) pair)
-          → AreInBandChannels s (rtc_at at pair) (rtc_at (other_side at) pair) → generation_of (rtc_at at pair).core.sctp.association s ≡ 0
+          → AreInBandChannels s (rtc_at at pair) (rtc_at (other_side at) pair)
           → IsOpenAtBoth draws c (uses_of (plain_over draws) stun start at past pair ran) (rtc_at at pair)
           (uses_of (plain_over draws) stun start (other_side at) past pair ran) (rtc_at (other_side at) pair)
           ⊎ IsRefusedAlone s (rtc_at at pair) (rtc_at (other_side at) pair)
           → IsOpenAtBoth draws c (uses_of (plain_over draws) stun start at past pair ran) (rtc_at at pair)
           (uses_of (plain_over draws) stun start (other_side at) past pair ran) (rtc_at (other_side at) pair)
-      by c s band channels first (inl opened) = opened
-      by c s band channels first (inr alone) =
+      by c s band channels (inl opened) = opened
+      by c s band channels (inr alone) =
           absurd
           (settled_parted draws stun start past pair go ran new settled at s channels (refused_here s (rtc_at at pair) alone.0)
-          (waits_opening s (rtc_at (other_side at) pair).core.sctp.entries (waits_there at s band alone first)))
+          (waits_opening s (rtc_at (other_side at) pair).core.sctp.entries (waits_there at s band alone)))
+
+  -- so it is if nothing is due for the channels of the side
+  pub settled_due_none : (at : Side) → HasNothingDue at past pair
+      → AreConfirmedInBand draws (λ c. WasConfirmed (plain_over draws) stun start at c past pair ran)
+      (uses_of (plain_over draws) stun start at past pair ran) (rtc_at at pair)
+      (uses_of (plain_over draws) stun start (other_side at) past pair ran) (rtc_at (other_side at) pair)
+  settled_due_none at later = λ c s confirmed under band channels stand.
+      settled_wants_none at (settled_idle draws stun start past pair go ran h unused settled at later) c s confirmed under band channels stand
