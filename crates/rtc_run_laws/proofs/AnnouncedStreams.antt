@@ -129,7 +129,7 @@ open_one s own es Q P h one = by (entries_of s es) refl (any_open s own es h) on
     by (e ∷ f ∷ l) is any k = absurd k
 
 -- the config of a stream is that of its first entry
-first_config : (s : ℕ) (es : List StreamEntry) (e : StreamEntry) (l : List StreamEntry) → entries_of s es ≡ e ∷ l → stream_config s es ≡ e.config
+pub first_config : (s : ℕ) (es : List StreamEntry) (e : StreamEntry) (l : List StreamEntry) → entries_of s es ≡ e ∷ l → stream_config s es ≡ e.config
 first_config s [] e l h = absurd (none_some h)
   where
     none_some : [] ≡ e ∷ l → ⊥

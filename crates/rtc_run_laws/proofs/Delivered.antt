@@ -39,7 +39,7 @@ use Rattle.rtc_run_laws.specs.UsesOfRuns.{uses_of}
 use Rattle.rtc_run_laws.proofs.AllHanded.{none_unread, open_told}
 use Rattle.rtc_run_laws.proofs.DrainedRuns.{heard_reached, new_unused}
 use Rattle.rtc_run_laws.proofs.GotAndSent.{both_carry}
-use Rattle.rtc_run_laws.proofs.HeardSides.{HeardSide, heard_open}
+use Rattle.rtc_run_laws.proofs.HeardSides.{heard_open}
 use Rattle.rtc_run_laws.proofs.OpenStreams.{open_free, open_placed}
 use Rattle.rtc_run_laws.proofs.RunsExchange.{side_all, side_reads}
 use Rattle.rtc_run_laws.proofs.RunsTold.{PairTold, new_pair_told, reached_told}
@@ -188,20 +188,24 @@ module _ {N : Type 0} (draws : Draws N) where
   none_of k l p q h none = ap (λ (n : ℕ). has_unacknowledged n q.core.sctp.association.outbox.items) (sym (stream_same k l p q h)) ∙ none
 
   module _ (pair : PlainPair N) (uses : Side → List ChannelUse) (sent : Side → Sent) (told : Side → MessagesTold) (h : PairTold draws pair uses sent told) where
-    pair_delivered : (at : Side) (drained : ℕ → Type 0) → ((channel : ℕ) → drained channel → HeardSide channel (uses at) (rtc_at at pair))
+    -- by what tells of an open channel that nothing of its generation stands unread
+    pub pair_delivered : (at : Side) (drained : ℕ → Type 0)
+        → ((x : ChannelUse) → Member x (uses at) → drained x.channel → x.in_band ≡ true → (stream : ℕ) → x.stream ≡ Some stream
+        → open_stream_under x.channel (rtc_at at pair) ≡ Some stream → generation_of (rtc_at at pair).core.sctp.association stream ≡ x.generation
+        → has_unread (rtc_at at pair).core.sctp.association stream x.generation ≡ false)
         → AreAllDelivered drained (uses at) (rtc_at at pair) (uses (other_side at)) (rtc_at (other_side at) pair)
     pair_delivered Left drained heard = λ x y mine theirs rested d acknowledged.
         delivered h.acts.left h.acts.right (uses Left) (uses Right) pair.left pair.right h.left.side h.right.side x y d mine theirs
         (side_reads h.acts pair Right d.reader.stream x.generation h.exchange)
         (λ there here. ap contents_by (side_all h.acts pair Right d.reader.stream x.generation h.exchange there here
         (none_of x y pair.left pair.right d acknowledged)))
-        (heard_open draws (uses Left) pair.left x (heard x.channel rested) mine d.reader_in_band d.reader.stream d.reader.of d.there d.reader.generation)
+        (heard x mine rested d.reader_in_band d.reader.stream d.reader.of d.there d.reader.generation)
     pair_delivered Right drained heard = λ x y mine theirs rested d acknowledged.
         delivered h.acts.right h.acts.left (uses Right) (uses Left) pair.right pair.left h.right.side h.left.side x y d mine theirs
         (side_reads h.acts pair Left d.reader.stream x.generation h.exchange)
         (λ there here. ap contents_by (side_all h.acts pair Left d.reader.stream x.generation h.exchange there here
         (none_of x y pair.right pair.left d acknowledged)))
-        (heard_open draws (uses Right) pair.right x (heard x.channel rested) mine d.reader_in_band d.reader.stream d.reader.of d.there d.reader.generation)
+        (heard x mine rested d.reader_in_band d.reader.stream d.reader.of d.there d.reader.generation)
 
   pub run_delivered : (stun : List ℕ → Bool) (start : PlainPair N) → IsNewPair draws start → (past : List (Entry PlainMediaEvent)) (pair : PlainPair N)
       → are_native (steps_of past) ≡ true → (ran : Reached (plain_over draws) stun start past pair) → (at : Side)
@@ -211,4 +215,7 @@ module _ {N : Type 0} (draws : Draws N) where
       pair_delivered pair (λ x. uses_of (plain_over draws) stun start x past pair ran) (λ x. sent_over (plain_over draws) stun start x past pair ran)
       (λ x. told_over (plain_over draws) stun start x past pair ran)
       (reached_told draws stun start past pair go ran (new_pair_told draws start new)) at (λ channel. IsDrained at channel past)
-      (λ channel drained. heard_reached draws stun start past pair go ran (new_pair_told draws start new) (new_unused draws start new) at channel drained)
+      (λ x mine drained band stream of there own.
+      heard_open draws (uses_of (plain_over draws) stun start at past pair ran) (rtc_at at pair) x
+      (heard_reached draws stun start past pair go ran (new_pair_told draws start new) (new_unused draws start new) at x.channel drained) mine band stream of
+      there own)

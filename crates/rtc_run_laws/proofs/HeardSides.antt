@@ -22,7 +22,7 @@ use Rattle.rtc_run_laws.proofs.OpenStreams.{open_free, open_placed}
 use Rattle.rtc_run_laws.proofs.UseLists.{AllUses, all_got, all_kept, all_member, all_more, all_rolled, all_sent}
 
 -- a stream of which nothing stands unread, by acts that bring nothing
-still_heard : (a b : Contents) (s : ℕ) → StaysHeard a b → has_unread a s (generation_of a s) ≡ false → has_unread b s (generation_of b s) ≡ false
+pub still_heard : (a b : Contents) (s : ℕ) → StaysHeard a b → has_unread a s (generation_of a s) ≡ false → has_unread b s (generation_of b s) ≡ false
 still_heard a b s h none = ap (λ (n : ℕ). has_unread b s n) (h.same s) ∙ by (has_unread b s (generation_of a s)) refl
   where
     by : (c : Bool) → has_unread b s (generation_of a s) ≡ c → c ≡ false
@@ -84,7 +84,7 @@ heard_rolled own before after uses p (inr (inr gone)) =
 pub heard_same : {N : Type 0} (own : ℕ) (uses : List ChannelUse) (p q : PlainPolled N) → q ≡ p → HeardSide own uses p → HeardSide own uses q
 heard_same {N} own uses p q same h = subst (λ (x : PlainPolled N). HeardSide own uses x) (sym same) h
 
-no_some : (n : ℕ) → None ≡ Some n → ⊥
+pub no_some : (n : ℕ) → None ≡ Some n → ⊥
 no_some n h = cc
 
 pub some_is : (n k : ℕ) → Some n ≡ Some k → n ≡ k

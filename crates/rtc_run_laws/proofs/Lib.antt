@@ -260,3 +260,17 @@ pub mod LastActs
 pub mod LastMessagesHeld
 pub mod AcknowledgedPairs
 pub mod AcknowledgedSides
+pub mod ShutEntries
+pub mod ShutVisits
+pub mod ShutPolls
+pub mod ShutCalls
+pub mod CountedItems
+pub mod SilentEnds
+pub mod CalmActs
+pub mod ShutRows
+pub mod RestedSides
+pub mod RestedTimeouts
+pub mod OpenedRests
+pub mod RestedCalls
+pub mod RestedSteps
+pub mod RestedRuns

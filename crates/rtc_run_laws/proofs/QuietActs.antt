@@ -130,7 +130,7 @@ pub record StaysHeard (p q : Contents) : Type 0 where
 no_packet : (packet : List ℕ) (l : List (List ℕ)) → packet ∷ l ≡ [] → ⊥
 no_packet packet l e = cc (e)
 
-given_none : (act : AssociationAct) (acts : List AssociationAct) → given (act ∷ acts) ≡ [] → (gives_packet act ≡ false) × (given acts ≡ [])
+pub given_none : (act : AssociationAct) (acts : List AssociationAct) → given (act ∷ acts) ≡ [] → (gives_packet act ≡ false) × (given acts ≡ [])
 given_none (Given packet) acts h = absurd (no_packet packet (given acts) h)
 given_none act acts h = (refl, h)
 

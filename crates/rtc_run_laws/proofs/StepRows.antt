@@ -152,7 +152,7 @@ module _ {I D S M E X T W N : Type 0} (m : Meanings I D S M E X T W N) where
     answer_rows p (Err error) q h changed =
         inr (polled_changes m.association p.core.channels p.core.sctp q.core.channels q.core.sctp changed)
 
-    poll_rows : (p : PolledPeer I D S M N) (answer : Result (Output E) RtcError) (q : PolledPeer I D S M N) → PollsPeer m p answer q → StepRows p q
+    pub poll_rows : (p : PolledPeer I D S M N) (answer : Result (Output E) RtcError) (q : PolledPeer I D S M N) → PollsPeer m p answer q → StepRows p q
     poll_rows p answer q h = record {
       closed = λ e. (closed_stays m p answer q e h).1;
       given = (poll_acts m laws p answer q h).streams.given;

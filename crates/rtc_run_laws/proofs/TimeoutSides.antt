@@ -117,7 +117,7 @@ module _ {N : Type 0} (draws : Draws N) where
   stands_heard q c s t g got rest same are live (HasGone gone past k) = inl gone
   stands_heard q c s t g got rest same are live (IsOver closed k) = absurd (live closed)
 
-  use_heard : (written read : List StreamMessage) (q : PlainPolled N) (x : ChannelUse) (s : ℕ) → x.stream ≡ Some s
+  pub use_heard : (written read : List StreamMessage) (q : PlainPolled N) (x : ChannelUse) (s : ℕ) → x.stream ≡ Some s
       → AreHeard plain_meaning q.core.sctp.association q.core.sctp.entries → (q.core.phase ≡ Closed → ⊥) → UseStands (plain_over draws) written read q x
       → IsGone x.channel q.core.channels ⊎ (has_unread q.core.sctp.association s (generation_of q.core.sctp.association s) ≡ false)
   use_heard written read q x s of are live u = by x.rolled_back refl

@@ -19,6 +19,7 @@ use Rattle.rtc_run_laws.specs.Delivered.{AreAllDelivered}
 use Rattle.rtc_run_laws.specs.DrainedSides.{IsDrained}
 use Rattle.rtc_run_laws.specs.InBandSteps.{AreInBandSteps}
 use Rattle.rtc_run_laws.specs.OpenUses.{AreJoinedUses}
+use Rattle.rtc_run_laws.specs.RunningDrains.{IsDrainedRunning}
 use Rattle.rtc_run_laws.specs.SentMessages.{sent_over}
 use Rattle.rtc_run_laws.specs.ToldMessages.{MessagesTold, told_over}
 use Rattle.rtc_run_laws.specs.Unannounced.{AreGotOfAnnounced, AreToldOfAnnounced, AreToldOfSent, HaveNumbersLeft}
@@ -132,6 +133,12 @@ pub record HandsOut {N : Type 0} (draws : Draws N) (stun : List ℕ → Bool) (s
       (uses_in_run (plain_over draws) stun start steps replies pair run (other_side at)) (rtc_at (other_side at) pair)
   pub delivered : (at : Side)
       → AreAllDelivered (λ channel. IsDrained at channel run.past)
+      (uses_in_run (plain_over draws) stun start steps replies pair run at) (rtc_at at pair)
+      (uses_in_run (plain_over draws) stun start steps replies pair run (other_side at)) (rtc_at (other_side at) pair)
+  pub rested : (at : Side)
+      → AreAllDelivered
+      (λ channel. IsDrainedRunning (plain_over draws) stun start at run.past pair
+      (reached_by (plain_over draws) stun start run.past pair run.went))
       (uses_in_run (plain_over draws) stun start steps replies pair run at) (rtc_at at pair)
       (uses_in_run (plain_over draws) stun start steps replies pair run (other_side at)) (rtc_at (other_side at) pair)
   pub unsent : (at : Side)

@@ -25,3 +25,4 @@ pub mod Delivered
 pub mod Drains
 pub mod Crossed
 pub mod Taken
+pub mod RunningDrains

@@ -5,6 +5,7 @@ use Rattle.rtc_run_laws.specs.UsesOfRuns.{uses_of}
 use Rattle.rtc_run_laws.proofs.Delivered.{run_delivered}
 use Rattle.rtc_run_laws.proofs.DrainedRuns.{new_unused, pair_drained}
 use Rattle.rtc_run_laws.proofs.HandsRuns.{run_hands_out}
+use Rattle.rtc_run_laws.proofs.RestedRuns.{run_rested}
 use Rattle.rtc_run_laws.proofs.RunsTold.{new_pair_told, pair_handed, pair_handed_over, pair_once, pair_told_whole, pair_whole, pair_wholly, reached_told}
 use Rattle.rtc_run_laws.proofs.handing.channels_hand_out_prefixes.Goals as goal
 
@@ -56,6 +57,9 @@ returns-clause-drained g c = λ stun start pair past new go ran at.
 
 pub returns-clause-delivered : goal.returns-clause-delivered
 returns-clause-delivered g c = λ stun start pair past new go ran at. run_delivered g.N.Ids.ids stun start new past pair go ran at
+
+pub returns-clause-rested : goal.returns-clause-rested
+returns-clause-rested g c = λ stun start pair past new go ran at. run_rested g.N.Ids.ids stun start new past pair go ran at
 
 pub returns-clause-ran : goal.returns-clause-ran
 returns-clause-ran g c = λ stun start pair steps replies new go run. run_hands_out g.N.Ids.ids stun start pair steps replies new go run
