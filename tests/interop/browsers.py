@@ -52,8 +52,8 @@ class Chromium(Page):
         words = ["chromium", "--headless=new", "--no-sandbox", "--disable-gpu", "--no-first-run", "--remote-debugging-pipe",
                  "--user-data-dir=" + self.folder, "--disable-background-networking", "--disable-component-update", "--disable-sync",
                  "--allow-loopback-in-peer-connection", "--autoplay-policy=no-user-gesture-required", *flags, "about:blank"]
-        # The browser reads commands from the descriptor 3, and writes to 4.
-        shell = ["sh", "-c", f'exec "$@" 3<&{theirs} 4>&{ours}', "sh", *words]
+        # The browser reads commands from the descriptor 3, and writes to 4. Not each shell takes a descriptor of two digits.
+        shell = ["bash", "-c", f'exec "$@" 3<&{theirs} 4>&{ours}', "bash", *words]
         self.process = subprocess.Popen(shell, pass_fds=(theirs, ours), stdout=subprocess.DEVNULL, stderr=subprocess.DEVNULL)
         os.close(theirs)
         os.close(ours)
