@@ -250,6 +250,11 @@ pub mod CrossingRows
 pub mod CrossingOpens
 pub mod CrossingPaths
 pub mod TakenTexts
+pub mod ReadHashes
+pub mod HashCauses
+pub mod HashPolls
+pub mod HashSides
+pub mod HashRuns
 pub mod CompletingVisits
 pub mod CompletingSteps
 pub mod CompletingPolls

@@ -29,10 +29,10 @@ use Rattle.rtc_peer_laws.specs.Exchanging.{parts_past}
 use Rattle.rtc_peer_laws.specs.JoinedPeers.{ends_of, packet_parts}
 use Rattle.rtc_peer_laws.specs.PeerActs.{PeerActs}
 use Rattle.rtc_peer_laws.proofs.DrainedPolls.{Ends, AtRest, Waiting, poll_ends}
-use Rattle.rtc_peer_laws.proofs.Draining.{visit_drains}
+use Rattle.rtc_peer_resting.proofs.Draining.{visit_drains}
 use Rattle.rtc_peer_laws.proofs.HeardPolls.{timeout_heard}
-use Rattle.rtc_peer_laws.proofs.RestingConnection.{DtlsRests}
-use Rattle.rtc_peer_laws.proofs.RestingStages.{Drained}
+use Rattle.rtc_peer_resting.proofs.RestingConnection.{DtlsRests}
+use Rattle.rtc_peer_resting.proofs.RestingStages.{Drained}
 use Rattle.rtc_run_history.specs.declared.side.Side.{Side}
 use Rattle.rtc_run_history.specs.declared.side.Side.TheVariants.{Left, Right}
 use Rattle.rtc_run_laws.specs.ChannelUses.{ChannelUse}

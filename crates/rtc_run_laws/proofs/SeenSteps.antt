@@ -181,7 +181,7 @@ answer_sees fresh past at step t (Some token) (Readable sdp) old new kept kept' 
 answer_sees fresh past at step t token sdp old new kept kept' outcome table made tells inits h sees = absurd h
 
 -- a rollback tells nothing of the other side
-rollback_keeps : {E : Type 0} → (t : ℕ) (token : Option PendingOffer) (old new : Stance) (kept kept' : List Kept) (outcome : Outcome E) (table : Option Table) → StanceStepRollsBack t token old kept outcome table new kept' → KeepsSide old new
+pub rollback_keeps : {E : Type 0} → (t : ℕ) (token : Option PendingOffer) (old new : Stance) (kept kept' : List Kept) (outcome : Outcome E) (table : Option Table) → StanceStepRollsBack t token old kept outcome table new kept' → KeepsSide old new
 rollback_keeps t None old new kept kept' Alloc None h = keeps_by old new (ap side_parts h.peer)
 rollback_keeps t (Some token) old new kept kept' Alloc None h = keeps_by old new (ap side_parts h.peer)
 rollback_keeps t None old new kept kept' NoSuch (Some table) h = keeps_by old new (ap side_parts h.0.peer)
