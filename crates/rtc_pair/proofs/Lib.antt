@@ -5,5 +5,6 @@ mod NewPairs
 mod DrawnAnswers
 mod AnsweredScripts
 mod ProgramDrains
+mod PrintedNames
 pub mod Performances
 pub mod Demos

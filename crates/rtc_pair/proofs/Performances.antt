@@ -17,13 +17,14 @@ use Rattle.rtc_io.proofs.Told.{breaks_off_as}
 use Rattle.rtc_io.specs.Saying.{BreaksOff}
 use Rattle.rtc_script_reports.specs.Report.{report}
 use Rattle.rtc_run_history.specs.DrawnInRuns.{AllPlain, DrawsUnused, HaveNoLines}
-use Rattle.rtc_run_history.specs.Fresh.{ArePeersFormed}
+use Rattle.rtc_run_history.specs.Fresh.{ArePeersFormed, IsFresh}
 use Rattle.rtc_run_history.specs.Runs.{Runs}
 use Rattle.rtc_run_history.specs.Signalled.{AllReadBack}
 use Rattle.rtc_run_laws.specs.Drains.{AreUndriven, DrainsWithin}
 use Rattle.rtc_script_reports.proofs.ToldReplies.{reports_tell}
 use Rattle.rtc_pair.proofs.AnsweredScripts.{run_answered}
 use Rattle.rtc_pair.proofs.ProgramDrains.{program_undriven}
+use Rattle.rtc_pair.proofs.PrintedNames.{run_in_line}
 use Rattle.rtc_pair.proofs.NewPairs.{program_new, program_no_lines}
 use Rattle.rtc_pair.specs.Performed.{IsPairOf, IsReport, RanScript, KeepsReport, PerformsScript}
 
@@ -54,11 +55,11 @@ drains_of start pair replies steps steps' is known =
 -- replies that are joined with the pair are those of the run
 pub ran_joined : {E : Type 0} (alloc : Global) (script : Script) (start pair : PlainPairState) (replies : Result (List (Reply PlainMediaEvent)) E)
     (result : Result (PlainPairState × List (Reply PlainMediaEvent)) E) → IfOk result (λ joined. (joined.0 ≡ pair) × (replies ≡ Ok joined.1))
-    → IsPairOf alloc script start → ArePeersFormed plain_parts start → IfOk replies (λ told. Runs plain_parts is_ice_message start script.steps told pair)
+    → IsPairOf alloc script start → IsFresh plain_parts start → ArePeersFormed plain_parts start → IfOk replies (λ told. Runs plain_parts is_ice_message start script.steps told pair)
     → IfOk replies (λ told. AllReadBack pair.sdps) → (HaveNoLines plain_parts start → IfOk replies (KnowPlain script.steps start pair))
     → CrossedOffersMeet plain_parts is_ice_message start → (AreUndriven plain_parts start → IfOk replies (KnowDrains script.steps start pair))
     → IfOk result (λ ran. RanScript alloc script ran.1 ran.0)
-ran_joined {E = E} alloc script start pair replies (Ok (kept, told)) (kept_is, told_is) program formed runs read_back plain crossed drains =
+ran_joined {E = E} alloc script start pair replies (Ok (kept, told)) (kept_is, told_is) program fresh formed runs read_back plain crossed drains =
     let Q : Result (List (Reply PlainMediaEvent)) E → Type 0 = λ (r : Result (List (Reply PlainMediaEvent)) E). IfOk r (λ told. Runs plain_parts is_ice_message start script.steps told pair) in
     let U : Result (List (Reply PlainMediaEvent)) E → Type 0 = λ (r : Result (List (Reply PlainMediaEvent)) E). IfOk r (λ told. AllReadBack pair.sdps) in
     let V : Result (List (Reply PlainMediaEvent)) E → Type 0 = λ (r : Result (List (Reply PlainMediaEvent)) E). IfOk r (KnowPlain script.steps start pair) in
@@ -81,15 +82,16 @@ ran_joined {E = E} alloc script start pair replies (Ok (kept, told)) (kept_is, t
       connected = λ native. run_connected counting is_ice_message start pair script.steps told (program_new alloc _ _ start program) native ran;
       crossed = crossed;
       answered = run_answered plain_parts is_ice_message start pair script.steps told ran;
+      in_line = run_in_line start pair script.steps told fresh ran;
       drains = drained ran;
     })
-ran_joined alloc script start pair replies (Err error) joined program formed runs read_back plain crossed drains = tt
+ran_joined alloc script start pair replies (Err error) joined program fresh formed runs read_back plain crossed drains = tt
 
 -- a script was run, and its report was written
 pub performs : (alloc : Global) (lacking : Bool) (script : Script) (replies : List (Reply PlainMediaEvent)) (pair : PlainPairState) (written written' : Option (List ℕ))
     (last : Option PlainPairState) → RanScript alloc script replies pair → KeepsReport lacking script.steps replies pair written written' last
     → PerformsScript alloc lacking script written written' last
-performs alloc lacking script replies pair written written' last ran keeps = record { replies = replies; pair = pair; ran = ran; keeps = keeps; tells = reports_tell script.steps replies keeps.fit ran.answered }
+performs alloc lacking script replies pair written written' last ran keeps = record { replies = replies; pair = pair; ran = ran; keeps = keeps; tells = reports_tell script.steps replies keeps.fit ran.answered ran.in_line }
 
 pub performs_or : (alloc : Global) (lacking : Bool) (script : Script) (replies : List (Reply PlainMediaEvent)) (pair : PlainPairState) (written written' : Option (List ℕ))
     (last : Option PlainPairState) (R : Type 0) → RanScript alloc script replies pair → KeepsReport lacking script.steps replies pair written written' last ⊎ R

@@ -24,7 +24,7 @@ use Rattle.rtc_run_laws.specs.SettledPairs.{SettlesOpen}
 use Rattle.rtc_run_plain.specs.ProgramPair.{counting, plain_parts, PlainPairState, IsProgramPair}
 use Rattle.rtc_run_plain.specs.declared.peer_settings.PeerSettings.{PeerSettings}
 use Rattle.rtc_script_reports.specs.Alike.{TellsReplies}
-use Rattle.rtc_script_reports.specs.Fits.{AreAnswersTo, AreFit}
+use Rattle.rtc_script_reports.specs.Fits.{AreAnswersTo, AreFit, AreInLine}
 use Rattle.rtc_script_reports.specs.Report.{report}
 use Rattle.rtc_script.specs.declared.script.Script.{Script}
 use Rattle.rtc_script.specs.Settings.{sets_lite, sets_snap, buffer_set, interval_set, max_message_set, polite_set}
@@ -56,7 +56,7 @@ IsPairOf alloc script pair =
 -- announced at most once. A buffered amount of 0 says that all that was sent over a channel is acknowledged, if its last message is not
 -- empty. A side that is connected can send over its DTLS connection. If the run then leaves the pair settled, a channel that is open at a
 -- side, over a stream that both keep, is open at both, and was announced at both. On glare a polite and an impolite side that are in step
--- meet. Each answer is of the kind that its operation gives. A drain shows at most as many outputs as its peer weighs before it.
+-- meet. Each answer is of the kind that its operation gives. No name of a hash function that an error prints has an end of line. A drain shows at most as many outputs as its peer weighs before it.
 pub record RanScript (alloc : Global) (script : Script) (replies : List (Reply PlainMediaEvent)) (pair : PlainPairState) : Type 0 where
   pub start : PlainPairState
   pub program : IsPairOf alloc script start
@@ -71,6 +71,7 @@ pub record RanScript (alloc : Global) (script : Script) (replies : List (Reply P
   pub connected : are_native script.steps ≡ true → ConnectedCanSend counting pair
   pub crossed : CrossedOffersMeet plain_parts is_ice_message start
   pub answered : AreAnswersTo script.steps replies
+  pub in_line : AreInLine replies
   pub drains : DrainsWithin plain_parts is_ice_message start runs.past pair
 
 -- This text is the report of a run of a script.

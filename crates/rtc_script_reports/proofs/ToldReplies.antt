@@ -95,4 +95,4 @@ replies_agree number (step ∷ steps) (reply ∷ replies) (answer ∷ others) fi
     (same_behind step reply answer fit.0 fit'.0 one.0 other.0 here there cut.0 lines.0, replies_agree (number + 1) steps replies others fit.1 one.1 line.1 fit'.1 other.1 line'.1 lines.1)
 
 pub reports_tell : ReportsTell
-reports_tell = λ steps replies fit one others line fit' other line' same. replies_agree 0 steps replies others fit one line fit' other line' same
+reports_tell = λ steps replies fit one line others fit' other line' same. replies_agree 0 steps replies others fit one line fit' other line' same

@@ -146,18 +146,17 @@ AreAlikeTables (Some table) None = (table.lines ≡ []) × (table.channels ≡ [
 abbrev pub AreAlike : Reply PlainMediaEvent → Reply PlainMediaEvent → Type 0
 AreAlike reply other = AreAlikeOutcomes reply.outcome other.outcome × AreAlikeTables reply.table other.table
 
--- Other replies to the same steps that have the report of these agree with them, if the name of a hash function that an error prints has no
--- end of line.
+-- Other replies to the same steps that have the report of these agree with them, if the name of a hash function that an error of theirs
+-- prints has no end of line.
 abbrev pub TellsReplies : List Step → List (Reply PlainMediaEvent) → Type 0
 TellsReplies steps replies =
     (others : List (Reply PlainMediaEvent))
-    → AreInLine replies
     → AreFit steps others → AreAnswersTo steps others → AreInLine others
     → report steps replies ≡ report steps others
     → AllZip AreAlike replies others
 
--- replies to the same steps with one report agree
+-- replies to the same steps with one report agree, if no name of a hash function in either has an end of line
 abbrev pub ReportsTell : Type 0
 ReportsTell =
     (steps : List Step) (replies : List (Reply PlainMediaEvent))
-    → AreFit steps replies → AreAnswersTo steps replies → TellsReplies steps replies
+    → AreFit steps replies → AreAnswersTo steps replies → AreInLine replies → TellsReplies steps replies
