@@ -56,7 +56,8 @@ IsPairOf alloc script pair =
 -- announced at most once. A buffered amount of 0 says that all that was sent over a channel is acknowledged, if its last message is not
 -- empty. A side that is connected can send over its DTLS connection. If the run then leaves the pair settled, a channel that is open at a
 -- side, over a stream that both keep, is open at both, and was announced at both. On glare a polite and an impolite side that are in step
--- meet. Each answer is of the kind that its operation gives. No name of a hash function that an error prints has an end of line. A drain shows at most as many outputs as its peer weighs before it.
+-- meet. Each answer is of the kind that its operation gives. No name of a hash function that an error prints has an end of
+-- line. A drain shows at most as many outputs as its peer weighs before it.
 pub record RanScript (alloc : Global) (script : Script) (replies : List (Reply PlainMediaEvent)) (pair : PlainPairState) : Type 0 where
   pub start : PlainPairState
   pub program : IsPairOf alloc script start
