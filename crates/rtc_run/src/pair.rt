@@ -49,6 +49,7 @@ impl<
 impl<I: IceAgent, D: DtlsInstance, S: Association, M: MediaSession, N: Ids> Model
     for Pair<I, D, S, M, N> {
     ghost use Rattle.std.specs.Prelude.{◌≤◌, length};
+    ghost use Rattle.rtc_peer.specs.CachedPeer.{polled_of};
     ghost use Rattle.rtc_run_history.specs.PairState.{PairState};
 
     ghost Value = { PairState I D S M N };
