@@ -101,7 +101,7 @@ pub mod ReadFacts
 mod StartFacts
 pub mod Reaches
 pub mod OutstandingRuns
-mod NativeSteps
+pub mod NativeSteps
 pub mod CountedFaults
 pub mod StreamFaults
 pub mod MediaFaults
@@ -129,9 +129,9 @@ pub mod RunsExchange
 mod WorkedUses
 mod EarlyData
 mod WorkedRests
-mod UseLists
+pub mod UseLists
 mod RowLemmas
-mod UsesTold
+pub mod UsesTold
 mod RolledUses
 mod AnnouncedStreams
 mod UsesPolled
@@ -143,7 +143,7 @@ mod WholePolled
 mod KeptNegotiation
 mod StandingSides
 mod PolledSteps
-mod OpenStreams
+pub mod OpenStreams
 mod StepsTold
 mod GotAndSent
 mod AllHanded
@@ -154,7 +154,7 @@ mod HeardSides
 mod TimeoutSides
 mod UncalledSteps
 mod DrainedSteps
-mod RunsTold
+pub mod RunsTold
 pub mod DrainedRuns
 mod RestingSides
 mod HeardOpenings
