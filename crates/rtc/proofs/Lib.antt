@@ -1,4 +1,5 @@
 pub mod Bare
 pub mod Driven
+pub mod FittingWrites
 mod LeftOffers
 pub mod Signalled

@@ -41,12 +41,8 @@ fn meet<P: Parts>(peer: &mut Peer<P>, offer: SdpOffer) -> Result<Option<SdpAnswe
 {
     match peer.sdp_api().accept_offer(offer) {
         Ok(answer) => Ok(Some(answer)),
-        Err(error) => {
-            if is_glare(&error) {
-                return Ok(None);
-            }
-            Err(error)
-        }
+        Err(error) if is_glare(&error) => Ok(None),
+        Err(error) => Err(error),
     }
 }
 

@@ -5,6 +5,7 @@
 
 mod crossing;
 mod driving;
+mod fitting;
 mod handed;
 mod inputs;
 mod other_stacks;
@@ -16,6 +17,7 @@ mod sink;
 
 pub use crossing::accept_crossed_offer;
 pub use driving::drive;
+pub use fitting::taken_messages_fit;
 pub use inputs::receive;
 pub use other_stacks::accept_foreign_offer_text;
 pub use parts::Parts;
@@ -109,6 +111,7 @@ pub use rtc_peer::SimulcastLayer;
 pub use rtc_peer::Ssrc;
 pub use rtc_peer::Vp9PacketizerMode;
 pub use rtc_peer::Why;
+pub use rtc_peer_polling::starts_are_kept;
 pub use rtc_plain::CountIds;
 pub use rtc_plain::PlainDtls;
 pub use rtc_plain::PlainIce;
