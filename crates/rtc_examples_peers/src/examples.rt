@@ -3,6 +3,7 @@ use crate::built::Built;
 use crate::direct::Direct;
 use crate::marks::Marks;
 use crate::polled::Polled;
+use crate::resting::{Resting, does_rest};
 use crate::signals::Signals;
 use crate::turn::Turn;
 use crate::{
@@ -10,11 +11,12 @@ use crate::{
     settings, work,
 };
 use rtc_examples_cases::is_true;
+use rtc_faulty::CallCounts;
 use rtc_peer::Mid;
 use std::alloc::Global;
 
 /// Whether two fresh peers, the files of an example and two mids give what is expected.
-pub fn ask<P: Signals + Polled + Direct + Marks + Built>(
+pub fn ask<P: Signals + Polled + Direct + Marks + Built + Resting>(
     alloc: Global,
     left: &mut P,
     right: &mut P,
@@ -32,6 +34,7 @@ pub fn ask<P: Signals + Polled + Direct + Marks + Built>(
         "direct" => direct_examples::does_agree(alloc, left, right, mids, name),
         "file" => is_true(files::does_come_over(alloc, left, right, name)),
         "offers" => offers::does_agree(alloc, left, right, name),
+        "resting" => is_true(does_rest(alloc, left, right, &CallCounts::new(), name)),
         "settings" => settings::does_agree(alloc, left, right, name),
         "work" => is_true(work::does_come(alloc, left, right, name)),
         _ => answers::answers(alloc, left, turns),

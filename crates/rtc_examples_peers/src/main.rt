@@ -6,7 +6,9 @@
 //! `answer PATH` gives a fresh peer the offer `PATH.offer`, whose answer has the lines of `PATH.answer`, as `codecs`
 //! and `starts` do with `PATH.text` and `PATH.told`. `copy PATH` copies what is read of an offer. `file SIZE SEED LOST
 //! TWICE` sends a file. `work one C M B` and `work turn C M B` send so many messages over channels, and `work idle C M
-//! 0` gives so many moments, so that a tool that counts instructions sees what they cost.
+//! 0` gives so many moments, so that a tool that counts instructions sees what they cost. `resting L C B P` drains a peer
+//! with so many media lines and open channels of so many messages, and polls it so often; `counted` does the same over
+//! parts whose calls are counted.
 #![tactic(auto)]
 
 mod announced;
@@ -21,6 +23,7 @@ mod codecs;
 mod configs;
 mod connected;
 mod copies;
+mod counted;
 mod counting;
 mod direct;
 mod direct_examples;
@@ -42,6 +45,8 @@ mod polled;
 mod polled_of_parts;
 mod reading;
 mod reply;
+mod resting;
+mod resting_of_parts;
 mod running;
 mod settings;
 mod signals;
@@ -62,7 +67,10 @@ struct Peers;
 
 impl Examples for Peers {
     fn does_agree<R: Files + AllocGlobal>(rt: &R, subject: &str, name: &str) -> bool {
-        is_true(running::does_agree::<R>(rt, subject, name))
+        match subject {
+            "counted" => is_true(counted::does_rest_counted(rt.alloc(), name)),
+            _ => is_true(running::does_agree::<R>(rt, subject, name)),
+        }
     }
 }
 

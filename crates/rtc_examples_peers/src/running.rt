@@ -11,6 +11,7 @@ use crate::marks::Marks;
 use crate::peer_parts::PeerParts;
 use crate::polled::Polled;
 use crate::reading::read_turns;
+use crate::resting::Resting;
 use crate::signals::Signals;
 use rtc_assoc_end::PlainAssociation;
 use rtc_peer::{Association, DtlsInstance, IceAgent, Ids, MediaSession, Mid, Rtc};
@@ -19,7 +20,7 @@ use std::alloc::AllocError;
 use std::rt::Files;
 
 // Whether an example gives what is expected, if its files are there.
-fn agrees<R: Files + AllocGlobal, P: Signals + Polled + Direct + Marks + Built>(
+fn agrees<R: Files + AllocGlobal, P: Signals + Polled + Direct + Marks + Built + Resting>(
     rt: &R,
     left: &mut P,
     right: &mut P,
@@ -42,7 +43,10 @@ fn agrees<R: Files + AllocGlobal, P: Signals + Polled + Direct + Marks + Built>(
 }
 
 // The same if there was memory for both peers.
-fn agrees_made<R: Files + AllocGlobal, P: Signals + Polled + Direct + Marks + Built + Drop>(
+fn agrees_made<
+    R: Files + AllocGlobal,
+    P: Signals + Polled + Direct + Marks + Built + Resting + Drop,
+>(
     rt: &R,
     left: Result<P, AllocError>,
     right: Result<P, AllocError>,

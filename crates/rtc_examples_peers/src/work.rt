@@ -64,8 +64,8 @@ pub fn message(alloc: Global, bytes: u32) -> Result<Vec<u8>, AllocError> {
     Ok(message)
 }
 
-// All happens at moment 0.
-fn begin<P: Polled>(left: &mut P, right: &mut P, wire: &mut Wire) {
+/// Gives two peers the moments at which they connect and open channels. All happens at moment 0.
+pub fn begin<P: Polled>(left: &mut P, right: &mut P, wire: &mut Wire) {
     for _ in 0..WAKES {
         pass(left, right, wire, Span::from_nanos(0));
     }
