@@ -65,7 +65,7 @@ pub fn left_config(
         ("codecs", _) => with_codecs(RtcConfig::new(alloc)?, own_codecs(alloc)),
         ("offers", "of a channel are written") => certified(alloc, RtcConfig::new(alloc)?, false),
         ("offers", "tell a start") => certified(alloc, RtcConfig::new(alloc)?, true),
-        ("resting" | "work", _) => Ok(with_room(RtcConfig::new(alloc)?)),
+        ("work", _) => Ok(with_room(RtcConfig::new(alloc)?)),
         ("settings", "of credentials") => known(alloc, RtcConfig::new(alloc)?),
         ("announced", "of another certificate that is not verified")
         | ("connected", "cut messages for short datagrams")
@@ -77,7 +77,7 @@ pub fn left_config(
 /// The config of the right peer, if it is not the default one.
 pub fn right_config(alloc: Global, subject: &str) -> Result<Option<RtcConfig>, AllocError> {
     match subject {
-        "resting" | "work" => Ok(with_room(RtcConfig::new(alloc)?)),
+        "work" => Ok(with_room(RtcConfig::new(alloc)?)),
         _ => Ok(None),
     }
 }

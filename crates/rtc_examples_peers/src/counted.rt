@@ -32,8 +32,8 @@ fn rests_over<
     requires right { AreFresh (meanings I.ice D.dtls S.association M.media N.ids)
         right.ice right.dtls right.association right.media }
 {
-    let mut left = build(alloc, left_config(alloc, "work", line), left)?;
-    let mut right = build(alloc, right_config(alloc, "work"), right)?;
+    let mut left = build(alloc, left_config(alloc, "counted", line), left)?;
+    let mut right = build(alloc, right_config(alloc, "counted"), right)?;
     does_rest::<Rtc<I, D, S, M, N>>(alloc, &mut left, &mut right, calls, line)
 }
 
