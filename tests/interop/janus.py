@@ -18,7 +18,7 @@ plugins_folder = "{1}/plugins" transports_folder = "{1}/transports" debug_level 
 certificates: {{}}
 media: {{}}
 nat: {{ full_trickle = false }}
-plugins: {{ disable = "libjanus_sip.so,libjanus_nosip.so,libjanus_lua.so,libjanus_duktape.so,libjanus_voicemail.so,libjanus_audiobridge.so" }}
+plugins: {{ disable = "libjanus_sip.so,libjanus_nosip.so,libjanus_lua.so,libjanus_duktape.so,libjanus_voicemail.so" }}
 transports: {{ disable = "libjanus_websockets.so,libjanus_pfunix.so,libjanus_rabbitmq.so,libjanus_mqtt.so,libjanus_nanomsg.so" }}
 """,
     "janus.transport.http.jcfg": """general: {{ base_path = "/janus" http = true port = 8088 ip = "127.0.0.1" https = false }}
