@@ -1,0 +1,2 @@
+mod LeftLines
+mod LeftCodecs
