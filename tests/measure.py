@@ -37,6 +37,14 @@ def count(words, given, files={}, status=0):
         return int(re.search(rb"Collected : (\d+)", done.stderr)[1]), done.stdout
 
 
+# How many blocks a program asks for.
+def blocks(words, given):
+    done = subprocess.run(["valgrind", *words], input=given, capture_output=True, timeout=1200)
+    if done.returncode != 0:
+        sys.exit(f"measure: {words[0]} ended with status {done.returncode}")
+    return int(re.search(rb"total heap usage: ([0-9,]+) allocs", done.stderr)[1].replace(b",", b""))
+
+
 # The m-lines of a browser's offer, with further mids.
 def media(mid):
     audio = [b"m=audio 9 UDP/TLS/RTP/SAVPF 111 63 9 0 8 13 110 126", b"c=IN IP4 0.0.0.0", b"a=rtcp:9 IN IP4 0.0.0.0"]
@@ -58,15 +66,32 @@ def offer(size):
     return OFFER_HEAD + b"a=group:BUNDLE " + b" ".join(b"%d" % mid for mid in mids) + b"\r\n" + b"".join(lines)
 
 
+# The m-lines of Chromium's offer over other stacks, which have all codecs that it knows, one after another with further mids. The text
+# itself is the first of them.
+def chromium(size):
+    with open(os.path.join(TOP, "crates", "rtc_examples_peers", "data", "offers", "chromium_audio_video.offer"), "rb") as file:
+        text = file.read()
+    if size <= len(text):
+        return text
+    head, *parts = re.split(rb"(?=^m=)", text, flags=re.M)
+    lines = []
+    while sum(map(len, lines)) + len(head) < size:
+        lines.append(re.sub(rb"a=mid:\d+", b"a=mid:%d" % len(lines), parts[len(lines) % len(parts)]))
+    return re.sub(rb"BUNDLE [0-9 ]+", b"BUNDLE " + b" ".join(b"%d" % mid for mid in range(len(lines))), head) + b"".join(lines)
+
+
 def descriptions():
-    print("| Read | Written | Instructions | A byte read | A byte read or written |\n|---|---|---|---|---|")
     start, _ = count([program("rtc_sdp_text"), "offer"], OFFER_HEAD)
-    for size in (1_000, 16_000, 64_000, 256_000, 1_000_000):
-        given = offer(size)
-        cost, written = count([program("rtc_sdp_text"), "offer"], given)
-        cost -= start
-        both = len(given) + len(written)
-        print(f"| {len(given):,} | {len(written):,} | {cost:,} | {cost / len(given):.1f} | {cost / both:.1f} |")
+    for what, made in (("Of a browser's form", offer), ("Of Chromium, with all its codecs", chromium)):
+        print(f"\n{what}:\n\n| Read | Written | Instructions | A byte read | A byte read or written |\n|---|---|---|---|---|")
+        for size in (1_000, 16_000, 64_000, 256_000, 1_000_000):
+            given = made(size)
+            cost, written = count([program("rtc_sdp_text"), "offer"], given)
+            cost -= start
+            both = len(given) + len(written)
+            print(f"| {len(given):,} | {len(written):,} | {cost:,} | {cost / len(given):.1f} | {cost / both:.1f} |")
+    words = [program("rtc_sdp_text"), "offer"]
+    print(f"\nBlocks of Chromium's offer: {blocks(words, chromium(0)) - blocks(words, OFFER_HEAD)}")
 
 
 # A round that adds n lines, and a second one in which each text names all of them.
