@@ -1,5 +1,6 @@
-/* A whole session of two peers from C, with each of its allocations refused in turn: a status reports it, or the session goes on to
- * its end as if nothing had been refused; and in either case every block is freed. Linked with --wrap=malloc,realloc,free. */
+/* A whole session of two peers from C, with each of its allocations refused in turn: a status reports it, or nothing is lost, since the
+ * session goes on to its end with the same outputs and texts, byte for byte. In either case every block is freed. Linked with
+ * --wrap=malloc,realloc,free. */
 #include "gondyru.h"
 
 #include <stdio.h>
@@ -11,6 +12,8 @@
 struct datagram { gondyru_address source, destination; uint8_t bytes[2048]; size_t size; };
 struct side { gondyru_peer peer; bool is_open; uint64_t channel; size_t messages, closes; size_t count; struct datagram sent[MOST]; };
 
+/* What the peers hand out, in one number. */
+static uint64_t digest;
 static size_t asked, refused, live;
 static struct side left, right;
 
@@ -38,12 +41,37 @@ void __wrap_free(void *at) {
 #define MUST(call) do { uint32_t status = call; if (status != GONDYRU_DONE) return status; } while (0)
 #define REFUSES(expected, call) do { uint32_t status = call; if (status != expected) return status ? status : GONDYRU_NO_ROW; } while (0)
 
+/* Adds bytes to the digest, as FNV-1a does. */
+static void note(const void *from, size_t size) {
+    for (const uint8_t *it = from; size; it++, size--) digest = (digest ^ *it) * 1099511628211u;
+}
+
+static void note_number(uint64_t number) {
+    note(&number, sizeof number);
+}
+
+static void note_address(const gondyru_address *at) {
+    const uint64_t numbers[] = {at->a, at->b, at->c, at->d, at->port};
+    note(numbers, sizeof numbers);
+}
+
+/* Adds an output, but for the bytes between the fields of its row. */
+static void note_output(const gondyru_output_row *row, const uint8_t *bytes, size_t size) {
+    const uint64_t numbers[] = {row->kind, row->state, row->moment, row->channel, row->size, row->protocol, row->media, row->direction, row->binary};
+    note(numbers, sizeof numbers);
+    note_address(&row->source);
+    note_address(&row->destination);
+    note_number(size);
+    note(bytes, size);
+}
+
 static uint32_t drain(struct side *side) {
     for (gondyru_output_row row = {0}; row.kind != GONDYRU_TIMEOUT;) {
         struct datagram *next = &side->sent[side->count];
         size_t size = 0;
         MUST(gondyru_poll_output(&side->peer, &row));
         MUST(gondyru_copy_output(&side->peer, next->bytes, sizeof next->bytes, &size));
+        note_output(&row, next->bytes, size);
         if (row.kind == GONDYRU_TRANSMIT && side->count + 1 < MOST) {
             next->source = row.source;
             next->destination = row.destination;
@@ -83,8 +111,10 @@ static uint32_t negotiate(uint64_t *now) {
     size_t size = 0;
     MUST(gondyru_offer(&left.peer));
     MUST(gondyru_copy_text(&left.peer, text, sizeof text, &size));
+    note(text, size);
     MUST(gondyru_accept_offer(&right.peer, text, size));
     MUST(gondyru_copy_text(&right.peer, text, sizeof text, &size));
+    note(text, size);
     MUST(gondyru_accept_answer(&left.peer, text, size));
     return exchange(now);
 }
@@ -129,6 +159,7 @@ static uint32_t refuse(size_t number) {
     memset(&left, 0, sizeof left);
     memset(&right, 0, sizeof right);
     asked = 0;
+    digest = 14695981039346656037u;
     refused = number;
     uint32_t status = session();
     gondyru_free_peer(&left.peer);
@@ -140,14 +171,16 @@ int main(void) {
     size_t reported = 0, quiet = 0;
     uint32_t status = refuse(0);
     size_t whole = asked;
+    uint64_t given = digest;
     if (status != GONDYRU_DONE || live) return printf("the session ends with status %u, and %zu blocks\n", status, live), 1;
     for (size_t number = 1; number <= whole; number++) {
         status = refuse(number);
         if (live) return printf("allocation %zu: %zu blocks are not freed\n", number, live), 1;
         if (status != GONDYRU_NO_MEMORY && status != GONDYRU_DONE) return printf("allocation %zu: status %u\n", number, status), 1;
+        if (status == GONDYRU_DONE && digest != given) return printf("allocation %zu: no status reports it, and outputs differ\n", number), 1;
         reported += status == GONDYRU_NO_MEMORY;
         quiet += status == GONDYRU_DONE;
     }
-    printf("%zu allocations refused: a status reports %zu, and %zu are done without\n", whole, reported, quiet);
+    printf("%zu allocations refused: a status reports %zu, and of %zu nothing is lost\n", whole, reported, quiet);
     return 0;
 }

@@ -19,6 +19,7 @@ use Rattle.rtc_c_handle.specs.Statuses.{status_of_call, status_of_token}
 use Rattle.rtc_c_handle.specs.declared.channel_entry.ChannelEntry.{ChannelEntry}
 use Rattle.rtc_c_handle.specs.declared.held.Held.{Held}
 use Rattle.rtc_c_handle.specs.declared.line_entry.LineEntry.{LineEntry}
+use Rattle.rtc_c_handle.specs.declared.output_bytes.OutputBytes.TheVariants.{Nothing}
 use Rattle.rtc_c_handle.specs.declared.settings.Settings.{Settings}
 use Rattle.rtc_c_handle.specs.declared.status.Status.{Status}
 use Rattle.rtc_c_handle.specs.declared.status.Status.TheVariants.{Done, NoMemory, NoPeer, HasPeer, NotUtf8, SmallBuffer, BadNumber, NoRow}
@@ -28,7 +29,7 @@ use Rattle.rtc_c_handle.specs.declared.wanted_change.WantedChange.{WantedChange}
 pub data PutsNew (alloc : Global) (settings : Settings) (role : Option Bool) (status : Status) (after : Option Held) : Type 0 where
   IsPut : (held : Held) → status ≡ Done → after ≡ Some held
       → IsPlainPeer alloc (config_of_settings settings role) settings.first (addr_of settings.address) held.rtc.core
-      → held.rtc.transport ≡ no_transport true false None → held.token ≡ None → held.text ≡ [] → held.wanted ≡ [] → held.output ≡ None
+      → held.rtc.transport ≡ no_transport true false None → held.token ≡ None → held.text ≡ [] → held.wanted ≡ [] → held.output ≡ Nothing
       → PutsNew alloc settings role status after
   LacksMemory : status ≡ NoMemory → after ≡ None → PutsNew alloc settings role status after
 

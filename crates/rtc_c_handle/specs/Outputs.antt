@@ -1,5 +1,5 @@
 -- Outputs of a poll as C has them.
-use Rattle.std.specs.Prelude.{ℕ, List, [], false, length, Option, Some, None}
+use Rattle.std.specs.Prelude.{ℕ, List, [], false, length}
 use Rattle.rtc_plain_media.specs.declared.plain_media_event.PlainMediaEvent.{PlainMediaEvent}
 use Rattle.rtc_plain_media.specs.declared.plain_media_event.PlainMediaEvent.TheVariants as media
 use Rattle.rtc_peer_transport.specs.declared.event.Event.{Event as PeerEvent}
@@ -10,40 +10,45 @@ use Rattle.rtc_plain_ice.specs.Places.{protocol_number}
 use Rattle.rtc_c_handle.specs.Numbers.{kind_number, direction_number, state_number}
 use Rattle.rtc_c_handle.specs.Settings.{address_of}
 use Rattle.rtc_c_handle.specs.declared.address.Address.{Address}
+use Rattle.rtc_c_handle.specs.declared.output_bytes.OutputBytes.{OutputBytes}
+use Rattle.rtc_c_handle.specs.declared.output_bytes.OutputBytes.TheVariants as kept
 use Rattle.rtc_c_handle.specs.declared.output_row.OutputRow.{OutputRow}
 
--- the bytes that come with an event of the media part: the mid of its line
-abbrev pub bytes_of_media : PlainMediaEvent → List ℕ
-bytes_of_media (media.Added mid kind dir) = mid
-bytes_of_media (media.Changed mid dir) = mid
-bytes_of_media (media.Rtp size) = []
-bytes_of_media (media.Rtcp size) = []
-bytes_of_media (media.Raw packet) = []
+-- what is kept of an event of the media part: the mid of its line
+abbrev pub kept_of_media : PlainMediaEvent → OutputBytes
+kept_of_media (media.Added mid kind dir) = kept.Mid mid
+kept_of_media (media.Changed mid dir) = kept.Mid mid
+kept_of_media (media.Rtp size) = kept.Nothing
+kept_of_media (media.Rtcp size) = kept.Nothing
+kept_of_media (media.Raw packet) = kept.Nothing
 
--- the bytes that come with an event: a label, a message, or the mid of a line
-abbrev pub bytes_of_event : PeerEvent PlainMediaEvent → List ℕ
-bytes_of_event events.Connected = []
-bytes_of_event (events.IceConnectionStateChange state) = []
-bytes_of_event (events.ChannelOpen id label) = label
-bytes_of_event (events.ChannelData message) = message.bytes
-bytes_of_event (events.ChannelClose id) = []
-bytes_of_event (events.ChannelBufferedAmountLow id) = []
-bytes_of_event (events.PeerStats stats) = []
-bytes_of_event (events.MediaIngressStats stats) = []
-bytes_of_event (events.MediaEgressStats stats) = []
-bytes_of_event (events.Media event) = bytes_of_media event
-bytes_of_event events.Closed = []
+-- what is kept of an event: a label, a message, or the mid of a line
+abbrev pub kept_of_event : PeerEvent PlainMediaEvent → OutputBytes
+kept_of_event events.Connected = kept.Nothing
+kept_of_event (events.IceConnectionStateChange state) = kept.Nothing
+kept_of_event (events.ChannelOpen id label) = kept.Label label
+kept_of_event (events.ChannelData message) = kept.Message message.bytes
+kept_of_event (events.ChannelClose id) = kept.Nothing
+kept_of_event (events.ChannelBufferedAmountLow id) = kept.Nothing
+kept_of_event (events.PeerStats stats) = kept.Nothing
+kept_of_event (events.MediaIngressStats stats) = kept.Nothing
+kept_of_event (events.MediaEgressStats stats) = kept.Nothing
+kept_of_event (events.Media event) = kept_of_media event
+kept_of_event events.Closed = kept.Nothing
 
--- the bytes that come with an output
-abbrev pub bytes_of_output : Output PlainMediaEvent → List ℕ
-bytes_of_output (Timeout moment) = []
-bytes_of_output (Transmit datagram) = datagram.contents
-bytes_of_output (Event event) = bytes_of_event event
+-- what is kept of an output: the bytes that come with it
+abbrev pub kept_of_output : Output PlainMediaEvent → OutputBytes
+kept_of_output (Timeout moment) = kept.Nothing
+kept_of_output (Transmit datagram) = kept.Datagram datagram.contents
+kept_of_output (Event event) = kept_of_event event
 
--- the same of the output that is kept, if there is one
-abbrev pub bytes_kept : Option (Output PlainMediaEvent) → List ℕ
-bytes_kept None = []
-bytes_kept (Some output) = bytes_of_output output
+-- the bytes that are kept
+abbrev pub bytes_kept : OutputBytes → List ℕ
+bytes_kept kept.Nothing = []
+bytes_kept (kept.Datagram bytes) = bytes
+bytes_kept (kept.Message bytes) = bytes
+bytes_kept (kept.Label text) = text
+bytes_kept (kept.Mid mid) = mid
 
 abbrev nowhere : Address
 nowhere = record { a = 0; b = 0; c = 0; d = 0; port = 0 }

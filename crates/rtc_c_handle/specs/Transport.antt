@@ -16,7 +16,7 @@ use Rattle.rtc_peer_polling.specs.Walk.{PollsPeer}
 use Rattle.rtc_peer.specs.CachedPeer.{polled_of}
 use Rattle.rtc.specs.PlainPeers.{memory_parts}
 use Rattle.rtc.specs.Receives.{ReceivesDatagram}
-use Rattle.rtc_c_handle.specs.Outputs.{row_of_output}
+use Rattle.rtc_c_handle.specs.Outputs.{kept_of_output, row_of_output}
 use Rattle.rtc_c_handle.specs.HeldPeer.{HeldRtc}
 use Rattle.rtc_c_handle.specs.Settings.{addr_of}
 use Rattle.rtc_c_handle.specs.Statuses.{status_of_call, status_of_error, status_of_memory, status_of_write}
@@ -63,10 +63,10 @@ pub record ClosesHeldChannel (id : ℕ) (h : Held) (status : Status) (g : Held) 
   pub is_returned : status ≡ status_of_memory returned
   pub others : g ≡ record h { rtc = g.rtc }
 
--- A poll returns an output, which is kept, with its row; or it fails, and the output and the row are those before.
+-- A poll returns an output, whose bytes are kept, with its row; or it fails, and the bytes and the row are those before.
 pub data PollsRow (h : Held) (row : OutputRow) (status : Status) (g : Held) (after : OutputRow) : Type 0 where
   IsPolled : (output : Output PlainMediaEvent) → PollsPeer memory_parts (polled_of h.rtc) (Ok output) (polled_of g.rtc) → status ≡ Done
-      → g ≡ record h { rtc = g.rtc; output = Some output } → after ≡ row_of_output output → PollsRow h row status g after
+      → g ≡ record h { rtc = g.rtc; output = kept_of_output output } → after ≡ row_of_output output → PollsRow h row status g after
   IsNotPolled : (error : RtcError) → PollsPeer memory_parts (polled_of h.rtc) (Err error) (polled_of g.rtc) → status ≡ status_of_error error
       → g ≡ record h { rtc = g.rtc } → after ≡ row → PollsRow h row status g after
 

@@ -9,7 +9,6 @@ ghost use Rattle.rtc_c_handle.specs.Outputs.{bytes_kept};
 ghost use Rattle.rtc_c_handle.specs.StatusTexts.{status_name, status_text};
 ghost use Rattle.rtc_c_handle.specs.Statuses.{status_of_number};
 
-use crate::outputs::kept_bytes;
 use crate::{ChannelEntry, Held, LineEntry, Slot, Status};
 use rtc::LineRow;
 use std::alloc::Global;
@@ -51,7 +50,7 @@ pub fn copy_output(alloc: Global, slot: &mut Slot, out: &mut [u8], size: &mut us
     match slot.take(alloc) {
         None => Status::NoPeer,
         Some(held) => {
-            let status = put(kept_bytes(&held.output), out, size);
+            let status = put(held.output.as_slice(), out, size);
             *slot = Slot::of_box(held);
             status
         }

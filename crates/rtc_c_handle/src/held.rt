@@ -3,9 +3,10 @@ ghost use Rattle.std.specs.Prelude.{◌≡◌, [], IfOk, true, false, None};
 ghost use Rattle.rtc_peer_transport.specs.Connection.{no_transport};
 ghost use Rattle.rtc.specs.PlainPeers.{IsPlainPeer};
 ghost use Rattle.rtc_c_handle.specs.Settings.{addr_of, config_of_settings};
+ghost use Rattle.rtc_c_handle.specs.declared.output_bytes.OutputBytes.TheVariants.{Nothing};
 
-use crate::{Settings, WantedChange};
-use rtc::{Output, PlainMediaEvent, PlainRtc, SdpPendingOffer, Seq, Text, build_plain_peer};
+use crate::{OutputBytes, Settings, WantedChange};
+use rtc::{PlainRtc, SdpPendingOffer, Seq, Text, build_plain_peer};
 use std::alloc::{AllocError, Global};
 
 /// A peer over the parts in memory, with what a caller in C does not hold itself.
@@ -17,8 +18,8 @@ pub struct Held {
     pub text: Text,
     /// The changes that the next offer is to make.
     pub wanted: Seq<WantedChange>,
-    /// What the last poll returned.
-    pub output: Option<Output<PlainMediaEvent>>,
+    /// The bytes that come with what the last poll returned.
+    pub output: OutputBytes,
 }
 
 // Written out, so that the proof of what owns a peer sees one call and not the drop of each field.
@@ -43,7 +44,7 @@ impl Held {
         ensures token { IfOk result (λ held. held.token ≡ None) }
         ensures text { IfOk result (λ held. held.text ≡ []) }
         ensures wanted { IfOk result (λ held. held.wanted ≡ []) }
-        ensures output { IfOk result (λ held. held.output ≡ None) }
+        ensures output { IfOk result (λ held. held.output ≡ Nothing) }
     {
         let config = settings.config(alloc, role)?;
         let rtc = build_plain_peer(alloc, config, settings.first, settings.address.addr())?;
@@ -53,7 +54,7 @@ impl Held {
             token: None,
             text,
             wanted: Seq::empty(alloc),
-            output: None,
+            output: OutputBytes::Nothing,
         })
     }
 }

@@ -15,6 +15,7 @@ mod line_entry;
 mod made;
 mod negotiation;
 mod numbers;
+mod output_bytes;
 mod output_row;
 mod outputs;
 mod parts;
@@ -40,6 +41,7 @@ pub use copying::{
 pub use held::Held;
 pub use line_entry::LineEntry;
 pub use made::Made;
+pub use output_bytes::OutputBytes;
 pub use output_row::OutputRow;
 pub use settings::Settings;
 pub use slot::Slot;

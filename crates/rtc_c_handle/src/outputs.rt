@@ -1,7 +1,6 @@
-//! Outputs of a poll as rows, and the bytes that come with them.
+//! Outputs of a poll as rows.
 ghost use Rattle.std.specs.Prelude.{◌≡◌};
-ghost use Rattle.rtc_c_handle.specs.Outputs.{blank_output, bytes_of_event, bytes_of_media, bytes_of_output, bytes_kept};
-ghost use Rattle.rtc_c_handle.specs.Outputs.{row_of_event, row_of_media, row_of_output};
+ghost use Rattle.rtc_c_handle.specs.Outputs.{blank_output, row_of_event, row_of_media, row_of_output};
 
 use crate::numbers::{number_of_direction, number_of_kind, number_of_protocol, number_of_state};
 use crate::{Address, OutputRow};
@@ -33,68 +32,18 @@ fn blank(kind: u32) -> OutputRow
     }
 }
 
-// The bytes that come with an event of the media part: the mid of its line.
-fn media_bytes(event: &PlainMediaEvent) -> &[u8]
-    ensures { result.now ≡ bytes_of_media event.now }
-{
-    match event {
-        PlainMediaEvent::Added(mid, _, _) => mid.as_str().as_bytes(),
-        PlainMediaEvent::Changed(mid, _) => mid.as_str().as_bytes(),
-        PlainMediaEvent::Rtp(_) | PlainMediaEvent::Rtcp(_) | PlainMediaEvent::Raw(_) => &[],
-    }
-}
-
-// The bytes that come with an event.
-fn event_bytes(event: &Event<PlainMediaEvent>) -> &[u8]
-    ensures { result.now ≡ bytes_of_event event.now }
-{
-    match event {
-        Event::ChannelOpen(_, label) => label.as_str().as_bytes(),
-        Event::ChannelData(message) => message.bytes.as_slice(),
-        Event::Media(event) => media_bytes(event),
-        Event::Connected
-        | Event::IceConnectionStateChange(_)
-        | Event::ChannelClose(_)
-        | Event::ChannelBufferedAmountLow(_)
-        | Event::PeerStats(_)
-        | Event::MediaIngressStats(_)
-        | Event::MediaEgressStats(_)
-        | Event::Closed => &[],
-    }
-}
-
-fn output_bytes(output: &Output<PlainMediaEvent>) -> &[u8]
-    ensures { result.now ≡ bytes_of_output output.now }
-{
-    match output {
-        Output::Timeout(_) => &[],
-        Output::Transmit(datagram) => datagram.contents.as_slice(),
-        Output::Event(event) => event_bytes(event),
-    }
-}
-
-/// Returns the bytes that come with an output, if there is one.
-pub(crate) fn kept_bytes(output: &Option<Output<PlainMediaEvent>>) -> &[u8]
-    ensures { result.now ≡ bytes_kept output.now }
-{
-    match output {
-        Some(output) => output_bytes(output),
-        None => &[],
-    }
-}
-
 fn media_row(event: &PlainMediaEvent) -> OutputRow
     ensures { result ≡ row_of_media event.now }
 {
     match event {
-        PlainMediaEvent::Added(_, kind, dir) => OutputRow {
-            size: media_bytes(event).len(),
+        PlainMediaEvent::Added(mid, kind, dir) => OutputRow {
+            size: mid.as_str().len(),
             media: number_of_kind(*kind),
             direction: number_of_direction(*dir),
             ..blank(12)
         },
-        PlainMediaEvent::Changed(_, dir) => OutputRow {
-            size: media_bytes(event).len(),
+        PlainMediaEvent::Changed(mid, dir) => OutputRow {
+            size: mid.as_str().len(),
             direction: number_of_direction(*dir),
             ..blank(13)
         },

@@ -14,7 +14,7 @@ ghost use Rattle.rtc_c_handle.specs.Transport.{BeginsClose, ClosesHeldChannel, H
 ghost use Rattle.rtc_c_handle.specs.Transport.{WritesHeld, WritesOpen, status_of_written, udp_datagram};
 
 use crate::outputs::output_row;
-use crate::{Address, Held, OutputRow, Status};
+use crate::{Address, Held, OutputBytes, OutputRow, Status};
 use rtc::{
     ChannelId, Input, Moment, Parts, Peer, Plain, PlainIce, PlainRtc, Protocol, Receive, RtcError,
 };
@@ -103,14 +103,14 @@ impl Held {
         Status::of_call(returned)
     }
 
-    /// Polls the peer, and keeps what it returns until the next poll.
+    /// Polls the peer, and keeps the bytes of what it returns until the next poll.
     pub fn poll_output(&mut self, row: &mut OutputRow) -> Status
         ensures { PollsRow self.old row.old result self.new row.new }
     {
         match self.rtc.poll_output() {
             Ok(output) => {
                 *row = output_row(&output);
-                self.output = Some(output);
+                self.output = OutputBytes::of_output(output);
                 Status::Done
             }
             Err(error) => Status::of_error(&error),
