@@ -1,2 +1,4 @@
 pub mod FaultyPeers
+pub mod CallCauses
+pub mod FaultyDrains
 pub mod ListedCauses

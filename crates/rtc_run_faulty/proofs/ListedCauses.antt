@@ -41,13 +41,13 @@ faulty_laws = record {
 rose_by : (a b : ℕ) → min (0 + a + 1) (2 ^ 64 - 1) ≤ 0 + b → min (a + 1) (2 ^ 64 - 1) ≤ b
 rose_by a b rose = omega (arith, rose)
 
-listed_rose : (part : CountedPart) (p q : FaultyCore) → Rose (faults_of faulty_parts part p) (faults_of faulty_parts part q) → FailedListed part p q
+pub listed_rose : (part : CountedPart) (p q : FaultyCore) → Rose (faults_of faulty_parts part p) (faults_of faulty_parts part q) → FailedListed part p q
 listed_rose DtlsPart p q rose = rose_by p.dtls.instance.numbers.faults q.dtls.instance.numbers.faults rose
 listed_rose AssociationPart p q rose = rose_by p.sctp.association.numbers.faults q.sctp.association.numbers.faults rose
 listed_rose MediaPart p q rose = rose_by p.media.numbers.faults q.media.numbers.faults rose
 
 -- of a call
-pub caused : (p q : FaultyPolled) (error : RtcError) → Counts faulty_parts p (λ part. is_fault_of error part) q → HasListedCause p error q
+pub caused : (p q : FaultyPolled) (error : RtcError) → Counts faulty_parts p (λ part. is_fault_of error part) q → HasListedCause p.core error q.core
 caused p q error counts DtlsPart told = listed_rose DtlsPart p.core q.core (counts.dtls.1 told)
 caused p q error counts AssociationPart told = listed_rose AssociationPart p.core q.core (counts.association.1 told)
 caused p q error counts MediaPart told = listed_rose MediaPart p.core q.core (counts.media.1 told)

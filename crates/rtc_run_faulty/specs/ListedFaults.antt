@@ -9,7 +9,7 @@ use Rattle.rtc_run_history.specs.PairState.{peer_at}
 use Rattle.rtc_run_history.specs.Past.{Entry}
 use Rattle.rtc_run_history.specs.Runs.{Went, EntersSoundly}
 use Rattle.rtc_run_history.specs.Sides.{side_of}
-use Rattle.rtc_run_faulty.specs.FaultyParts.{FaultyCore, FaultyPolled, FaultyPairState, faulty_parts}
+use Rattle.rtc_run_faulty.specs.FaultyParts.{FaultyCore, FaultyPairState, faulty_parts}
 
 -- how many listed calls of this part of a peer failed
 abbrev pub listed_faults : CountedPart → FaultyCore → ℕ
@@ -22,8 +22,8 @@ abbrev pub FailedListed : CountedPart → FaultyCore → FaultyCore → Type 0
 FailedListed part before after = Rose (listed_faults part before) (listed_faults part after)
 
 -- an error reports a fault of a part only if a listed call of that part failed
-abbrev pub HasListedCause : FaultyPolled → RtcError → FaultyPolled → Type 0
-HasListedCause before error after = (part : CountedPart) → is_fault_of error part ≡ true → FailedListed part before.core after.core
+abbrev pub HasListedCause : FaultyCore → RtcError → FaultyCore → Type 0
+HasListedCause before error after = (part : CountedPart) → is_fault_of error part ≡ true → FailedListed part before after
 
 -- an entry reports a fault of a part only if a listed call of that part of the acting side failed in its step
 abbrev pub TellsListedFaults : FaultyPairState → Entry PlainMediaEvent → FaultyPairState → Type 0

@@ -8,6 +8,7 @@ ghost use Rattle.rtc_peer_core.specs.Formed.{IsFormed, IsHostCandidate};
 ghost use Rattle.rtc_peer_core.specs.Stance.{stance_of};
 ghost use Rattle.rtc_peer_transport.specs.Connection.{no_transport};
 ghost use Rattle.rtc_run_history.specs.Fresh.{ArePeersFormed, IsFresh, IsJustBuilt};
+ghost use Rattle.rtc_run_laws.specs.Drains.{AreUndriven};
 ghost use Rattle.rtc_run_plain.specs.ProgramPair.{host_at, program_config};
 ghost use Rattle.rtc_run_faulty.specs.FaultyParts.{faulty_parts, fresh_faulty_dtls, fresh_faulty_association, fresh_faulty_media};
 ghost use Rattle.rtc_run_faulty.specs.FaultyPairs.{IsFaultyPeer, IsFaultyPair};
@@ -173,6 +174,7 @@ pub fn make_faulty_pair(
         (pair.left.core.polite ≡ left_settings.polite) × (pair.right.core.polite ≡ right_settings.polite)) }
     ensures fresh { IfOk result (λ pair. IsFresh faulty_parts pair) }
     ensures formed { IfOk result (λ pair. ArePeersFormed faulty_parts pair) }
+    ensures undriven { IfOk result (λ pair. AreUndriven faulty_parts pair) }
 {
     let left_at = Addr {
         ip: [1, 1, 1, 1],

@@ -1,5 +1,6 @@
 use Rattle.std.proofs.Common.{refl}
 use Rattle.rtc_run_plain.proofs.PlainPeers.{left_host, right_host}
+use Rattle.rtc_run_faulty.proofs.FaultyDrains.{faulty_undriven, peer_undriven}
 use Rattle.rtc_run_faulty.proofs.FaultyPeers.{faulty_pair_fresh, faulty_pair_formed, faulty_role}
 use Rattle.rtc_run_faulty.proofs.faulty_pair.make_faulty_pair.Goals as goal
 
@@ -31,3 +32,9 @@ returns-clause-roles c =
       faulty_role _ _ _ _ _ _ _ c.in_ok-left.ensures.peer,
       faulty_role _ _ _ _ _ _ _ c.in_ok-right.ensures.peer,
     )
+
+pub returns-clause-undriven : goal.returns-clause-undriven
+returns-clause-undriven c =
+    rw c.new.ensures (faulty_undriven _
+    (peer_undriven _ _ _ _ _ _ _ _ c.in_ok-left.ensures.peer c.in_ok-left.ensures.unconnected)
+    (peer_undriven _ _ _ _ _ _ _ _ c.in_ok-right.ensures.peer c.in_ok-right.ensures.unconnected))
