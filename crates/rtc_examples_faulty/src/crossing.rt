@@ -94,11 +94,12 @@ impl Crossing {
 
 // Whether a step ended as it does if no part fails.
 fn is_due(act: Act, reply: &Reply<PlainMediaEvent>) -> bool {
-    match act {
-        Act::Refuse => reply.outcome == Outcome::Refused(RtcError::Glare),
-        Act::RollBack => reply.outcome == Outcome::Done,
-        Act::Answer => reply.outcome == Outcome::Answered { text: ANSWER },
-        Act::End => reply.outcome == Outcome::Finished,
+    match (act, &reply.outcome) {
+        (Act::Refuse, Outcome::Refused(RtcError::Glare)) => true,
+        (Act::RollBack, Outcome::Done) => true,
+        (Act::Answer, Outcome::Answered { text }) => *text == ANSWER,
+        (Act::End, Outcome::Finished) => true,
+        _ => false,
     }
 }
 

@@ -20,10 +20,11 @@ pub fn error_of(reply: &Reply<PlainMediaEvent>) -> Option<&RtcError> {
 
 /// Whether an error reports a fault of a part.
 pub fn is_fault_of(error: &RtcError, part: Part) -> bool {
-    match part {
-        Part::Dtls => *error == RtcError::Dtls(DtlsError::Fault),
-        Part::Association => *error == RtcError::Sctp(SctpError::Proto(ProtoError::Fault)),
-        Part::Media => *error == RtcError::Media(MediaError::Rtp),
+    match (part, error) {
+        (Part::Dtls, RtcError::Dtls(DtlsError::Fault)) => true,
+        (Part::Association, RtcError::Sctp(SctpError::Proto(ProtoError::Fault))) => true,
+        (Part::Media, RtcError::Media(MediaError::Rtp)) => true,
+        _ => false,
     }
 }
 
@@ -78,12 +79,25 @@ fn waits_for_nothing(outputs: &[Shown<PlainMediaEvent>]) -> bool {
     }
 }
 
+fn is_done(reply: &Reply<PlainMediaEvent>) -> bool {
+    match &reply.outcome {
+        Outcome::Done => true,
+        _ => false,
+    }
+}
+
+fn is_no_such(reply: &Reply<PlainMediaEvent>) -> bool {
+    match &reply.outcome {
+        Outcome::NoSuch => true,
+        _ => false,
+    }
+}
+
 /// Whether a closed peer may reply so to a step: it ignores inputs and closes, polls a timeout that is never reached, and has no channel.
 pub fn is_of_closed(step: &Step, reply: &Reply<PlainMediaEvent>) -> bool {
     match step {
-        Step::Time { .. } | Step::Close { .. } => reply.outcome == Outcome::Done,
-        Step::Datagram { .. } => (reply.outcome == Outcome::Done)
-            | (reply.outcome == Outcome::NoSuch),
+        Step::Time { .. } | Step::Close { .. } => is_done(reply),
+        Step::Datagram { .. } => is_done(reply) | is_no_such(reply),
         Step::Drain { .. } | Step::Poll { .. } => match &reply.outcome {
             Outcome::Polled {
                 outputs,
@@ -91,7 +105,7 @@ pub fn is_of_closed(step: &Step, reply: &Reply<PlainMediaEvent>) -> bool {
             } => waits_for_nothing(outputs.as_slice()),
             _ => false,
         },
-        Step::Write { .. } | Step::CloseChannel { .. } => reply.outcome == Outcome::NoSuch,
+        Step::Write { .. } | Step::CloseChannel { .. } => is_no_such(reply),
         _ => true,
     }
 }
