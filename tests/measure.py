@@ -175,6 +175,15 @@ def count_peers(how, channels, messages, size):
     return cost
 
 
+# A drained peer with so many media lines and open channels that is polled so often, and what that costs.
+def count_rest(lines, channels, polls):
+    line = f"resting {lines} {channels} 0 {polls}\n".encode()
+    cost, told = count([program("rtc_examples_peers")], line)
+    if told != b"agrees " + line:
+        sys.exit(f"measure: {line} ended with {told!r}")
+    return cost
+
+
 # Channels that two peers open at once, a moment that is given to both and at which nothing is due, and channels that are given streams. The
 # answer of the latter is the stream of the last channel.
 def streams():
@@ -291,6 +300,10 @@ def polls():
         drained = cost(lines, "R drain\n") - cost(lines, nothing)
         polled = cost(lines, "R drain\n" + "R poll\n" * 10) - cost(lines, "R drain\n" + nothing * 10)
         print(f"| {lines:,} | {drained:,} | {drained // lines:,} | {polled // 10:,} |")
+    print("\n| Media lines | Open channels | A poll of a drained peer |\n|---|---|---|")
+    for lines, channels in ((1, 1), (10_000, 1), (1, 1_000)):
+        more = count_rest(lines, channels, 1_000) - count_rest(lines, channels, 0)
+        print(f"| {lines:,} | {channels:,} | {more / 1_000:.1f} |")
 
 
 # The steps by which two peers connect: a check each way and its response, the hello of DTLS, the certificate and the finish.
