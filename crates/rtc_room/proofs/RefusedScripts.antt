@@ -2,12 +2,12 @@
 use Rattle.std.proofs.Common.{◌≡◌, ◌≢◌, ◌+◌, ◌-◌, ◌^◌, ◌≤◌, ◌<◌, ◌∙◌, ℕ, zero, suc, List, [], ◌∷◌, ◌++◌, length, take, min, refl, ap, sym, subst, add-one, length-append, lit<, arith, Bor}
 use Rattle.std.proofs.Math.Seq.{take-length}
 use Rattle.std.proofs.lemmas.List.{take-append-le, length-map}
-use Rattle.rtc_room.specs.RoomScript.{HaveRoomLines, AreRoomPieces, BeginsRoomScript, AreRefusedPieces, room_header}
-use Rattle.rtc_room.specs.RoomScript.{StopsAt}
-use Rattle.rtc_room.specs.declared.script_error.ScriptError.TheVariants.{Line}
+use Rattle.rtc_room.specs.RoomScript.{HaveRoomLines, AreRoomPieces, BeginsRoomScript, AreRefusedRoomPieces, room_header}
+use Rattle.rtc_room.specs.RoomScript.{StopsAtRoomLine}
+use Rattle.rtc_room.specs.declared.room_script_error.RoomScriptError.TheVariants.{Line}
 use Rattle.rtc_room.specs.RoomLines.{IsRoomLine}
 use Rattle.rtc_room.proofs.ZipLemmas.{texts, front_zip}
-use Rattle.rtc_room_hub.specs.declared.room_step.RoomStep.{RoomStep}
+use Rattle.rtc_room_steps.specs.declared.room_step.RoomStep.{RoomStep}
 
 -- a shorter front of a front is a front
 front_of_front : (k j : ℕ) (xs : List (List ℕ)) → k ≤ j → take k (take j xs) ≡ take k xs
@@ -46,7 +46,7 @@ begins_no_more rest end place lt none begins =
     none begins.1.0 (subst P front begins.1.1.1)
 
 -- a text without a line is refused at line 1
-pub no_first_line : (end : List ℕ) → AreRefusedPieces (end ∷ []) (Line 1)
+pub no_first_line : (end : List ℕ) → AreRefusedRoomPieces (end ∷ []) (Line 1)
 no_first_line end = (
   λ steps are. no_script are.0 are.1,
   (1, ((λ k lt. first_line k lt), λ begins. absurd (omega (arith, begins.0))), refl),
@@ -61,7 +61,7 @@ no_first_line end = (
     first_line (suc k) lt = absurd (omega arith)
 
 -- and so is one whose first line is no header
-pub wrong_header : (first : List ℕ) (rest : List (List ℕ)) (end : List ℕ) → first ≢ room_header → AreRefusedPieces (first ∷ rest ++ end ∷ []) (Line 1)
+pub wrong_header : (first : List ℕ) (rest : List (List ℕ)) (end : List ℕ) → first ≢ room_header → AreRefusedRoomPieces (first ∷ rest ++ end ∷ []) (Line 1)
 wrong_header first rest end wrong = (
   λ steps are. let same = are.1 in wrong cc,
   (1, ((λ k lt. first_line k lt), λ begins. wrong begins.1.1.0), refl),
@@ -72,7 +72,7 @@ wrong_header first rest end wrong = (
     first_line (suc k) lt = absurd (omega arith)
 
 -- a line that is of no step is refused
-pub wrong_call : (rest : List (List ℕ)) (end : List ℕ) (place told : ℕ) → StopsAt rest place → told ≡ min (place + 2) (2 ^ 32 - 1) → AreRefusedPieces (room_header ∷ rest ++ end ∷ []) (Line told)
+pub wrong_call : (rest : List (List ℕ)) (end : List ℕ) (place told : ℕ) → StopsAtRoomLine rest place → told ≡ min (place + 2) (2 ^ 32 - 1) → AreRefusedRoomPieces (room_header ∷ rest ++ end ∷ []) (Line told)
 wrong_call rest end place told stops is =
     let none : (steps : List RoomStep) → HaveRoomLines (take (suc place) rest) steps → ⊥ = rw add-one at stops.2 in (
       λ steps are. no_script steps are,
@@ -94,7 +94,7 @@ wrong_call rest end place told stops is =
         stops.2 (take (place + 1) steps) (front_zip IsRoomLine (place + 1) rest steps (subst P (sym lines.0) are.2))
 
 -- a last line without LF is refused
-pub unended : (rest : List (List ℕ)) (end : List ℕ) (steps : List RoomStep) (told : ℕ) → HaveRoomLines rest steps → end ≢ [] → told ≡ min (length rest + 2) (2 ^ 32 - 1) → AreRefusedPieces (room_header ∷ rest ++ end ∷ []) (Line told)
+pub unended : (rest : List (List ℕ)) (end : List ℕ) (steps : List RoomStep) (told : ℕ) → HaveRoomLines rest steps → end ≢ [] → told ≡ min (length rest + 2) (2 ^ 32 - 1) → AreRefusedRoomPieces (room_header ∷ rest ++ end ∷ []) (Line told)
 unended rest end steps told are more is =
     let P : List (List ℕ) → Type 0 = λ lines. HaveRoomLines lines steps in (
       λ steps are. let same : rest ++ end ∷ [] ≡ are.0 ++ [] ∷ [] = let e = are.1 in cc in more (front_is rest are.0 end same).1,
@@ -112,14 +112,14 @@ unended rest end steps told are more is =
 cut_is : (lines rest : List (Bor (List ℕ))) (first : Bor (List ℕ)) (end : List ℕ) → lines ≡ first ∷ rest → first.now ≡ room_header → room_header ∷ texts rest ++ end ∷ [] ≡ texts lines ++ end ∷ []
 cut_is lines rest first end is head = sym (ap (λ (all : List (Bor (List ℕ))). texts all ++ end ∷ []) is ∙ ap (λ (line : List ℕ). line ∷ texts rest ++ end ∷ []) head)
 
-pub step_refused : (lines rest : List (Bor (List ℕ))) (first : Bor (List ℕ)) (end : List ℕ) (place told : ℕ) → lines ≡ first ∷ rest → first.now ≡ room_header → StopsAt (texts rest) place → told ≡ min (place + 2) (2 ^ 32 - 1) → AreRefusedPieces (texts lines ++ end ∷ []) (Line told)
+pub step_refused : (lines rest : List (Bor (List ℕ))) (first : Bor (List ℕ)) (end : List ℕ) (place told : ℕ) → lines ≡ first ∷ rest → first.now ≡ room_header → StopsAtRoomLine (texts rest) place → told ≡ min (place + 2) (2 ^ 32 - 1) → AreRefusedRoomPieces (texts lines ++ end ∷ []) (Line told)
 step_refused lines rest first end place told is head stops number =
-    let P : List (List ℕ) → Type 0 = λ cut. AreRefusedPieces cut (Line told) in
+    let P : List (List ℕ) → Type 0 = λ cut. AreRefusedRoomPieces cut (Line told) in
     subst P (cut_is lines rest first end is head) (wrong_call (texts rest) end place told stops number)
 
-pub end_refused : (lines rest : List (Bor (List ℕ))) (first : Bor (List ℕ)) (end : List ℕ) (steps : List RoomStep) (told : ℕ) → lines ≡ first ∷ rest → first.now ≡ room_header → HaveRoomLines (texts rest) steps → end ≢ [] → told ≡ min (length rest + 2) (2 ^ 32 - 1) → AreRefusedPieces (texts lines ++ end ∷ []) (Line told)
+pub end_refused : (lines rest : List (Bor (List ℕ))) (first : Bor (List ℕ)) (end : List ℕ) (steps : List RoomStep) (told : ℕ) → lines ≡ first ∷ rest → first.now ≡ room_header → HaveRoomLines (texts rest) steps → end ≢ [] → told ≡ min (length rest + 2) (2 ^ 32 - 1) → AreRefusedRoomPieces (texts lines ++ end ∷ []) (Line told)
 end_refused lines rest first end steps told is head are more number =
-    let P : List (List ℕ) → Type 0 = λ cut. AreRefusedPieces cut (Line told) in
+    let P : List (List ℕ) → Type 0 = λ cut. AreRefusedRoomPieces cut (Line told) in
     let count : told ≡ min (length (texts rest) + 2) (2 ^ 32 - 1) = rw length-map number in
     subst P (cut_is lines rest first end is head) (unended (texts rest) end steps told are more count)
 

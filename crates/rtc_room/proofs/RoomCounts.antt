@@ -2,10 +2,10 @@
 use Rattle.std.proofs.Common.{◌≡◌, ◌∙◌, ◌+◌, ℕ, List, [], ◌∷◌, length, refl, sym, ap, length-append}
 use Rattle.std.specs.declared.alloc.Global.{Global}
 use Rattle.rtc_run_plain.specs.ProgramPair.{PlainPairState}
-use Rattle.rtc_room_hub.specs.RoomRuns.{RoomRuns, room_replies, room_steps}
-use Rattle.rtc_room_hub.specs.RoomSteps.{RoomEntry}
-use Rattle.rtc_room_hub.specs.declared.room_reply.RoomReply.{RoomReply}
-use Rattle.rtc_room_hub.specs.declared.room_step.RoomStep.{RoomStep}
+use Rattle.rtc_room_steps.specs.RoomRuns.{RoomRuns, room_replies, room_steps}
+use Rattle.rtc_room_steps.specs.RoomSteps.{RoomEntry}
+use Rattle.rtc_room_steps.specs.declared.room_reply.RoomReply.{RoomReply}
+use Rattle.rtc_room_steps.specs.declared.room_step.RoomStep.{RoomStep}
 
 counts : (past : List RoomEntry) → length (room_replies past) ≡ length (room_steps past)
 counts [] = refl

@@ -8,12 +8,12 @@ use Rattle.rtc_run_history.specs.declared.step.Step.{Step}
 use Rattle.rtc_run_history.specs.Sizes.{step_size}
 use Rattle.rtc_script.specs.Lines.{AreStepWords}
 use Rattle.rtc_script.proofs.SmallScripts.{words_small}
-use Rattle.rtc_room_hub.specs.RoomSizes.{room_size, room_step_size}
-use Rattle.rtc_room_hub.specs.declared.room_step.RoomStep.{RoomStep}
-use Rattle.rtc_room_hub.specs.declared.room_step.RoomStep.TheVariants.{Join, Leave, Perform, Arrive, Forward}
+use Rattle.rtc_room_steps.specs.RoomSizes.{room_size, room_step_size}
+use Rattle.rtc_room_steps.specs.declared.room_step.RoomStep.{RoomStep}
+use Rattle.rtc_room_steps.specs.declared.room_step.RoomStep.TheVariants.{Join, Leave, Perform, Arrive, Forward}
 use Rattle.rtc_room.specs.RoomLines.{AreDoWords, AreRoomWords, AreWordsOf, IsRoomLine}
 use Rattle.rtc_room.specs.RoomScript.{HaveRoomLines, IsRoomScript, room_header}
-use Rattle.rtc_room.specs.declared.script_error.ScriptError.{ScriptError}
+use Rattle.rtc_room.specs.declared.room_script_error.RoomScriptError.{RoomScriptError}
 
 joined_more : (word next : List ℕ) (rest : List (List ℕ)) → length (join_with_byte 32 (word ∷ next ∷ rest)) ≡ length word + 1 + length (join_with_byte 32 (next ∷ rest))
 joined_more word next rest = omega (arith, length-append word (32 ∷ join_with_byte 32 (next ∷ rest)))
@@ -73,6 +73,6 @@ script_small text steps h short =
     omega (arith, sizes, whole, short, text_more room_header h.0)
 
 -- and so do those of a script that is read
-pub read_small : (text : List ℕ) (read : Result (List RoomStep) ScriptError) → IfOk read (λ (steps : List RoomStep). IsRoomScript text steps) → length text ≤ 2 ^ 20 → IfOk read (λ (steps : List RoomStep). room_size steps < 2 ^ 32)
+pub read_small : (text : List ℕ) (read : Result (List RoomStep) RoomScriptError) → IfOk read (λ (steps : List RoomStep). IsRoomScript text steps) → length text ≤ 2 ^ 20 → IfOk read (λ (steps : List RoomStep). room_size steps < 2 ^ 32)
 read_small text (Ok steps) is short = script_small text steps is short
 read_small text (Err error) is short = tt

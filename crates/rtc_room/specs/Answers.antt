@@ -4,12 +4,13 @@ use Rattle.std.specs.Io.KnownBytes.{Appends}
 use Rattle.std.specs.declared.alloc.Global.{Global}
 use Rattle.rtc_io.specs.Programs.{Program, ReadsInput}
 use Rattle.rtc_run_plain.specs.ProgramPair.{PlainPairState}
-use Rattle.rtc_room_hub.specs.RoomRuns.{RoomRuns}
-use Rattle.rtc_room_hub.specs.declared.room_reply.RoomReply.{RoomReply}
-use Rattle.rtc_room_hub.specs.declared.room_step.RoomStep.{RoomStep}
+use Rattle.rtc_room_steps.specs.RoomRuns.{RoomRuns}
+use Rattle.rtc_room_steps.specs.declared.room_reply.RoomReply.{RoomReply}
+use Rattle.rtc_room_steps.specs.declared.room_step.RoomStep.{RoomStep}
+use Rattle.rtc_room_laws.specs.RoomHandsOn.{RoomHandsOn}
 use Rattle.rtc_room.specs.RoomReport.{room_report}
-use Rattle.rtc_room.specs.RoomScript.{IsRoomScript, IsRefusedScript}
-use Rattle.rtc_room.specs.declared.script_error.ScriptError.TheVariants.{Line}
+use Rattle.rtc_room.specs.RoomScript.{IsRoomScript, IsRefusedRoomScript}
+use Rattle.rtc_room.specs.declared.room_script_error.RoomScriptError.TheVariants.{Line}
 
 -- This text is the report of a room that was empty over these steps.
 pub record IsRoomReport (alloc : Global) (steps : List RoomStep) (text : List ℕ) : Type 0 where
@@ -24,15 +25,16 @@ room_program alloc = record {
   usage = codes "usage: rtc_room run\n";
   subject = codes "script";
   IsRead = IsRoomScript;
-  IsRefusedAt = λ bytes line. IsRefusedScript bytes (Line line);
+  IsRefusedAt = λ bytes line. IsRefusedRoomScript bytes (Line line);
   IsAnswer = IsRoomReport alloc;
 }
 
--- A room that was empty took these steps, and the report of its replies was written.
+-- A room that was empty took these steps, the report of its replies was written, and its members heard each other.
 pub record WritesReport (alloc : Global) (steps : List RoomStep) (written written' : Option (List ℕ)) : Type 0 where
   pub replies : List RoomReply
   pub pairs : List PlainPairState
   pub runs : RoomRuns alloc steps replies pairs
+  pub hands_on : RoomHandsOn alloc steps replies pairs runs
   pub told : Appends written written' (room_report replies)
 
 -- A script was read to the end of the input, and its steps were taken.

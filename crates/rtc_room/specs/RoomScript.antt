@@ -2,10 +2,10 @@
 use Rattle.std.specs.Prelude.{◌≡◌, ◌+◌, ◌-◌, ◌^◌, ◌<◌, ℕ, List, [], ◌∷◌, ◌++◌, length, take, min, codes}
 use Rattle.std.specs.List.{AllZip}
 use Rattle.rtc_wire_text.specs.Lines.{pieces}
-use Rattle.rtc_room_hub.specs.declared.room_step.RoomStep.{RoomStep}
+use Rattle.rtc_room_steps.specs.declared.room_step.RoomStep.{RoomStep}
 use Rattle.rtc_room.specs.RoomLines.{IsRoomLine}
-use Rattle.rtc_room.specs.declared.script_error.ScriptError.{ScriptError}
-use Rattle.rtc_room.specs.declared.script_error.ScriptError.TheVariants.{Line, Alloc}
+use Rattle.rtc_room.specs.declared.room_script_error.RoomScriptError.{RoomScriptError}
+use Rattle.rtc_room.specs.declared.room_script_error.RoomScriptError.TheVariants.{Line, Alloc}
 
 -- the first line
 abbrev pub room_header : List ℕ
@@ -33,22 +33,22 @@ abbrev pub BeginsRoomScript : List (List ℕ) → ℕ → Type 0
 BeginsRoomScript cut count = (count < length cut) × ((steps : List RoomStep) × AreFirstRoomLines (take count cut) steps)
 
 -- the least line that may not follow those before it
-abbrev pub IsLeastRefused : List (List ℕ) → ℕ → Type 0
-IsLeastRefused cut n = ((k : ℕ) → k < n → BeginsRoomScript cut k) × (BeginsRoomScript cut n → ⊥)
+abbrev pub IsLeastRefusedRoomLine : List (List ℕ) → ℕ → Type 0
+IsLeastRefusedRoomLine cut n = ((k : ℕ) → k < n → BeginsRoomScript cut k) × (BeginsRoomScript cut n → ⊥)
 
 -- pieces are refused at their least refused line, exactly if they are of no script; a number past 2 ^ 32 - 1 is reported as that
-abbrev pub AreRefusedPieces : List (List ℕ) → ScriptError → Type 0
-AreRefusedPieces cut (Line told) =
-    ((steps : List RoomStep) → AreRoomPieces cut steps → ⊥) × ((n : ℕ) × IsLeastRefused cut n × (told ≡ min n (2 ^ 32 - 1)))
-AreRefusedPieces cut Alloc = Unit {0}
+abbrev pub AreRefusedRoomPieces : List (List ℕ) → RoomScriptError → Type 0
+AreRefusedRoomPieces cut (Line told) =
+    ((steps : List RoomStep) → AreRoomPieces cut steps → ⊥) × ((n : ℕ) × IsLeastRefusedRoomLine cut n × (told ≡ min n (2 ^ 32 - 1)))
+AreRefusedRoomPieces cut Alloc = Unit {0}
 
 -- a text is refused
-abbrev pub IsRefusedScript : List ℕ → ScriptError → Type 0
-IsRefusedScript text error = AreRefusedPieces (pieces text) error
+abbrev pub IsRefusedRoomScript : List ℕ → RoomScriptError → Type 0
+IsRefusedRoomScript text error = AreRefusedRoomPieces (pieces text) error
 
 -- the lines before a place are lines of steps, and with the one there they are not
-abbrev pub StopsAt : List (List ℕ) → ℕ → Type 0
-StopsAt lines place =
+abbrev pub StopsAtRoomLine : List (List ℕ) → ℕ → Type 0
+StopsAtRoomLine lines place =
     (place < length lines)
     × ((steps : List RoomStep) × HaveRoomLines (take place lines) steps)
     × ((steps : List RoomStep) → HaveRoomLines (take (place + 1) lines) steps → ⊥)

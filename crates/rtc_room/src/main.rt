@@ -4,7 +4,7 @@
 mod asking;
 mod reading;
 mod replying;
-mod script_error;
+mod room_script_error;
 mod step_lines;
 mod step_words;
 mod top;
@@ -12,10 +12,11 @@ mod top;
 pub use asking::ask_to_run;
 pub use reading::read_script;
 pub use replying::write_room_report;
+pub use room_script_error::RoomScriptError;
 use rtc_io::{OUT_OF_MEMORY, collect_words};
 pub use rtc_io::{MemSink, MemSource, Sink, Source, StdSink, StdSource};
-pub use rtc_room_hub::{RoomReply, RoomStep, run_room};
-pub use script_error::ScriptError;
+pub use rtc_room_hub::run_room;
+pub use rtc_room_steps::{RoomReply, RoomStep};
 use std::process::ExitCode;
 pub use top::room_main;
 

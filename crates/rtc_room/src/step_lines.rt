@@ -1,11 +1,11 @@
 //! The steps of many lines.
 ghost use Rattle.std.specs.Prelude.{◌≡◌, IfOk, IfErr, map};
 ghost use Rattle.rtc_room.specs.RoomScript.{HaveRoomLines};
-ghost use Rattle.rtc_room.specs.LinesRead.{IsLinesError};
+ghost use Rattle.rtc_room.specs.LinesRead.{IsRoomLinesError};
 ghost use Rattle.rtc_room.specs.declared.step_lines.LinesError.TheVariants.{Alloc};
 
 use crate::step_words::read_room_line;
-use rtc_room_hub::RoomStep;
+use rtc_room_steps::RoomStep;
 use std::alloc::{AllocError, AllocFailed, Global};
 
 /// Why lines behind a header are not lines of steps.
@@ -35,7 +35,7 @@ impl<T: Drop> From<AllocFailed<T>> for LinesError {
 /// Reads the lines behind a header, one step each.
 pub fn read_room_steps(alloc: Global, lines: &[&[u8]]) -> Result<Vec<RoomStep>, LinesError>
     ensures ok { IfOk result (λ steps. HaveRoomLines (map (λ line. line.now) lines.now) steps.items) }
-    ensures err { IfErr result (λ error. IsLinesError (map (λ line. line.now) lines.now) error) }
+    ensures err { IfErr result (λ error. IsRoomLinesError (map (λ line. line.now) lines.now) error) }
 {
     let mut steps = Vec::new(alloc);
     for (i, line) in lines.iter().enumerate() {

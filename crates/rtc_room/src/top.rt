@@ -4,13 +4,14 @@ ghost use Rattle.std.specs.Io.KnownBytes.{Appends};
 ghost use Rattle.rtc_io.specs.Faults.{Rose};
 ghost use Rattle.rtc_io.specs.Saying.{BreaksOff};
 ghost use Rattle.rtc_io.specs.Programs.{IsDue, IsTooLong, RefusesInput, fault_line, long_line};
-ghost use Rattle.rtc_room_hub.specs.RoomSizes.{room_size};
-ghost use Rattle.rtc_room.specs.Asking.{asks_to_run};
+ghost use Rattle.rtc_room_steps.specs.RoomSizes.{room_size};
+ghost use Rattle.rtc_room.specs.Asking.{asks_to_run_room};
 ghost use Rattle.rtc_room.specs.Answers.{IsRoomReport, RunsRoomScript, WritesReport, room_program};
 
-use crate::{ScriptError, ask_to_run, read_script, write_room_report};
+use crate::{RoomScriptError, ask_to_run, read_script, write_room_report};
 use rtc_io::{OUT_OF_MEMORY, Sink, Source, USAGE, read_input, refuse_input, say};
-use rtc_room_hub::{RoomStep, run_room};
+use rtc_room_hub::run_room;
+use rtc_room_steps::RoomStep;
 use std::alloc::Global;
 
 // Takes steps in a room that is empty, and writes the report.
@@ -44,21 +45,21 @@ pub fn room_main<R: Source, W: Sink>(
 ) -> u8
     ensures done { result ≡ 0
         → RunsRoomScript alloc (R.left input.old) (R.left input.new) (W.written output.old) (W.written output.new) }
-    ensures usage { result ≡ 2 → (asks_to_run (map (λ word. string_bytes word) words.now) ≡ false)
+    ensures usage { result ≡ 2 → (asks_to_run_room (map (λ word. string_bytes word) words.now) ≡ false)
         × Appends (W.written output.old) (W.written output.new) (room_program alloc).usage }
     ensures refused { result ≡ 3
         → RefusesInput (room_program alloc) (R.left input.old) (R.left input.new) (W.written output.old) (W.written output.new) }
     ensures read { result ≡ 4
         → Rose (R.faults input.old) (R.faults input.new) × Appends (W.written output.old) (W.written output.new) fault_line }
-    ensures write { let asked = asks_to_run (map (λ word. string_bytes word) words.now) in result ≡ 5 → BreaksOff
+    ensures write { let asked = asks_to_run_room (map (λ word. string_bytes word) words.now) in result ≡ 5 → BreaksOff
         (IsDue (room_program alloc) (asked ≡ false) (asked ≡ true)
         (R.left input.old) (R.left input.new) (R.faults input.old) (R.faults input.new))
         (W.written output.old) (W.written output.new) (W.faults output.old) (W.faults output.new) }
     ensures memory { result ≡ 6 → output.new ≡ output.old }
     ensures long { result ≡ 7
         → IsTooLong (R.left input.old) × Appends (W.written output.old) (W.written output.new) (long_line (room_program alloc).subject) }
-    ensures unread { asks_to_run (map (λ word. string_bytes word) words.now) ≡ false → input.new ≡ input.old }
-    ensures asked { asks_to_run (map (λ word. string_bytes word) words.now) ≡ false → (result ≡ 2) ⊎ (result ≡ 5) }
+    ensures unread { asks_to_run_room (map (λ word. string_bytes word) words.now) ≡ false → input.new ≡ input.old }
+    ensures asked { asks_to_run_room (map (λ word. string_bytes word) words.now) ≡ false → (result ≡ 2) ⊎ (result ≡ 5) }
     ensures statuses { (result ≢ 1) × (result < 8) }
 {
     if !ask_to_run(words) {
@@ -70,7 +71,7 @@ pub fn room_main<R: Source, W: Sink>(
     };
     match read_script(alloc, bytes.as_slice()) {
         Ok(steps) => perform_steps(alloc, steps.as_slice(), output),
-        Err(ScriptError::Line(line)) => refuse_input(alloc, "script", line, output),
-        Err(ScriptError::Alloc) => OUT_OF_MEMORY,
+        Err(RoomScriptError::Line(line)) => refuse_input(alloc, "script", line, output),
+        Err(RoomScriptError::Alloc) => OUT_OF_MEMORY,
     }
 }

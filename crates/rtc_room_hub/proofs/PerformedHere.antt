@@ -9,10 +9,10 @@ use Rattle.rtc_run_history.specs.PairState.{rtc_at}
 use Rattle.rtc_run_history.specs.Past.{Entry}
 use Rattle.rtc_run_history.specs.Sides.{side_of}
 use Rattle.rtc_run_plain.specs.ProgramPair.{PlainPairState}
-use Rattle.rtc_room_hub.specs.Hearing.{members_behind}
-use Rattle.rtc_room_hub.specs.Members.{MemberState}
-use Rattle.rtc_room_hub.specs.RoomSizes.{HaveRoom}
-use Rattle.rtc_room_hub.specs.RoomSteps.{PerformsAt, PerformsHere}
+use Rattle.rtc_room_steps.specs.Hearing.{members_behind}
+use Rattle.rtc_room_steps.specs.Members.{MemberState}
+use Rattle.rtc_room_steps.specs.RoomSizes.{HaveRoom}
+use Rattle.rtc_room_steps.specs.RoomSteps.{PerformsAt, PerformsHere}
 use Rattle.rtc_room_hub.proofs.RoomSoFar.{room_of}
 
 -- there is room at each place

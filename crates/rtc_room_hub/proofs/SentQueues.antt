@@ -10,18 +10,18 @@ use Rattle.rtc_run_history.specs.Memory.{lacks_memory}
 use Rattle.rtc_run_history.specs.Past.{Entry}
 use Rattle.rtc_run_history.specs.Performs.{Performs}
 use Rattle.rtc_run_plain.specs.ProgramPair.{PlainPairState, plain_parts}
-use Rattle.rtc_room_hub.specs.Forwarding.{Forwards, SendsItems, WriteEnd, NotTaken, NotOpen, WriteRefused, is_refusal}
-use Rattle.rtc_room_hub.specs.Members.{MemberState, item_bytes, put_out_member}
-use Rattle.rtc_room_hub.specs.SentItems.{SendsItem, SentUpTo, sent_of}
-use Rattle.rtc_room_hub.specs.declared.item.Item.{Item}
-use Rattle.rtc_room_hub.specs.declared.room_reply.RoomReply.{RoomReply}
-use Rattle.rtc_room_hub.specs.declared.room_reply.RoomReply.TheVariants.{Forwarded, PutOut}
+use Rattle.rtc_room_steps.specs.Forwarding.{Forwards, SendsItems, WriteEnd, NotTaken, NotOpen, WriteRefused, is_write_refused}
+use Rattle.rtc_room_steps.specs.Members.{MemberState, item_bytes, put_out_member}
+use Rattle.rtc_room_hub.specs.SentItems.{SendsItem, SentUpTo, sent_in_outcome}
+use Rattle.rtc_room_steps.specs.declared.item.Item.{Item}
+use Rattle.rtc_room_steps.specs.declared.room_reply.RoomReply.{RoomReply}
+use Rattle.rtc_room_steps.specs.declared.room_reply.RoomReply.TheVariants.{Forwarded, PutOut}
 use Rattle.rtc_room_hub.specs.declared.sent.Sent.{Sent}
 
 -- one item
 pub sends_one : (line : ℕ) (item : Item) (bytes : List ℕ) (before after : PlainPairState) (reply : Reply PlainMediaEvent) (sent : Sent) → bytes ≡ item_bytes item
     → Performs plain_parts is_ice_message before (Write Left line true bytes) reply.outcome reply.table after → lacks_memory reply ≡ false
-    → sent ≡ sent_of reply.outcome → SendsItem line item before sent after
+    → sent ≡ sent_in_outcome reply.outcome → SendsItem line item before sent after
 sends_one line item bytes before after reply sent is performs lasts sent_is = record {
   outcome = reply.outcome;
   table = reply.table;
@@ -35,7 +35,7 @@ abbrev pub SomeForwards : (out : Bool) → (line : Option ℕ) → MemberState �
 SomeForwards out line member before reply member' after =
     (performed : List (Entry PlainMediaEvent)) × (length performed ≤ 1024) × Forwards out line member before reply performed member' after
 
-refusal_is : (end : Option WriteEnd) → is_refusal end ≡ true → (error : RtcError) × (end ≡ Some (WriteRefused error))
+refusal_is : (end : Option WriteEnd) → is_write_refused end ≡ true → (error : RtcError) × (end ≡ Some (WriteRefused error))
 refusal_is None h = absurd (true≢false (sym h))
 refusal_is (Some NotTaken) h = absurd (true≢false (sym h))
 refusal_is (Some NotOpen) h = absurd (true≢false (sym h))
@@ -51,7 +51,7 @@ pub forwards_refused : (line : ℕ) (items : List Item) (member member' : Member
     → SomeForwards false (Some line) member before PutOut member' after
 forwards_refused line items member member' taken refused before after is few h was gone =
     let sent : SentUpTo line member.queue taken refused before after = sent_queue line items member.queue taken refused before after is h in
-    let refusal : is_refusal sent.end ≡ true = sent.refusal ∙ was in
+    let refusal : is_write_refused sent.end ≡ true = sent.refusal ∙ was in
     let found : (error : RtcError) × (sent.end ≡ Some (WriteRefused error)) = refusal_is sent.end refusal in
     let count : length sent.performed ≤ length member.queue = sent.sends.few in
     let most : length member.queue ≤ 1024 = subst (λ (l : List Item). length l ≤ 1024) is few in (

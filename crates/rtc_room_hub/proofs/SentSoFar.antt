@@ -14,10 +14,10 @@ use Rattle.rtc_run_history.specs.Runs.{Reached}
 use Rattle.rtc_run.specs.ExtendsRun.{entry_between}
 use Rattle.rtc_run_laws.specs.PlainPairs.{PlainPolled}
 use Rattle.rtc_run_plain.specs.ProgramPair.{PlainPairState, plain_parts}
-use Rattle.rtc_room_hub.specs.Forwarding.{AreTaken, AreWritten, WriteEnd, NotTaken, NotOpen, WriteRefused, end_outcome, is_refusal, write_of}
-use Rattle.rtc_room_hub.specs.Members.{item_bytes}
-use Rattle.rtc_room_hub.specs.SentItems.{SendsItem, SentUpTo, sent_of}
-use Rattle.rtc_room_hub.specs.declared.item.Item.{Item}
+use Rattle.rtc_room_steps.specs.Forwarding.{AreTaken, AreWritten, WriteEnd, NotTaken, NotOpen, WriteRefused, end_outcome, is_write_refused, write_of}
+use Rattle.rtc_room_steps.specs.Members.{item_bytes}
+use Rattle.rtc_room_hub.specs.SentItems.{SendsItem, SentUpTo, sent_in_outcome}
+use Rattle.rtc_room_steps.specs.declared.item.Item.{Item}
 use Rattle.rtc_room_hub.specs.declared.sent.Sent.{Sent}
 use Rattle.rtc_room_hub.specs.declared.sent.Sent.TheVariants.{Taken, Waits, Refused as WasRefused}
 use Rattle.rtc_room_hub.proofs.RoomMoves.{taken_size}
@@ -46,7 +46,7 @@ written_is (Some stream) binary bytes old new (Wrote taken) (Some table) h lasts
 written_is (Some stream) binary bytes old new (Refused error) (Some table) h lasts = tt
 written_is (Some stream) binary bytes old new outcome table h lasts = absurd h
 
-taken_is : (outcome : Outcome PlainMediaEvent) → IsWritten outcome → sent_of outcome ≡ Taken → outcome ≡ Wrote true
+taken_is : (outcome : Outcome PlainMediaEvent) → IsWritten outcome → sent_in_outcome outcome ≡ Taken → outcome ≡ Wrote true
 taken_is (Wrote true) written is = refl
 taken_is (Wrote false) written is = absurd (cc)
 taken_is (Refused error) written is = absurd (cc)
@@ -57,16 +57,16 @@ taken_is outcome written is = absurd written
 pub record Ends (outcome : Outcome PlainMediaEvent) (refused : Bool) : Type 0 where
   pub end : WriteEnd
   pub outcome_is : outcome ≡ end_outcome end
-  pub refusal : is_refusal (Some end) ≡ refused
+  pub refusal : is_write_refused (Some end) ≡ refused
 
-waits_is : (outcome : Outcome PlainMediaEvent) → IsWritten outcome → sent_of outcome ≡ Waits → Ends outcome false
+waits_is : (outcome : Outcome PlainMediaEvent) → IsWritten outcome → sent_in_outcome outcome ≡ Waits → Ends outcome false
 waits_is (Wrote true) written is = absurd (cc)
 waits_is (Wrote false) written is = record { end = NotTaken; outcome_is = refl; refusal = refl }
 waits_is (Refused error) written is = absurd (cc)
 waits_is NoSuch written is = record { end = NotOpen; outcome_is = refl; refusal = refl }
 waits_is outcome written is = absurd written
 
-refused_is : (outcome : Outcome PlainMediaEvent) → IsWritten outcome → sent_of outcome ≡ WasRefused → Ends outcome true
+refused_is : (outcome : Outcome PlainMediaEvent) → IsWritten outcome → sent_in_outcome outcome ≡ WasRefused → Ends outcome true
 refused_is (Wrote true) written is = absurd (cc)
 refused_is (Wrote false) written is = absurd (cc)
 refused_is (Refused error) written is = record { end = WriteRefused error; outcome_is = refl; refusal = refl }

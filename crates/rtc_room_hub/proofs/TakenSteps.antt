@@ -13,14 +13,14 @@ use Rattle.rtc_run_history.specs.Past.{Entry}
 use Rattle.rtc_run_laws.specs.PlainPairs.{PlainPolled}
 use Rattle.rtc_run_plain.specs.NumberedPair.{IsNumberedPair}
 use Rattle.rtc_run_plain.specs.ProgramPair.{PlainPairState, plain_parts}
-use Rattle.rtc_room_hub.specs.Hearing.{heard_in, line_behind, members_told}
-use Rattle.rtc_room_hub.specs.Members.{MemberState, gone_member, hearing_members, is_here, is_present, new_member}
-use Rattle.rtc_room_hub.specs.RoomSteps.{IsFor, JoinsRoom, PerformsHere, RoomState, Takes, TakesStep, is_allowed}
-use Rattle.rtc_room_hub.specs.declared.item.Item.{Item}
-use Rattle.rtc_room_hub.specs.declared.room_reply.RoomReply.{RoomReply}
-use Rattle.rtc_room_hub.specs.declared.room_reply.RoomReply.TheVariants as replied
-use Rattle.rtc_room_hub.specs.declared.room_step.RoomStep.{RoomStep}
-use Rattle.rtc_room_hub.specs.declared.room_step.RoomStep.TheVariants.{Join, Leave, Perform, Arrive, Forward}
+use Rattle.rtc_room_steps.specs.Hearing.{heard_in, line_behind, members_told}
+use Rattle.rtc_room_steps.specs.Members.{MemberState, gone_member, hearing_members, is_here, is_present, new_member}
+use Rattle.rtc_room_steps.specs.RoomSteps.{IsFor, JoinsRoom, PerformsHere, RoomState, TakesRoomStep, TakesStep, is_allowed}
+use Rattle.rtc_room_steps.specs.declared.item.Item.{Item}
+use Rattle.rtc_room_steps.specs.declared.room_reply.RoomReply.{RoomReply}
+use Rattle.rtc_room_steps.specs.declared.room_reply.RoomReply.TheVariants as replied
+use Rattle.rtc_room_steps.specs.declared.room_step.RoomStep.{RoomStep}
+use Rattle.rtc_room_steps.specs.declared.room_step.RoomStep.TheVariants.{Join, Leave, Perform, Arrive, Forward}
 use Rattle.rtc_room_hub.proofs.HeardMembers.{got_there, place_inside}
 use Rattle.rtc_room_hub.proofs.PerformedHere.{some_at}
 use Rattle.rtc_room_hub.proofs.RoomSoFar.{room_of}
@@ -53,19 +53,19 @@ here_inside k members here = present_inside (slice_get members k) k members refl
 -- ---- steps
 
 pub takes_away : (here : Bool) (step : RoomStep) (members : List MemberState) (pairs : List PlainPairState) → here ≡ false
-    → Takes here step replied.NoMember members pairs members pairs
+    → TakesRoomStep here step replied.NoMember members pairs members pairs
 takes_away here step members pairs away =
-    subst (λ (b : Bool). Takes b step replied.NoMember members pairs members pairs) (sym away)
+    subst (λ (b : Bool). TakesRoomStep b step replied.NoMember members pairs members pairs) (sym away)
     ([], (refl, record { room_is = refl; performed_is = refl }))
 
 -- what is done for a member at a place is done for the number that it is found by
 pub on_here : {E : Type 0} (here : Bool) (number k : ℕ) (step : ℕ → RoomStep) (result : Result RoomReply E) (members members' : List MemberState)
     (pairs pairs' : List PlainPairState) → Some k ≡ (if here then Some number else None)
-    → IfOk result (λ reply. Takes true (step k) reply members pairs members' pairs') → IfOk result (λ reply. Takes here (step number) reply members pairs members' pairs')
+    → IfOk result (λ reply. TakesRoomStep true (step k) reply members pairs members' pairs') → IfOk result (λ reply. TakesRoomStep here (step number) reply members pairs members' pairs')
 on_here here number k step result members members' pairs pairs' found h =
     let is : (here ≡ true) × (number ≡ k) = here_is here number k (sym found) in
-    subst (λ (b : Bool). IfOk result (λ reply. Takes b (step number) reply members pairs members' pairs')) (sym is.0)
-    (subst (λ (n : ℕ). IfOk result (λ reply. Takes true (step n) reply members pairs members' pairs')) (sym is.1) h)
+    subst (λ (b : Bool). IfOk result (λ reply. TakesRoomStep b (step number) reply members pairs members' pairs')) (sym is.0)
+    (subst (λ (n : ℕ). IfOk result (λ reply. TakesRoomStep true (step n) reply members pairs members' pairs')) (sym is.1) h)
 
 pub place_here : (number k : ℕ) (members : List MemberState) → Some k ≡ (if is_here number members then Some number else None) → k < length members
 place_here number k members found =
@@ -74,15 +74,15 @@ place_here number k members found =
 
 -- nobody of this number is here
 pub on_away : (number : ℕ) (step : RoomStep) (members : List MemberState) (pairs : List PlainPairState) → None ≡ (if is_here number members then Some number else None)
-    → Takes (is_here number members) step replied.NoMember members pairs members pairs
+    → TakesRoomStep (is_here number members) step replied.NoMember members pairs members pairs
 on_away number step members pairs found = takes_away (is_here number members) step members pairs (away_is (is_here number members) number (sym found))
 
 pub leaves : (number k : ℕ) (members members' : List MemberState) (pairs : List PlainPairState) → Some k ≡ (if is_here number members then Some number else None)
     → ((member : MemberState) → slice_get members k ≡ Some member → members' ≡ slice_set members k (gone_member member))
-    → Takes (is_here number members) (Leave number) replied.Left members pairs members' pairs
+    → TakesRoomStep (is_here number members) (Leave number) replied.Left members pairs members' pairs
 leaves number k members members' pairs is left =
     let found : (x : MemberState) × (slice_get members k ≡ Some x) = some_at members k (place_here number k members is) in
-    let taken : Takes true (Leave k) replied.Left members pairs members' pairs = (
+    let taken : TakesRoomStep true (Leave k) replied.Left members pairs members' pairs = (
       [],
       record {
         member = found.0;
@@ -92,29 +92,29 @@ leaves number k members members' pairs is left =
       },
     ) in
     let is_found : (is_here number members ≡ true) × (number ≡ k) = here_is (is_here number members) number k (sym is) in
-    subst (λ (b : Bool). Takes b (Leave number) replied.Left members pairs members' pairs) (sym is_found.0)
-    (subst (λ (n : ℕ). Takes true (Leave n) replied.Left members pairs members' pairs) (sym is_found.1) taken)
+    subst (λ (b : Bool). TakesRoomStep b (Leave number) replied.Left members pairs members' pairs) (sym is_found.0)
+    (subst (λ (n : ℕ). TakesRoomStep true (Leave n) replied.Left members pairs members' pairs) (sym is_found.1) taken)
 
 -- ---- steps at a place
 
 pub refuses_step : (k : ℕ) (step : Step) (allowed : Bool) (members : List MemberState) (pairs : List PlainPairState) → allowed ≡ is_allowed step → allowed ≡ false
-    → Takes true (Perform k step) replied.NotAllowed members pairs members pairs
+    → TakesRoomStep true (Perform k step) replied.NotAllowed members pairs members pairs
 refuses_step k step allowed members pairs is refused = ([], (sym is ∙ refused, record { room_is = refl; performed_is = refl }))
 
 pub takes_step : (k : ℕ) (step : Step) (allowed : Bool) (reply : Reply PlainMediaEvent) (members members' : List MemberState) (pairs pairs' : List PlainPairState)
     → allowed ≡ is_allowed step → allowed ≡ true
     → (performed : List (Entry PlainMediaEvent)) × PerformsHere k step reply (room_of members pairs) performed (room_of members' pairs')
-    → Takes true (Perform k step) (replied.Performed reply) members pairs members' pairs'
+    → TakesRoomStep true (Perform k step) (replied.Performed reply) members pairs members' pairs'
 takes_step k step allowed reply members members' pairs pairs' is granted h = (h.0, (sym is ∙ granted, h.1))
 
 pub refuses_datagram : (k packet now : ℕ) (found : Option ℕ) (members : List MemberState) (pairs : List PlainPairState) → IsFor k packet now (room_of members pairs) found
-    → found ≢ Some k → Takes true (Arrive k packet now) replied.NoMember members pairs members pairs
+    → found ≢ Some k → TakesRoomStep true (Arrive k packet now) replied.NoMember members pairs members pairs
 refuses_datagram k packet now found members pairs addressed other = ([], (found, addressed, other, record { room_is = refl; performed_is = refl }))
 
 pub takes_datagram : (k packet now : ℕ) (found : Option ℕ) (reply : Reply PlainMediaEvent) (members members' : List MemberState) (pairs pairs' : List PlainPairState)
     → IsFor k packet now (room_of members pairs) found → found ≡ Some k
     → (performed : List (Entry PlainMediaEvent)) × PerformsHere k (Datagram Left packet now) reply (room_of members pairs) performed (room_of members' pairs')
-    → Takes true (Arrive k packet now) (replied.Performed reply) members pairs members' pairs'
+    → TakesRoomStep true (Arrive k packet now) (replied.Performed reply) members pairs members' pairs'
 takes_datagram k packet now found reply members members' pairs pairs' addressed is h =
     (h.0, (subst (λ (f : Option ℕ). IsFor k packet now (room_of members pairs) f) is addressed, h.1))
 
@@ -176,7 +176,7 @@ told_ok (Ok done) k room line line' p outputs items d d' members with_line membe
 pub forwards_takes : {E : Type 0} (k : ℕ) (result : Result RoomReply E) (members : List MemberState) (pairs : List PlainPairState) (d member' : MemberState)
     (e after : PlainPairState) → k < length members → k < length pairs
     → IfOk result (λ reply. SomeForwards (get_or members k d).is_put_out (get_or members k d).line (get_or members k d) (get_or pairs k e) reply member' after)
-    → IfOk result (λ reply. Takes true (Forward k) reply members pairs (slice_set members k member') (slice_set pairs k after))
+    → IfOk result (λ reply. TakesRoomStep true (Forward k) reply members pairs (slice_set members k member') (slice_set pairs k after))
 forwards_takes k (Err error) members pairs d member' e after inside within h = tt
 forwards_takes k (Ok reply) members pairs d member' e after inside within h = (
   h.0,

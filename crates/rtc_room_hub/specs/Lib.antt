@@ -1,8 +1,1 @@
-pub mod Members
-pub mod Hearing
-pub mod Accepting
-pub mod Forwarding
 pub mod SentItems
-pub mod RoomSteps
-pub mod RoomSizes
-pub mod RoomRuns

@@ -1,7 +1,7 @@
 //! Which member a datagram is for.
 ghost use Rattle.std.specs.Prelude.{◌≡◌, length};
 ghost use Rattle.std.specs.Option.{option_copied};
-ghost use Rattle.rtc_room_hub.specs.Accepting.{IsAddressee, accepts, first_accepting};
+ghost use Rattle.rtc_room_steps.specs.Accepting.{IsAddressee, accepts, first_accepting};
 
 use crate::member::Member;
 use rtc_peer::Input;

@@ -2,20 +2,20 @@
 ghost use Rattle.std.specs.Prelude.{◌≡◌, ◌≤◌, ◌+◌, ◌<◌, ◌^◌, List, Some, false, length, IfOk};
 ghost use Rattle.rtc_plain_media.specs.declared.plain_media_event.PlainMediaEvent.{PlainMediaEvent};
 ghost use Rattle.rtc_run_history.specs.Past.{Entry};
-ghost use Rattle.rtc_room_hub.specs.Forwarding.{Forwards};
-ghost use Rattle.rtc_room_hub.specs.SentItems.{SendsItem, SentUpTo, sent_of};
+ghost use Rattle.rtc_room_steps.specs.Forwarding.{Forwards};
+ghost use Rattle.rtc_room_hub.specs.SentItems.{SendsItem, SentUpTo, sent_in_outcome};
 
 use crate::member::Member;
 use crate::sent::{Sent, SentItems};
-use crate::{Item, RoomReply};
 use rtc_plain::PlainMediaEvent;
+use rtc_room_steps::{Item, RoomReply};
 use rtc_run_history::{Outcome, Side, Step};
 use rtc_run_plain::PlainPair;
 use rtc_wire::ChannelId;
 use std::alloc::{AllocError, Global};
 
-fn sent_of(outcome: &Outcome<PlainMediaEvent>) -> Sent
-    ensures { result ≡ sent_of outcome.now }
+fn sent_in_outcome(outcome: &Outcome<PlainMediaEvent>) -> Sent
+    ensures { result ≡ sent_in_outcome outcome.now }
 {
     match outcome {
         Outcome::Wrote { taken } => { if *taken { Sent::Taken } else { Sent::Waits } }
@@ -45,7 +45,7 @@ fn send_item(
     if reply.is_out_of_memory() {
         return Err(AllocError);
     }
-    Ok(sent_of(&reply.outcome))
+    Ok(sent_in_outcome(&reply.outcome))
 }
 
 // Writes items to the line of a member, until one is not taken.

@@ -1,18 +1,20 @@
 //! Runs of rooms.
 ghost use Rattle.std.specs.Prelude.{◌≡◌, ◌<◌, ◌^◌, [], IfOk};
-ghost use Rattle.rtc_room_hub.specs.RoomRuns.{RoomRuns};
-ghost use Rattle.rtc_room_hub.specs.RoomSizes.{room_size};
+ghost use Rattle.rtc_room_laws.specs.RoomHandsOn.{RoomHandsOn};
+ghost use Rattle.rtc_room_steps.specs.RoomRuns.{RoomRuns};
+ghost use Rattle.rtc_room_steps.specs.RoomSizes.{room_size};
 
 use crate::taking::take_step;
-use crate::{RoomReply, RoomStep};
+use rtc_room_steps::{RoomReply, RoomStep};
 use rtc_run_plain::PlainPair;
 use rtc_wire::Seq;
 use std::alloc::{AllocError, Global};
 
 /// Takes the steps of a room in order, and returns a reply for each.
 ///
-/// `pairs` then has the pair of each member that joined, by its number, also of those that have left. Running out of memory in any step ends
-/// it with an error, of a step of a pair too.
+/// What a member receives of another one is a prefix of what the hub heard of that one while both were in one room. `pairs` then has the
+/// pair of each member that joined, by its number, also of those that have left. Running out of memory in any step ends it with an error, of
+/// a step of a pair too.
 pub fn run_room(
     alloc: Global,
     steps: &[RoomStep],
@@ -20,7 +22,9 @@ pub fn run_room(
 ) -> Result<Seq<RoomReply>, AllocError>
     requires empty { pairs.old.items ≡ [] }
     requires sizes { room_size steps.now < 2 ^ 32 }
-    ensures { IfOk result (λ replies. RoomRuns alloc steps.now replies pairs.new.items) }
+    ensures runs { IfOk result (λ replies. RoomRuns alloc steps.now replies pairs.new.items) }
+    ensures hands_on { IfOk result (λ replies. (run : RoomRuns alloc steps.now replies pairs.new.items)
+        → RoomHandsOn alloc steps.now replies pairs.new.items run) }
 {
     let mut replies = Vec::with_capacity(alloc, steps.len())?;
     let mut members = Vec::new(alloc);

@@ -3,10 +3,10 @@ ghost use Rattle.std.specs.Prelude.{◌≡◌, ◌↔◌, ◌≤◌, ◌<◌, Is
 ghost use Rattle.rtc_plain_media.specs.declared.plain_media_event.PlainMediaEvent.{PlainMediaEvent};
 ghost use Rattle.rtc_run_history.specs.Past.{Entry};
 ghost use Rattle.rtc_run_history.specs.Sizes.{step_size};
-ghost use Rattle.rtc_room_hub.specs.Members.{MemberState, gone_member, is_here};
-ghost use Rattle.rtc_room_hub.specs.RoomSizes.{HaveRoom, room_step_size};
-ghost use Rattle.rtc_room_hub.specs.RoomSteps.{IsFor, JoinsRoom, Takes, TakesStep};
-ghost use Rattle.rtc_room_hub.specs.declared.room_step.RoomStep.TheVariants.{
+ghost use Rattle.rtc_room_steps.specs.Members.{MemberState, gone_member, is_here};
+ghost use Rattle.rtc_room_steps.specs.RoomSizes.{HaveRoom, room_step_size};
+ghost use Rattle.rtc_room_steps.specs.RoomSteps.{IsFor, JoinsRoom, TakesRoomStep, TakesStep};
+ghost use Rattle.rtc_room_steps.specs.declared.room_step.RoomStep.TheVariants.{
   Leave as LeaveOf,
   Perform as PerformOf,
   Arrive as ArriveOf,
@@ -17,7 +17,7 @@ use crate::accepting::addressee;
 use crate::forwarding::forward;
 use crate::member::Member;
 use crate::performing::{is_allowed, perform};
-use crate::{RoomReply, RoomStep};
+use rtc_room_steps::{RoomReply, RoomStep};
 use rtc_run_history::{Side, Step};
 use rtc_run_plain::{PlainPair, make_numbered_pair};
 use rtc_wire::Moment;
@@ -76,7 +76,7 @@ fn leave_at(members: &mut [Member], k: usize)
 
 // A member leaves.
 fn leave(members: &mut [Member], pairs: &[PlainPair], number: u32) -> RoomReply
-    ensures { Takes (is_here number members.old) (LeaveOf number) result members.old pairs.now members.new pairs.now }
+    ensures { TakesRoomStep (is_here number members.old) (LeaveOf number) result members.old pairs.now members.new pairs.now }
 {
     match place_of(members, number) {
         None => RoomReply::NoMember,
@@ -99,7 +99,7 @@ fn take_step_at(
     requires same { length members.old ≡ length pairs.old }
     requires few { length members.old ≤ 256 }
     requires size { HaveRoom (step_size step.now) pairs.old }
-    ensures { IfOk result (λ reply. Takes true (PerformOf k step.now) reply members.old pairs.old members.new pairs.new) }
+    ensures { IfOk result (λ reply. TakesRoomStep true (PerformOf k step.now) reply members.old pairs.old members.new pairs.new) }
 {
     if !is_allowed(step) {
         return Ok(RoomReply::NotAllowed);
@@ -119,7 +119,7 @@ fn take_step_of_pair(
     requires same { length members.old ≡ length pairs.old }
     requires few { length members.old ≤ 256 }
     requires size { HaveRoom (step_size step.now) pairs.old }
-    ensures { IfOk result (λ reply. Takes (is_here number members.old) (PerformOf number step.now) reply
+    ensures { IfOk result (λ reply. TakesRoomStep (is_here number members.old) (PerformOf number step.now) reply
         members.old pairs.old members.new pairs.new) }
 {
     match place_of(members, number) {
@@ -167,7 +167,7 @@ fn arrive_at(
     requires same { length members.old ≡ length pairs.old }
     requires few { length members.old ≤ 256 }
     requires size { HaveRoom 1 pairs.old }
-    ensures { IfOk result (λ reply. Takes true (ArriveOf k packet now) reply members.old pairs.old members.new pairs.new) }
+    ensures { IfOk result (λ reply. TakesRoomStep true (ArriveOf k packet now) reply members.old pairs.old members.new pairs.new) }
 {
     let found = addressee_of(members, pairs, k, packet, now);
     if !is_for(found, k) {
@@ -194,7 +194,7 @@ fn arrive(
     requires same { length members.old ≡ length pairs.old }
     requires few { length members.old ≤ 256 }
     requires size { HaveRoom 1 pairs.old }
-    ensures { IfOk result (λ reply. Takes (is_here number members.old) (ArriveOf number packet now) reply
+    ensures { IfOk result (λ reply. TakesRoomStep (is_here number members.old) (ArriveOf number packet now) reply
         members.old pairs.old members.new pairs.new) }
 {
     match place_of(members, number) {
@@ -213,7 +213,7 @@ fn forward_at(
     requires place { k < length members.old }
     requires same { length members.old ≡ length pairs.old }
     requires size { HaveRoom 1024 pairs.old }
-    ensures { IfOk result (λ reply. Takes true (ForwardOf k) reply members.old pairs.old members.new pairs.new) }
+    ensures { IfOk result (λ reply. TakesRoomStep true (ForwardOf k) reply members.old pairs.old members.new pairs.new) }
 {
     let member = &mut members[k];
     let pair = &mut pairs[k];
@@ -229,7 +229,7 @@ fn forward_to(
 ) -> Result<RoomReply, AllocError>
     requires same { length members.old ≡ length pairs.old }
     requires size { HaveRoom 1024 pairs.old }
-    ensures { IfOk result (λ reply. Takes (is_here number members.old) (ForwardOf number) reply
+    ensures { IfOk result (λ reply. TakesRoomStep (is_here number members.old) (ForwardOf number) reply
         members.old pairs.old members.new pairs.new) }
 {
     match place_of(members, number) {

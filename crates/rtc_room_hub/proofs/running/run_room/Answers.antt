@@ -1,4 +1,5 @@
 use Rattle.std.proofs.Common.{arith, rules}
+use Rattle.rtc_room_laws.proofs.HandsOnLaw.{hands_on}
 use Rattle.rtc_room_hub.proofs.RoomSoFar.{next_has_room, room_runs, so_far_begins, so_far_next}
 use Rattle.rtc_room_hub.proofs.running.run_room.Goals as goal
 
@@ -31,7 +32,10 @@ loop-step-preserved c =
       room = search rules;
     }
 
-pub returns : goal.returns
-returns c =
+pub returns-clause-hands_on : goal.returns-clause-hands_on
+returns-clause-hands_on c = λ run. hands_on c.args.alloc c.args.steps.now _ _ run
+
+pub returns-clause-runs : goal.returns-clause-runs
+returns-clause-runs c =
     room_runs c.args.alloc c.args.steps.now c.loop-step.step-index c.loop-step.replies.items _ c.loop-step.members.items c.loop-step.pairs.items (search rules) (search rules)
     c.loop-step.invariant.so_far

@@ -1,5 +1,6 @@
 -- What the hub hears of a member: the messages that the member's left peer hands out on its line.
-use Rattle.std.specs.Prelude.{◌==◌, ◌&&◌, not, if◌then◌else◌, ℕ, Bool, true, false, List, [], ◌∷◌, ◌++◌, Option, Some, None, is_some, slice_set}
+use Rattle.std.specs.Prelude.{◌==◌, ◌&&◌, not, if◌then◌else◌, ℕ, Bool, true, false, List, [], ◌∷◌, ◌++◌, Option, Some, None, is_some}
+use Rattle.std.specs.Prelude.{slice_set}
 use Rattle.rtc_wire.specs.declared.channel_config.ChannelConfig.{ChannelConfig}
 use Rattle.rtc_wire.specs.declared.reliability.Reliability.{Reliability}
 use Rattle.rtc_wire.specs.declared.reliability.Reliability.TheVariants.{Reliable, MaxPacketLifetime, MaxRetransmits}
@@ -15,8 +16,8 @@ use Rattle.rtc_run_history.specs.declared.shown.Shown.TheVariants as shows
 use Rattle.rtc_run_history.specs.declared.side.Side.{Side}
 use Rattle.rtc_run_history.specs.declared.side.Side.TheVariants.{Left, Right}
 use Rattle.rtc_run_laws.specs.PlainPairs.{PlainPolled}
-use Rattle.rtc_room_hub.specs.Members.{MemberState, hearing_members}
-use Rattle.rtc_room_hub.specs.declared.item.Item.{Item}
+use Rattle.rtc_room_steps.specs.Members.{MemberState, hearing_members}
+use Rattle.rtc_room_steps.specs.declared.item.Item.{Item}
 
 abbrev pub is_reliable : Reliability → Bool
 is_reliable Reliable = true

@@ -12,10 +12,10 @@ use Rattle.rtc_run_history.specs.Memory.{outcome_lacks}
 use Rattle.rtc_run_history.specs.Past.{Entry}
 use Rattle.rtc_run_history.specs.Runs.{Reached}
 use Rattle.rtc_run_plain.specs.ProgramPair.{PlainPairState, plain_parts}
-use Rattle.rtc_room_hub.specs.Members.{MemberState, item_bytes, put_out_member}
-use Rattle.rtc_room_hub.specs.declared.item.Item.{Item}
-use Rattle.rtc_room_hub.specs.declared.room_reply.RoomReply.{RoomReply}
-use Rattle.rtc_room_hub.specs.declared.room_reply.RoomReply.TheVariants.{Forwarded, PutOut}
+use Rattle.rtc_room_steps.specs.Members.{MemberState, item_bytes, put_out_member}
+use Rattle.rtc_room_steps.specs.declared.item.Item.{Item}
+use Rattle.rtc_room_steps.specs.declared.room_reply.RoomReply.{RoomReply}
+use Rattle.rtc_room_steps.specs.declared.room_reply.RoomReply.TheVariants.{Forwarded, PutOut}
 
 -- the step that writes an item to the line of a member
 abbrev pub write_of : (line : ℕ) → Item → Step
@@ -43,11 +43,11 @@ end_outcome NotTaken = Wrote false
 end_outcome NotOpen = NoSuch
 end_outcome (WriteRefused error) = Refused error
 
-abbrev pub is_refusal : Option WriteEnd → Bool
-is_refusal None = false
-is_refusal (Some NotTaken) = false
-is_refusal (Some NotOpen) = false
-is_refusal (Some (WriteRefused error)) = true
+abbrev pub is_write_refused : Option WriteEnd → Bool
+is_write_refused None = false
+is_write_refused (Some NotTaken) = false
+is_write_refused (Some NotOpen) = false
+is_write_refused (Some (WriteRefused error)) = true
 
 -- items were taken, and none is left; or the next one was not, and its write did not run out of memory
 abbrev pub AreWritten : (line : ℕ) → List Item → Option WriteEnd → (left : List Item) → List (Entry PlainMediaEvent) → Type 0
@@ -76,7 +76,7 @@ Forwards false None member before (Forwarded taken) performed member' after =
     (performed ≡ []) × (member' ≡ member) × (after ≡ before) × (taken ≡ 0)
 Forwards false (Some line) member before (Forwarded taken) performed member' after =
     (end : Option WriteEnd)
-    × (is_refusal end ≡ false)
+    × (is_write_refused end ≡ false)
     × SendsItems line member.queue taken end before performed after
     × (member' ≡ record member { queue = drop taken member.queue })
 Forwards false (Some line) member before PutOut performed member' after =

@@ -3,8 +3,8 @@ use Rattle.std.specs.Prelude.{◌+◌, ◌≤◌, ◌<◌, ◌^◌, ℕ, List, [
 use Rattle.std.specs.List.{AllByRecursion}
 use Rattle.rtc_run_history.specs.Sizes.{step_size}
 use Rattle.rtc_run_plain.specs.ProgramPair.{PlainPairState}
-use Rattle.rtc_room_hub.specs.declared.room_step.RoomStep.{RoomStep}
-use Rattle.rtc_room_hub.specs.declared.room_step.RoomStep.TheVariants.{Join, Leave, Perform, Arrive, Forward}
+use Rattle.rtc_room_steps.specs.declared.room_step.RoomStep.{RoomStep}
+use Rattle.rtc_room_steps.specs.declared.room_step.RoomStep.TheVariants.{Join, Leave, Perform, Arrive, Forward}
 
 -- a forward performs at most so many writes
 abbrev pub room_step_size : RoomStep → ℕ

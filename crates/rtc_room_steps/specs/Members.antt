@@ -1,20 +1,21 @@
 -- The members of rooms, and the messages that wait for them.
-use Rattle.std.specs.Prelude.{◌+◌, ◌==◌, ◌&&◌, not, nat_lt, if◌then◌else◌, ℕ, Bool, true, false, List, [], ◌∷◌, ◌++◌, length, map, slice_get}
+use Rattle.std.specs.Prelude.{◌+◌, ◌==◌, ◌&&◌, not, nat_lt, if◌then◌else◌, ℕ, Bool, true, false, List, [], ◌∷◌, ◌++◌, length, map}
+use Rattle.std.specs.Prelude.{slice_get}
 use Rattle.std.specs.Prelude.{Option, Some, None}
 use Rattle.std.specs.Int.{w32, to_be_bytes}
-use Rattle.rtc_room_hub.specs.declared.item.Item.{Item}
+use Rattle.rtc_room_steps.specs.declared.item.Item.{Item}
 
 -- whether a message is binary, as a byte
-abbrev pub kind_byte : Bool → ℕ
-kind_byte true = 1
-kind_byte false = 0
+abbrev pub binary_byte : Bool → ℕ
+binary_byte true = 1
+binary_byte false = 0
 
 -- an item as it is written: the number of its sender in four bytes, whether it is binary, and its bytes
 abbrev pub item_bytes : Item → List ℕ
-item_bytes item = to_be_bytes w32 item.sender ++ kind_byte item.binary ∷ item.bytes
+item_bytes item = to_be_bytes w32 item.sender ++ binary_byte item.binary ∷ item.bytes
 
--- A member without its pair: its number and room, whether it has left or was put out, the number of its line at the hub once it has one, and
--- what waits for it.
+-- A member without its pair: its number and room, whether it has left or was put out, the number of its line at the hub once it has
+-- one, and what waits for it.
 pub record MemberState : Type 0 where
   pub number : ℕ
   pub room : ℕ

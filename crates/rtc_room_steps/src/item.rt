@@ -1,6 +1,6 @@
 //! Messages that wait for members.
 ghost use Rattle.std.specs.Prelude.{◌≡◌, IfOk};
-ghost use Rattle.rtc_room_hub.specs.Members.{item_bytes, kind_byte};
+ghost use Rattle.rtc_room_steps.specs.Members.{item_bytes, binary_byte};
 
 use rtc_wire::{Bytes, TryCopy};
 use std::alloc::{AllocError, Global};
@@ -14,8 +14,8 @@ pub struct Item {
     pub bytes: Bytes,
 }
 
-fn kind_byte(binary: bool) -> u8
-    ensures { result ≡ kind_byte binary }
+fn binary_byte(binary: bool) -> u8
+    ensures { result ≡ binary_byte binary }
 {
     if binary { 1 } else { 0 }
 }
@@ -27,7 +27,7 @@ impl Item {
     {
         let mut bytes = Vec::new(alloc);
         bytes.extend_from_slice(&self.sender.to_be_bytes())?;
-        bytes.push(kind_byte(self.binary))?;
+        bytes.push(binary_byte(self.binary))?;
         bytes.extend_from_slice(self.bytes.as_slice())?;
         Ok(Bytes::new(bytes))
     }

@@ -17,14 +17,14 @@ use Rattle.rtc_run_history.specs.Performs.{Performs, sdps_behind}
 use Rattle.rtc_run_history.specs.Sides.{same_side, side_of}
 use Rattle.rtc_run_plain.specs.NumberedPair.{IsNumberedPair}
 use Rattle.rtc_run_plain.specs.ProgramPair.{PlainPairState, plain_parts}
-use Rattle.rtc_room_hub.specs.Accepting.{IsAddressee}
-use Rattle.rtc_room_hub.specs.Forwarding.{Forwards}
-use Rattle.rtc_room_hub.specs.Hearing.{members_behind}
-use Rattle.rtc_room_hub.specs.Members.{MemberState, gone_member, is_here, new_member}
-use Rattle.rtc_room_hub.specs.declared.room_reply.RoomReply.{RoomReply}
-use Rattle.rtc_room_hub.specs.declared.room_reply.RoomReply.TheVariants as replied
-use Rattle.rtc_room_hub.specs.declared.room_step.RoomStep.{RoomStep}
-use Rattle.rtc_room_hub.specs.declared.room_step.RoomStep.TheVariants.{Join, Leave, Perform, Arrive, Forward}
+use Rattle.rtc_room_steps.specs.Accepting.{IsAddressee}
+use Rattle.rtc_room_steps.specs.Forwarding.{Forwards}
+use Rattle.rtc_room_steps.specs.Hearing.{members_behind}
+use Rattle.rtc_room_steps.specs.Members.{MemberState, gone_member, is_here, new_member}
+use Rattle.rtc_room_steps.specs.declared.room_reply.RoomReply.{RoomReply}
+use Rattle.rtc_room_steps.specs.declared.room_reply.RoomReply.TheVariants as replied
+use Rattle.rtc_room_steps.specs.declared.room_step.RoomStep.{RoomStep}
+use Rattle.rtc_room_steps.specs.declared.room_step.RoomStep.TheVariants.{Join, Leave, Perform, Arrive, Forward}
 
 -- The members that joined so far, also those that have left, and their pairs.
 pub record RoomState : Type 0 where
@@ -157,7 +157,8 @@ TakesStep alloc (Arrive k packet now) reply old performed new =
 TakesStep alloc (Forward k) reply old performed new = TakesOf (is_here k old.members) (Forward k) reply old performed new
 
 -- the same of the members and the pairs before and after, with what was performed
-abbrev pub Takes : Bool → RoomStep → RoomReply → List MemberState → List PlainPairState → List MemberState → List PlainPairState → Type 0
-Takes here step reply members pairs members' pairs' =
+abbrev pub TakesRoomStep : Bool → RoomStep → RoomReply → List MemberState → List PlainPairState → List MemberState
+    → List PlainPairState → Type 0
+TakesRoomStep here step reply members pairs members' pairs' =
     (performed : List (Entry PlainMediaEvent))
     × TakesOf here step reply (record { members = members; pairs = pairs }) performed (record { members = members'; pairs = pairs' })

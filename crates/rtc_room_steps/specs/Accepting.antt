@@ -11,7 +11,7 @@ use Rattle.rtc_peer_transport.specs.declared.input.Input.TheVariants as given
 use Rattle.rtc_peer_transport.specs.Readings.{is_accepted}
 use Rattle.rtc_run_history.specs.Performs.{ComesIn}
 use Rattle.rtc_run_plain.specs.ProgramPair.{PlainPairState, plain_parts}
-use Rattle.rtc_room_hub.specs.Members.{MemberState}
+use Rattle.rtc_room_steps.specs.Members.{MemberState}
 
 -- whether an input is for a member: it has not left, and its left peer accepts it
 abbrev pub accepts : Input → MemberState → PlainPairState → Bool

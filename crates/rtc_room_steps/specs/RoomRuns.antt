@@ -6,10 +6,10 @@ use Rattle.rtc_plain_media.specs.declared.plain_media_event.PlainMediaEvent.{Pla
 use Rattle.rtc_run_history.specs.Past.{Entry}
 use Rattle.rtc_run_history.specs.Runs.{EntersSoundly, Went}
 use Rattle.rtc_run_plain.specs.ProgramPair.{PlainPairState, plain_parts}
-use Rattle.rtc_room_hub.specs.RoomSteps.{IsNewPairOf, RoomEntry, RoomState, TakesStep, empty_room}
-use Rattle.rtc_room_hub.specs.declared.room_reply.RoomReply.{RoomReply}
-use Rattle.rtc_room_hub.specs.declared.room_step.RoomStep.{RoomStep}
-use Rattle.rtc_room_hub.specs.declared.room_step.RoomStep.TheVariants.{Join, Leave, Perform, Arrive, Forward}
+use Rattle.rtc_room_steps.specs.RoomSteps.{IsNewPairOf, RoomEntry, RoomState, TakesStep, empty_room}
+use Rattle.rtc_room_steps.specs.declared.room_reply.RoomReply.{RoomReply}
+use Rattle.rtc_room_steps.specs.declared.room_step.RoomStep.{RoomStep}
+use Rattle.rtc_room_steps.specs.declared.room_step.RoomStep.TheVariants.{Join, Leave, Perform, Arrive, Forward}
 
 -- a room passes through a past, newest entry first, from an empty room on
 abbrev pub RoomWent : Global → List RoomEntry → RoomState → Type 0

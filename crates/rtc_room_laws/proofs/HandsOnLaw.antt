@@ -1,0 +1,214 @@
+-- That the hub hands on what it hears, in each run of a room.
+use Rattle.std.proofs.Common.{◌≡◌, ◌≢◌, ◌∙◌, ◌++◌, ℕ, true, false, List, [], ◌∷◌, Option, Some, refl, sym, ap, subst, append-nil, append_assoc}
+use Rattle.std.specs.Prelude.{slice_get}
+use Rattle.std.specs.declared.alloc.Global.{Global}
+use Rattle.rtc_part_values.specs.Among.{Member}
+use Rattle.rtc_plain_ice.specs.Messages.{is_ice_message}
+use Rattle.rtc_plain_media.specs.declared.plain_media_event.PlainMediaEvent.{PlainMediaEvent}
+use Rattle.rtc_assoc.specs.Unread.{IsPrefix}
+use Rattle.rtc_assoc_state.specs.Outbox.{has_unacknowledged}
+use Rattle.rtc_run_history.specs.Native.{are_native}
+use Rattle.rtc_run_history.specs.Past.{Entry, steps_of}
+use Rattle.rtc_run_history.specs.Runs.{Reached}
+use Rattle.rtc_run_history.specs.declared.side.Side.TheVariants.{Left, Right}
+use Rattle.rtc_run_laws.specs.ChannelUses.{ChannelUse}
+use Rattle.rtc_run_laws.specs.DrainedSides.{IsDrained}
+use Rattle.rtc_run_laws.specs.OpenUses.{AreJoinedUses}
+use Rattle.rtc_run_laws.specs.SentMessages.{sent_over}
+use Rattle.rtc_run_laws.specs.ToldMessages.{told_over}
+use Rattle.rtc_run_laws.specs.UsesOfRuns.{reached_by, uses_of}
+use Rattle.rtc_run_laws.proofs.DrainedRuns.{new_unused, pair_drained}
+use Rattle.rtc_run_laws.proofs.RunsTold.{PairTold, new_pair_told, pair_handed_over, pair_whole, reached_told}
+use Rattle.rtc_run_laws.proofs.UseLists.{all_member, prefix_through}
+use Rattle.rtc_run_laws.proofs.UsesTold.{InBandTold, use_opened}
+use Rattle.rtc_run_plain.specs.ProgramPair.{PlainPairState, counting, plain_parts}
+use Rattle.rtc_room_steps.specs.Members.{MemberState}
+use Rattle.rtc_room_steps.specs.RoomRuns.{MemberRan, RoomRuns, RoomWent, performed_of}
+use Rattle.rtc_room_steps.specs.RoomSteps.{RoomEntry, RoomState}
+use Rattle.rtc_room_steps.specs.declared.room_reply.RoomReply.{RoomReply}
+use Rattle.rtc_room_steps.specs.declared.room_step.RoomStep.{RoomStep}
+use Rattle.rtc_room_laws.specs.RoomHandsOn.{GetsOf, RoomHandsOn, IsHeardOf, AreLineEnds, IsStretch, first_use, heard_for, sent_at, uses_at}
+use Rattle.rtc_room_laws.specs.ItemMessages.{LineMessage, messages_from}
+use Rattle.rtc_room_laws.proofs.DueItems.{IsDue}
+use Rattle.rtc_room_laws.proofs.FirstUses.{first_blank, first_member}
+use Rattle.rtc_room_laws.proofs.HeardStretches.{room_stretch, two_rooms}
+use Rattle.rtc_room_laws.proofs.ItemTexts.{messages_by, messages_from-append}
+use Rattle.rtc_room_laws.proofs.LineMoves.{Stands}
+use Rattle.rtc_room_laws.proofs.NativeMembers.{numbered_is_new, own_native, room_own}
+use Rattle.rtc_room_laws.proofs.RolledLines.{sent_is, sent_over_is}
+use Rattle.rtc_room_laws.proofs.RoomsStand.{heard_of, room_due, room_line}
+use Rattle.rtc_room_laws.proofs.TakenMessages.{taken_messages}
+use Rattle.rtc_room_laws.proofs.Talks.{blank, blanks_of}
+
+-- ---- lists
+
+from_prefix : (s : ℕ) (got sent : List LineMessage) → IsPrefix got sent → IsPrefix (messages_from s got) (messages_from s sent)
+from_prefix s got sent h = record {
+  rest = messages_from s h.rest;
+  is = sym (messages_from-append s got h.rest) ∙ ap (messages_from s) h.is;
+}
+
+prefix_none : {A : Type 0} (xs ys : List A) → IsPrefix xs ys → ys ≡ [] → xs ≡ []
+prefix_none [] ys h none = refl
+prefix_none (x ∷ xs) ys h none = absurd (no_cons x (xs ++ h.rest) (h.is ∙ none))
+  where
+    no_cons : {A : Type 0} (y : A) (l : List A) → y ∷ l ≡ [] → ⊥
+    no_cons y l e = cc
+
+-- a stretch of the end of a list that begins another one
+stretch_through : {A : Type 0} (part all got sent before : List A) → IsStretch part all → got ≡ before ++ all → IsPrefix got sent → IsStretch part sent
+stretch_through part all got sent before h is k = record {
+  before = before ++ h.before;
+  behind = h.behind ++ k.rest;
+  is =
+      sym k.is
+      ∙ ap (λ l. l ++ k.rest) (is ∙ ap (λ l. before ++ l) h.is)
+      ∙ append_assoc before (h.before ++ (part ++ h.behind)) k.rest
+      ∙ ap (λ l. before ++ l) (append_assoc h.before (part ++ h.behind) k.rest ∙ ap (λ l. h.before ++ l) (append_assoc part h.behind k.rest))
+      ∙ sym (append_assoc before h.before (part ++ (h.behind ++ k.rest)));
+}
+
+some_is : {A : Type 0} (x y : A) → Some x ≡ Some y → x ≡ y
+some_is x y e = cc
+
+-- ---- the line of a member, in the run of its pair
+
+module _ (alloc : Global) (past : List RoomEntry) (room : RoomState) (went : RoomWent alloc past room) (k : ℕ) (member : MemberState)
+    (there : slice_get room.members k ≡ Some member) (pair : PlainPairState) (ran : MemberRan alloc k past pair) where
+  abbrev pub own : List (Entry PlainMediaEvent)
+  own = performed_of k past
+
+  abbrev pub reached : Reached plain_parts is_ice_message ran.start own pair
+  reached = reached_by plain_parts is_ice_message ran.start own pair ran.went
+
+  native : are_native (steps_of own) ≡ true
+  native = own_native own (room_own alloc k past room went)
+
+  told : PairTold counting pair (λ at. uses_of plain_parts is_ice_message ran.start at own pair reached)
+      (λ at. sent_over plain_parts is_ice_message ran.start at own pair reached) (λ at. told_over plain_parts is_ice_message ran.start at own pair reached)
+  told =
+      reached_told counting is_ice_message ran.start own pair native reached
+      (new_pair_told counting ran.start (numbered_is_new alloc k ran.start ran.made.numbered))
+
+  module _ (x y : ChannelUse) (line : AreLineEnds member.line (uses_at alloc k past pair ran Left) (uses_at alloc k past pair ran Right) x y) where
+    stands : Stands (Some line.channel) own (heard_of alloc k past room went)
+    stands =
+        subst (λ (o : Option ℕ). Stands o own (heard_of alloc k past room went)) line.line_is (room_line alloc k past room went member there)
+
+    x_there : Member x (uses_at alloc k past pair ran Left)
+    x_there = first_member line.channel (uses_at alloc k past pair ran Left) x line.first
+
+    -- what was taken is all that was sent over it
+    pub sent_taken : x.sent ≡ taken_messages own
+    sent_taken =
+        sent_is ran.start (numbered_is_new alloc k ran.start ran.made.numbered) line.channel own pair reached x stands.writes line.first
+
+    -- and what was heard is the end of what it got
+    pub got_heard : (before : List LineMessage) × (x.got ≡ before ++ heard_of alloc k past room went)
+    got_heard =
+        let same : Some stands.first ≡ Some (blank x) =
+        sym stands.is_first
+        ∙ ap (first_use line.channel) (sym (blanks_of ran.start own pair reached))
+        ∙ first_blank line.channel (uses_at alloc k past pair ran Left) x line.first in
+        (stands.before, ap (λ (z : ChannelUse). z.got) (sym (some_is stands.first (blank x) same)) ∙ stands.got_is)
+
+    -- its stream
+    pub has_stream : (stream : ℕ) × (x.stream ≡ Some stream)
+    has_stream =
+        let side = told.left.side in
+        let opened =
+        use_opened plain_parts side.written side.read pair.left x
+        (all_member (InBandTold plain_parts side.written side.read pair.left) (uses_at alloc k past pair ran Left) x side.told.each x_there line.in_band) in
+        (opened.stream, opened.stream_is)
+
+    -- what the member got is a prefix of what was taken
+    pub got_prefix : IsPrefix y.got (taken_messages own)
+    got_prefix =
+        let stream = has_stream in
+        let over : IsPrefix y.got (sent_over plain_parts is_ice_message ran.start Left own pair reached stream.0 y.generation) =
+        pair_handed_over counting pair (λ at. uses_of plain_parts is_ice_message ran.start at own pair reached)
+        (λ at. sent_over plain_parts is_ice_message ran.start at own pair reached) (λ at. told_over plain_parts is_ice_message ran.start at own pair reached)
+        Right told y x line.other x_there line.other_in_band line.in_band stream.0 (line.stream_is ∙ stream.1) stream.1 line.generation_is in
+        subst (λ (l : List LineMessage). IsPrefix y.got l)
+        (ap (sent_over plain_parts is_ice_message ran.start Left own pair reached stream.0) line.generation_is
+        ∙ sent_over_is ran.start (numbered_is_new alloc k ran.start ran.made.numbered) line.channel own pair native reached x stands.writes line.first line.in_band
+        stream.0 stream.1)
+        over
+
+    -- and all of it once all was delivered
+    pub got_all : IsDrained Right y.channel own → (h : AreJoinedUses plain_parts y pair.right x pair.left)
+        → has_unacknowledged h.writer.stream pair.left.core.sctp.association.outbox.items ≡ false → y.got ≡ taken_messages own
+    got_all drained joined acknowledged =
+        pair_drained counting is_ice_message ran.start own pair native reached
+        (new_pair_told counting ran.start (numbered_is_new alloc k ran.start ran.made.numbered))
+        (new_unused counting ran.start (numbered_is_new alloc k ran.start ran.made.numbered)) Right y x line.other x_there drained joined acknowledged
+        ∙ sent_taken
+
+    -- what the hub got over it is a prefix of what the member wrote
+    pub wrote_prefix : (stream : ℕ) → x.stream ≡ Some stream → IsPrefix x.got (sent_at alloc k past pair ran Right stream x.generation)
+    wrote_prefix stream of =
+        pair_handed_over counting pair (λ at. uses_of plain_parts is_ice_message ran.start at own pair reached)
+        (λ at. sent_over plain_parts is_ice_message ran.start at own pair reached) (λ at. told_over plain_parts is_ice_message ran.start at own pair reached)
+        Left told x y x_there line.other line.in_band line.other_in_band stream of (line.stream_is ∙ of) (sym line.generation_is)
+
+    -- which is what was sent over the member's end, unless that was rolled back
+    pub wrote_over : y.rolled_back ≡ false → (stream : ℕ) → x.stream ≡ Some stream → sent_at alloc k past pair ran Right stream x.generation ≡ y.sent
+    wrote_over left stream of =
+        ap (sent_over plain_parts is_ice_message ran.start Right own pair reached stream) (sym line.generation_is)
+        ∙ pair_whole counting pair (λ at. uses_of plain_parts is_ice_message ran.start at own pair reached)
+        (λ at. sent_over plain_parts is_ice_message ran.start at own pair reached) (λ at. told_over plain_parts is_ice_message ran.start at own pair reached)
+        Right told y line.other line.other_in_band left stream (line.stream_is ∙ of)
+
+-- ---- the theorem
+
+module _ (alloc : Global) (past : List RoomEntry) (room : RoomState) (went : RoomWent alloc past room) where
+  gets_of : (s m : ℕ) → s ≢ m → (listener : MemberState) → slice_get room.members m ≡ Some listener → (pair : PlainPairState) (ran : MemberRan alloc m past pair)
+      → GetsOf alloc past room went s m listener pair ran
+  gets_of s m apart listener there pair ran = record {
+    prefix = λ x y line. prefix x y line;
+    apart = λ sender sender_there rooms x y line.
+        prefix_none (messages_from s y.got) (heard_for alloc s m past room went) (prefix x y line)
+        (two_rooms alloc s m past room went sender listener sender_there there rooms);
+    all = λ here in_room none x y line drained joined acknowledged.
+        ap (messages_from s) (got_all alloc past room went m listener there pair ran x y line drained joined acknowledged)
+        ∙ sym
+        (due.whole in_room here
+        ∙ ap (λ l. messages_from s (taken_messages (performed_of m past)) ++ messages_by s l) none
+        ∙ append-nil (messages_from s (taken_messages (performed_of m past))));
+  }
+    where
+      due : IsDue s listener (taken_messages (performed_of m past)) (heard_for alloc s m past room went)
+      due = room_due alloc s m apart past room went listener there
+
+      prefix : (x y : ChannelUse) → AreLineEnds listener.line (uses_at alloc m past pair ran Left) (uses_at alloc m past pair ran Right) x y
+          → IsPrefix (messages_from s y.got) (heard_for alloc s m past room went)
+      prefix x y line =
+          prefix_through (messages_from s y.got) (messages_from s (taken_messages (performed_of m past))) (heard_for alloc s m past room went)
+          (from_prefix s y.got (taken_messages (performed_of m past)) (got_prefix alloc past room went m listener there pair ran x y line)) due.prefix
+
+  heard_of_is : (s m : ℕ) (speaker : MemberState) → slice_get room.members s ≡ Some speaker → (pair : PlainPairState) (ran : MemberRan alloc s past pair)
+      → IsHeardOf alloc past room went s m speaker pair ran
+  heard_of_is s m speaker there pair ran = record {
+    stretch = λ x y line stream of. stretch x y line stream of;
+    over = λ x y line left.
+        let stream = has_stream alloc past room went s speaker there pair ran x y line in
+        subst (λ (l : List LineMessage). IsStretch (heard_for alloc s m past room went) l)
+        (wrote_over alloc past room went s speaker there pair ran x y line left stream.0 stream.1) (stretch x y line stream.0 stream.1);
+  }
+    where
+      stretch : (x y : ChannelUse) → AreLineEnds speaker.line (uses_at alloc s past pair ran Left) (uses_at alloc s past pair ran Right) x y
+          → (stream : ℕ) → x.stream ≡ Some stream
+          → IsStretch (heard_for alloc s m past room went) (sent_at alloc s past pair ran Right stream x.generation)
+      stretch x y line stream of =
+          let got = got_heard alloc past room went s speaker there pair ran x y line in
+          stretch_through (heard_for alloc s m past room went) (heard_of alloc s past room went) x.got (sent_at alloc s past pair ran Right stream x.generation) got.0
+          (room_stretch alloc s m past room went).stretch got.1 (wrote_prefix alloc past room went s speaker there pair ran x y line stream of)
+
+pub hands_on : (alloc : Global) (steps : List RoomStep) (replies : List RoomReply) (pairs : List PlainPairState) (run : RoomRuns alloc steps replies pairs)
+    → RoomHandsOn alloc steps replies pairs run
+hands_on alloc steps replies pairs run = record {
+  gets = λ s m apart listener listener_there pair there.
+      gets_of alloc run.past run.room run.went s m apart listener listener_there pair (run.members m pair there);
+  heard = λ s m apart speaker speaker_there pair there.
+      heard_of_is alloc run.past run.room run.went s m speaker speaker_there pair (run.members s pair there);
+}

@@ -1,0 +1,21 @@
+pub mod ItemTexts
+pub mod DueItems
+pub mod MembersHear
+pub mod TakenMessages
+pub mod HeardSteps
+pub mod DueRooms
+pub mod UntoldOutcomes
+pub mod Talks
+pub mod WrittenLines
+pub mod LineStands
+pub mod MemberSteps
+pub mod LineMoves
+pub mod LineSteps
+pub mod AbsentMembers
+pub mod RoomsStand
+pub mod HeardStretches
+pub mod NativeMembers
+pub mod FirstUses
+pub mod RolledLines
+pub mod HandsOnLaw
+mod RoomFacts

@@ -1,0 +1,2 @@
+pub mod ItemMessages
+pub mod RoomHandsOn

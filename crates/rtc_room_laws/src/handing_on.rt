@@ -1,0 +1,20 @@
+//! That the hub hands on what it hears.
+ghost use Rattle.std.specs.Prelude.{List};
+ghost use Rattle.std.specs.declared.alloc.Global.{Global};
+ghost use Rattle.rtc_run_plain.specs.ProgramPair.{PlainPairState};
+ghost use Rattle.rtc_room_steps.specs.RoomRuns.{RoomRuns};
+ghost use Rattle.rtc_room_steps.specs.declared.room_reply.RoomReply.{RoomReply};
+ghost use Rattle.rtc_room_steps.specs.declared.room_step.RoomStep.{RoomStep};
+ghost use Rattle.rtc_room_laws.specs.RoomHandsOn.{RoomHandsOn};
+
+/// In each run of a room, of each two members:
+///
+/// - What the one received of the other over its line is a prefix of what the hub heard of that one while both were in one room.
+/// - What the hub heard is a contiguous stretch of what that one wrote to its line.
+/// - Nothing is received of a member of another room.
+/// - A member that has not left and was not put out received all that was heard, if nothing waits for it, its line stays open at both ends,
+///   the hub has no unacknowledged item of the line, and its own peer was drained.
+pub fn rooms_hand_on()
+    ensures { (alloc : Global) (steps : List RoomStep) (replies : List RoomReply) (pairs : List PlainPairState)
+        (run : RoomRuns alloc steps replies pairs) → RoomHandsOn alloc steps replies pairs run }
+{}
