@@ -109,6 +109,26 @@ fn waits<P: Resting>(peer: &mut P, moment: Moment, calls: &CallCounts, polls: u3
     kept & waited & (calls.total() == made) & peer.keeps(Some(moment))
 }
 
+// Whether a peer is as due when it is fresh, drained, and drained of a burst.
+fn rests<P: Signals + Polled + Resting>(
+    alloc: Global,
+    left: &mut P,
+    right: &mut P,
+    wire: &mut Wire,
+    calls: &CallCounts,
+    rest: Rest,
+    message: &[u8],
+) -> bool {
+    let fresh = left.keeps(None);
+    let met = connect(alloc, left, right, wire, rest.channels);
+    let declared = left.declares(alloc, rest.lines);
+    drain(left, &mut wire.left);
+    let sent = bursts(left, &mut wire.left, calls, rest, message);
+    let moment = wire.left.timeout;
+    let waited = waits(left, moment, calls, rest.polls);
+    fresh & met & declared & sent & waited & wire.is_faultless()
+}
+
 /// Whether a peer with so many media lines and open channels is drained, also of a burst of messages, and then polled so
 /// often without a call of a part, if these are the counts of the calls.
 pub fn does_rest<P: Signals + Polled + Resting>(
@@ -121,12 +141,14 @@ pub fn does_rest<P: Signals + Polled + Resting>(
     let rest = Rest::read(line);
     let message = message(alloc, 10)?;
     let mut wire = Wire::new(alloc, Way::plain());
-    let fresh = left.keeps(None);
-    let met = connect(alloc, left, right, &mut wire, rest.channels);
-    let declared = left.declares(alloc, rest.lines);
-    drain(left, &mut wire.left);
-    let sent = bursts(left, &mut wire.left, calls, rest, message.as_slice());
-    let waited = waits(left, wire.left.timeout, calls, rest.polls);
-    let whole = fresh & met & declared & sent & waited & wire.is_faultless();
+    let whole = rests(
+        alloc,
+        left,
+        right,
+        &mut wire,
+        calls,
+        rest,
+        message.as_slice(),
+    );
     release(wire, Ok(whole))
 }

@@ -15,11 +15,20 @@ fn line_mid(alloc: Global, line: u32) -> Result<Option<Mid>, AllocError> {
     Ok(Mid::read(text.as_str()))
 }
 
+// Whether an output is the timeout of a moment.
+fn is_timeout<E: Drop>(output: Output<E>, moment: Moment) -> bool {
+    match output {
+        Output::Timeout(at) => at.nanos() == moment.nanos(),
+        Output::Transmit(transmit) => release(transmit, false),
+        Output::Event(event) => release(event, false),
+    }
+}
+
 // Whether what a poll returned is the timeout of a moment.
-fn is_timeout<E: Drop>(polled: Result<Output<E>, RtcError>, moment: Moment) -> bool {
+fn waits_until<E: Drop>(polled: Result<Output<E>, RtcError>, moment: Moment) -> bool {
     match polled {
-        Ok(Output::Timeout(at)) => at == moment,
-        polled => release(polled, false),
+        Ok(output) => is_timeout(output, moment),
+        Err(error) => release(error, false),
     }
 }
 
@@ -44,7 +53,7 @@ impl<
 
     fn waits(&mut self, polls: u32, moment: Moment) -> bool {
         for _ in 0..polls {
-            if !is_timeout(self.poll_output(), moment) {
+            if !waits_until(self.poll_output(), moment) {
                 return false;
             }
         }
