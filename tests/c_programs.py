@@ -76,9 +76,9 @@ def check_chat():
     there, here = start("examples/python/chat.py", "listen", port), start("examples/python/chat.py", "call", port)
     try:
         right = here.stdout.readline() == "chat is open\n" and there.stdout.readline() == "chat is open\n"
-        here.stdin.write("hello\n")
+        here.stdin.write("hello\nthere\n")
         here.stdin.flush()
-        right = right and there.stdout.readline() == "> hello\n"
+        right = right and there.stdout.readline() == "> hello\n" and there.stdout.readline() == "> there\n"
         there.stdin.write("hello to you\n")
         there.stdin.flush()
         right = right and here.stdout.readline() == "> hello to you\n"

@@ -26,13 +26,15 @@ def show(event, session):
 
 def chat(session):
     session.channel = None
+    # Without a buffer, so that each line that waits wakes `step`.
+    lines = open(sys.stdin.fileno(), "rb", buffering=0, closefd=False)
     while True:
         while session.events:
             if not show(session.events.pop(0), session):
                 return
-        inputs = [] if session.channel is None else [sys.stdin]
+        inputs = [] if session.channel is None else [lines]
         if session.step(1.0, *inputs):
-            line = sys.stdin.readline()
+            line = lines.readline().decode(errors="replace")
             if not line:
                 session.hang_up()
                 return
