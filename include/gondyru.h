@@ -9,7 +9,8 @@
  * - A bool is 0 or 1.
  * - `malloc`, `realloc` and `free` are those of one allocator, which aligns as C asks. No call is made from a signal handler.
  *
- * Every call returns a status, but `gondyru_free_peer`. crates/rtc_c_handle/README.md has what each leaves as it was. Nothing is
+ * Every call returns a status, but `gondyru_free_peer`. crates/rtc_c_handle/README.md has what each leaves as it was. One that returns
+ * GONDYRU_DONE has done all of it, also if room that it made for later was refused: what needs the room asks for it again. Nothing is
  * called back, and no clock and no socket is read: moments and datagrams are handed in, and polls hand datagrams out. The parts of the
  * peer are those in memory: they protect nothing. */
 #ifndef GONDYRU_H
