@@ -383,7 +383,6 @@ def room():
         print(f"| {members} | {rooms} | {len(given):,} | {min(times):.3f} s | {memory(words, given):,} KiB |")
 
 
-# Messages of member 0 that member 1 is sent, in batches. All are acknowledged at once. Further members are in rooms of their own.
 def main():
     parts = {
         "descriptions": descriptions, "rounds": rounds, "orderly": orderly, "associations": associations,
