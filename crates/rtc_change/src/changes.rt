@@ -115,7 +115,7 @@ impl Changes {
 
     // The allocator of the list.
     fn allocator(&self) -> Global {
-        let nothing = self.0.empty_text().into_string();
+        let nothing = self.0.empty_string();
         *nothing.allocator()
     }
 

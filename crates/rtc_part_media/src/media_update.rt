@@ -57,7 +57,7 @@ impl MediaUpdate {
           ssrcs_rx = [];
         } }
     {
-        let nothing = self.payloads.empty_text().into_string();
+        let nothing = self.payloads.empty_string();
         MediaUpdate {
             row: self.row,
             removed: self.removed,

@@ -167,7 +167,7 @@ pub(crate) fn inconsistency_by_walks(sdp: &Sdp) -> Option<Inconsistent>
 pub(crate) fn inconsistency(sdp: &Sdp) -> Option<Inconsistent>
     ensures { result ≡ spec.inconsistency sdp.now }
 {
-    let nothing = sdp.lines.empty_text().into_string();
+    let nothing = sdp.lines.empty_string();
     match sdp.groups.as_slice() {
         [] => Some(Inconsistent::NoGroup),
         [group] => group_cause(*nothing.allocator(), group.as_slice(), sdp.lines.as_slice()),

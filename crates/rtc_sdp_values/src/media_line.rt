@@ -93,7 +93,7 @@ impl MediaLine {
           max_message_size = self.now.max_message_size;
         } }
     {
-        let nothing = self.candidates.empty_text().into_string();
+        let nothing = self.candidates.empty_string();
         let mut line = MediaLine::bare(*nothing.allocator(), self.kind, self.mid, self.dir);
         line.disabled = self.disabled;
         line.setup = self.setup;

@@ -161,7 +161,7 @@ impl Sdp {
     pub fn candidates(&self) -> Result<Seq<Candidate>, AllocError>
         ensures { IfOk result (λ found. found ≡ spec.candidates_of self.now) }
     {
-        let nothing = self.lines.empty_text().into_string();
+        let nothing = self.lines.empty_string();
         let mut found = Seq::empty(*nothing.allocator());
         let filled = append_line_candidates(&mut found, self.lines.as_slice());
         whole(found, filled)
@@ -194,7 +194,7 @@ impl Sdp {
     fn begin_copy(&self) -> Sdp
         ensures { result ≡ record self.now { groups = []; creds = None; fingerprint = None; lines = [] } }
     {
-        let nothing = self.lines.empty_text().into_string();
+        let nothing = self.lines.empty_string();
         Sdp {
             id: self.id,
             groups: Seq::empty(*nothing.allocator()),

@@ -42,7 +42,7 @@ fn put_session(out: &mut String, sdp: &Sdp) -> Result<(), AllocError>
 pub fn write(sdp: &Sdp) -> Result<Text, AllocError>
     ensures { IfOk result (λ text. text ≡ spec.written_sdp sdp.now) }
 {
-    let mut out = sdp.lines.empty_text().into_string();
+    let mut out = sdp.lines.empty_string();
     put_session(&mut out, sdp)?;
     put_lines(&mut out, sdp.lines.as_slice())?;
     Ok(Text::new(out))
@@ -54,7 +54,7 @@ pub fn write(sdp: &Sdp) -> Result<Text, AllocError>
 pub fn write_filled(sdp: &Sdp) -> Result<Text, AllocError>
     ensures { IfOk result (λ text. text ≡ filled_sdp sdp.now) }
 {
-    let mut out = sdp.lines.empty_text().into_string();
+    let mut out = sdp.lines.empty_string();
     put_session(&mut out, sdp)?;
     put_filled_lines(&mut out, sdp.lines.as_slice())?;
     Ok(Text::new(out))

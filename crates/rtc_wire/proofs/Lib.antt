@@ -1,2 +1,3 @@
 pub mod DcepOpenLemmas
 pub mod StandardFacts
+mod ShortTextLemmas

@@ -5,3 +5,5 @@ pub mod Reliability
 pub mod ChannelConfig
 pub mod DcepAck
 pub mod DcepOpen
+pub mod ShortText
+pub mod Text

@@ -21,6 +21,7 @@ mod receive;
 mod reliability;
 mod reliability_type;
 mod seq;
+mod short_text;
 mod span;
 mod stun_error;
 mod stun_reader;

@@ -1,8 +1,8 @@
 //! A list of values.
-ghost use Rattle.std.specs.Prelude.{◌≡◌, ℕ, List, [], ◌∷◌, ◌++◌, IfOk, OnOk, OnErr, IsTrue, ◌↔◌, length};
+ghost use Rattle.std.specs.Prelude.{◌≡◌, ℕ, List, [], ◌∷◌, ◌++◌, IfOk, OnOk, OnErr, IsTrue, ◌↔◌, length, string_bytes};
 ghost use Rattle.std.specs.Cmp.Lexicographic.{pointwise, lists_per, lists_equiv};
 
-use crate::{Text, TryCopy, copy_all};
+use crate::{TryCopy, copy_all};
 use std::alloc::{AllocError, Global};
 use std::marker::Model;
 
@@ -76,11 +76,11 @@ impl<T> Seq<T> {
         self.items.clear();
     }
 
-    /// A text without a byte, with the allocator of this list.
-    pub fn empty_text(&self) -> Text
-        ensures { result ≡ [] }
+    /// A string without a byte, with the allocator of this list.
+    pub fn empty_string(&self) -> String
+        ensures { string_bytes result ≡ [] }
     {
-        Text::new(String::new(*self.items.allocator()))
+        String::new(*self.items.allocator())
     }
 
     /// The vector inside.

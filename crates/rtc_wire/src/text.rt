@@ -7,21 +7,33 @@ ghost use Rattle.std.specs.Cmp.Rules.{hashing};
 ghost use Rattle.std.proofs.Common.{rules};
 
 use crate::TryCopy;
+use crate::short_text::{SHORT_TEXT_LEN, ShortText};
 use std::alloc::{AllocError, Global};
 use std::fmt;
 use std::hash::{Hash, Hasher};
 use std::marker::Model;
 
-/// A text that a value owns. A contract sees it as the list of its bytes, which are UTF-8.
+/// Where the bytes of a text lie.
+#[derive(Drop)]
+enum Kept {
+    Short(ShortText),
+    Long(String),
+}
+
+/// A text that a value owns, which takes no memory if it has at most 30 bytes. A contract sees it as the list of its bytes, which are
+/// UTF-8.
 #[derive(Drop)]
 pub struct Text {
-    text: String,
+    kept: Kept,
 }
 
 impl Model for Text {
+    ghost use Rattle.std.specs.Prelude.{ℕ, List};
+    ghost use Rattle.rtc_wire.specs.Text.{kept_bytes};
+
     ghost Value = { List ℕ };
 
-    ghost view = { λ t. string_bytes t.text };
+    ghost view = { λ t. kept_bytes t.kept };
 }
 
 impl Text {
@@ -29,36 +41,44 @@ impl Text {
     pub fn new(text: String) -> Text
         ensures { result ≡ string_bytes text }
     {
-        Text { text }
+        Text {
+            kept: Kept::Long(text),
+        }
     }
 
     /// A text of its own with these bytes.
     pub fn from_str(alloc: Global, text: &str) -> Result<Text, AllocError>
         ensures { IfOk result (λ made. made ≡ text.now) }
     {
+        if text.len() <= SHORT_TEXT_LEN {
+            return Ok(Text {
+                kept: Kept::Short(ShortText::of(text)),
+            });
+        }
         let text = String::from_str(alloc, text)?;
-        Ok(Text { text })
+        Ok(Text::new(text))
     }
 
     /// The text, lent.
+    #[inline(always)]
     pub fn as_str(&self) -> &str
         ensures { result.now ≡ self.now }
     {
-        self.text.as_str()
-    }
-
-    /// The string inside.
-    pub fn into_string(self) -> String
-        ensures { string_bytes result ≡ self }
-    {
-        self.text
+        match &self.kept {
+            Kept::Short(text) => text.as_str(),
+            Kept::Long(text) => text.as_str(),
+        }
     }
 }
 
 impl TryCopy for Text {
     fn copy(&self) -> Result<Text, AllocError> {
-        let text = String::from_str(*self.text.allocator(), self.text.as_str())?;
-        Ok(Text { text })
+        match &self.kept {
+            Kept::Short(text) => Ok(Text {
+                kept: Kept::Short(text.again()),
+            }),
+            Kept::Long(text) => Text::from_str(*text.allocator(), text.as_str()),
+        }
     }
 }
 

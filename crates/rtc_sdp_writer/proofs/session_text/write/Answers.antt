@@ -8,5 +8,5 @@ pub returns : goal.returns
 unfolding written_sdp
 returns c =
     c.new.ensures
-    ∙ rw (c.in_ok-put_lines.ensures, c.in_ok-put_session.ensures, c.into_string-out.ensures, c.empty_text.ensures, c.as_slice.ensures)
+    ∙ rw (c.in_ok-put_lines.ensures, c.in_ok-put_session.ensures, c.empty_string-out.ensures, c.as_slice.ensures)
     (sym (text_of-append (session_rows c.args.sdp.now) (all_line_rows c.args.sdp.now.lines)))
