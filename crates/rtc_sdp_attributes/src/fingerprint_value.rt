@@ -1,13 +1,26 @@
 //! Values of `fingerprint`.
 ghost use Rattle.std.specs.Prelude.{◌≡◌, ◌++◌, IfOk, OnOk, string_bytes};
+ghost use Rattle.rtc_wire_text.specs.LetterCase.{lower as spec_lower};
 ghost use Rattle.rtc_sdp_attributes.specs.AttributeForms as form;
 ghost use Rattle.rtc_sdp_attributes.specs.AttributeTexts as written;
 
 use crate::cut;
 use crate::hash_value::{put_hash, read_hash};
 use rtc_sdp_values::Fingerprint;
+use rtc_wire::Text;
 use rtc_wire_text::{is_token, lower};
 use std::alloc::{AllocError, Global};
+
+/// The name of a hash function in lower case. That of SHA-256, which nearly all texts have, takes no memory.
+fn hash_name(alloc: Global, name: &str) -> Result<Text, AllocError>
+    ensures { IfOk result (λ made. made ≡ spec_lower name.now) }
+{
+    if name == "sha-256" {
+        Text::from_str(alloc, "sha-256")
+    } else {
+        lower(alloc, name)
+    }
+}
 
 /// The fingerprint that a value writes (RFC 8122, section 5). The name of the hash function is read in lower case.
 pub fn read_fingerprint(alloc: Global, value: &str) -> Result<Option<Fingerprint>, AllocError>
@@ -22,7 +35,7 @@ pub fn read_fingerprint(alloc: Global, value: &str) -> Result<Option<Fingerprint
     let Some(bytes) = read_hash(alloc, digits)? else {
         return Ok(None);
     };
-    let hash_func = lower(alloc, name)?;
+    let hash_func = hash_name(alloc, name)?;
     Ok(Some(Fingerprint { hash_func, bytes }))
 }
 

@@ -5,5 +5,5 @@ use Rattle.rtc_wire.specs.declared.short_text.ShortText.TheInside.{Inside}
 
 -- its bytes are at the front, and are UTF-8
 pub record IsInside (inside : Inside) : Type 0 where
-  pub most : inside.len ≤ 30
+  pub most : inside.len ≤ 38
   pub text : is_utf8 (take inside.len inside.bytes) ≡ true

@@ -5,13 +5,13 @@ use std::marker::Model;
 use std::str;
 
 /// The most bytes of a short text.
-pub(crate) const SHORT_TEXT_LEN: usize = 30;
+pub(crate) const SHORT_TEXT_LEN: usize = 38;
 
-/// A text of at most 30 bytes, which lie in the value itself. A contract sees it as the list of its bytes.
+/// A text of at most 38 bytes, which lie in the value itself. A contract sees it as the list of its bytes.
 #[derive(Drop)]
 pub(crate) struct ShortText {
     len: u8,
-    bytes: [u8; 30],
+    bytes: [u8; 38],
 }
 
 impl Model for ShortText {
@@ -28,10 +28,10 @@ impl Model for ShortText {
 impl ShortText {
     /// A text of its own with these bytes.
     pub(crate) fn of(text: &str) -> ShortText
-        requires { length text.now ≤ 30 }
+        requires { length text.now ≤ 38 }
         ensures { result ≡ text.now }
     {
-        let mut bytes = [0u8; 30];
+        let mut bytes = [0u8; 38];
         bytes[..text.len()].copy_from_slice(text.as_bytes());
         ShortText {
             len: text.len() as u8,

@@ -20,7 +20,7 @@ enum Kept {
     Long(String),
 }
 
-/// A text that a value owns, which takes no memory if it has at most 30 bytes. A contract sees it as the list of its bytes, which are
+/// A text that a value owns, which takes no memory if it has at most 38 bytes. A contract sees it as the list of its bytes, which are
 /// UTF-8.
 #[derive(Drop)]
 pub struct Text {
