@@ -47,7 +47,7 @@ fn payload_types(alloc: Global, words: &[&str]) -> Result<Option<Vec<u8>>, Alloc
     ensures { IfOk result (λ read. option_map (λ numbers. numbers.items) read
         ≡ each (spec_number_up_to 127) (map (λ word. word.now) words.now)) }
 {
-    let mut numbers = Vec::new(alloc);
+    let mut numbers = Vec::with_capacity(alloc, words.len())?;
     for word in words {
         let Some(number) = number_up_to(127, word) else {
             return Ok(None);
@@ -60,7 +60,7 @@ fn payload_types(alloc: Global, words: &[&str]) -> Result<Option<Vec<u8>>, Alloc
 fn each_once(alloc: Global, numbers: &[u8]) -> Result<Vec<u8>, AllocError>
     ensures { IfOk result (λ once. once.items ≡ spec_each_once eqb numbers.now) }
 {
-    let mut once = Vec::new(alloc);
+    let mut once = Vec::with_capacity(alloc, numbers.len())?;
     for number in numbers {
         if !once.contains(number) {
             once.push(*number)?;
