@@ -1,5 +1,6 @@
 -- Places of streams, by the two bytes of their ids.
-use Rattle.std.specs.Prelude.{ℕ, zero, suc, ◌≡◌, ◌/◌, ◌%◌, nat_lt, Bool, true, false, List, [], ◌∷◌, length, slice_index_or, Option, Some, None}
+use Rattle.std.specs.Prelude.{ℕ, zero, suc, ◌≡◌, ◌/◌, ◌%◌, nat_lt, Bool, true, false, List, [], ◌∷◌, length, slice_index_or}
+use Rattle.std.specs.Prelude.{Option, Some, None}
 use Rattle.rtc_assoc_state.specs.declared.places.Slots.{Slots}
 use Rattle.rtc_assoc_state.specs.declared.places.Places.{Places}
 

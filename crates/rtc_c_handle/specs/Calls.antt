@@ -12,7 +12,7 @@ use Rattle.rtc_peer_core.specs.declared.rtc_error.RtcError.{RtcError}
 use Rattle.rtc_peer_transport.specs.Connection.{no_transport}
 use Rattle.rtc_sdp_reader.specs.Reading.{reading}
 use Rattle.rtc.specs.PlainPeers.{IsPlainPeer}
-use Rattle.rtc_c_handle.specs.Negotiation.{AnswersOffer, TakesAnswer, RollsOfferBack}
+use Rattle.rtc_c_handle.specs.Negotiation.{TakesOffer, TakesAnswer, RollsOfferBack}
 use Rattle.rtc_c_handle.specs.Rows.{channel_entry, line_entry}
 use Rattle.rtc_c_handle.specs.Settings.{addr_of, config_of_settings, role_of_number}
 use Rattle.rtc_c_handle.specs.Statuses.{status_of_call, status_of_token}
@@ -62,7 +62,7 @@ pub data OnPeerWithRow (R : Type 0) (row : R) (calls : Held → Status → Held 
 pub record OfferGiven (text : List ℕ) (h : Held) (status : Status) (g : Held) : Type 0 where
   pub returned : Result (Unit {0}) RtcError
   pub is_returned : status ≡ status_of_call returned
-  pub answers : AnswersOffer (reading text) h returned g
+  pub answers : TakesOffer (reading text) h returned g
   pub token : g.token ≡ h.token
   pub connection : g.rtc.transport ≡ h.rtc.transport
   pub wanted : g.wanted ≡ h.wanted

@@ -21,9 +21,9 @@ use Rattle.rtc_c_handle.specs.declared.status.Status.{Status}
 use Rattle.rtc_c_handle.specs.declared.status.Status.TheVariants.{Done, NoMemory, NothingToOffer}
 
 -- The text of an offer is accepted, and the text to be sent is that of the answer; or it is refused, and the text to be sent is unchanged.
-abbrev pub AnswersOffer : Result Sdp ℕ → Held → Result (Unit {0}) RtcError → Held → Type 0
-AnswersOffer read h (Ok done) g = AcceptsOfferText memory_parts read h.rtc.core (Ok g.text) g.rtc.core
-AnswersOffer read h (Err error) g = AcceptsOfferText memory_parts read h.rtc.core (Err error) g.rtc.core × (g.text ≡ h.text)
+abbrev pub TakesOffer : Result Sdp ℕ → Held → Result (Unit {0}) RtcError → Held → Type 0
+TakesOffer read h (Ok done) g = AcceptsOfferText memory_parts read h.rtc.core (Ok g.text) g.rtc.core
+TakesOffer read h (Err error) g = AcceptsOfferText memory_parts read h.rtc.core (Err error) g.rtc.core × (g.text ≡ h.text)
 
 -- what a call that needs the token returns where the peer was given it
 abbrev pub had_token : Result (Unit {0}) RtcError → Result Bool RtcError

@@ -4,7 +4,7 @@ ghost use Rattle.rtc_peer_core.specs.Acceptances.{AcceptsAnswer};
 ghost use Rattle.rtc_peer_core.specs.RollingBack.{RollsBack};
 ghost use Rattle.rtc_sdp_reader.specs.Reading.{reading};
 ghost use Rattle.rtc.specs.PlainPeers.{memory_parts};
-ghost use Rattle.rtc_c_handle.specs.Negotiation.{AnswersOffer, Offers, SpendsToken, TakesAnswer, RollsOfferBack, WritesOffer};
+ghost use Rattle.rtc_c_handle.specs.Negotiation.{TakesOffer, Offers, SpendsToken, TakesAnswer, RollsOfferBack, WritesOffer};
 
 use crate::staging::make_offer;
 use crate::{Held, Made, Status};
@@ -37,7 +37,7 @@ impl Held {
     ///
     /// A text that is no offer leaves all as it was.
     pub fn accept_offer(&mut self, alloc: Global, text: &str) -> Result<(), RtcError>
-        ensures answers { AnswersOffer (reading text.now) self.old result self.new }
+        ensures answers { TakesOffer (reading text.now) self.old result self.new }
         ensures token { self.new.token ≡ self.old.token }
         ensures wanted { self.new.wanted ≡ self.old.wanted }
         ensures output { self.new.output ≡ self.old.output }

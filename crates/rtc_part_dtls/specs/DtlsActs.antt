@@ -2,7 +2,6 @@
 use Rattle.std.specs.Prelude.{ℕ, ◌≡◌, Bool, true, List, [], ◌∷◌, ◌++◌, Result, Ok, Err, refl}
 use Rattle.std.proofs.Common.{subst}
 use Rattle.std.specs.declared.alloc.AllocError.{AllocError}
-use Rattle.rtc_part_values.specs.Why.{Why, Timed, Shut, Other}
 use Rattle.rtc_part_dtls.specs.declared.dtls_error.DtlsError.{DtlsError}
 use Rattle.rtc_part_dtls.specs.declared.dtls_version.DtlsVersion.{DtlsVersion}
 use Rattle.rtc_part_dtls.specs.DtlsDrawn.{DtlsDrawn, DrewPacket, DrewData, tells}
@@ -25,12 +24,6 @@ pub data DtlsAct : Type 0 where
   Sent : (bytes : List ℕ) → DtlsAct
   Got : (bytes : List ℕ) → DtlsAct
   Stirred : (call : DtlsCall) → DtlsAct
-
--- why a call changed the part
-abbrev pub why_of_dtls : DtlsCall → Why
-why_of_dtls (TimedAt moment answer) = Timed moment
-why_of_dtls (Closed answer) = Shut
-why_of_dtls _ = Other
 
 -- a call took the part from p to q
 abbrev pub DtlsCalled : {D : Type 0} → DtlsMeaning D → D → DtlsCall → D → Type 0

@@ -7,7 +7,6 @@ use Rattle.rtc_wire.specs.declared.protocol.Protocol.{Protocol}
 use Rattle.rtc_wire.specs.declared.transmit.Transmit.{Transmit}
 use Rattle.rtc_sdp_values.specs.declared.candidate.Candidate.{Candidate}
 use Rattle.rtc_sdp_values.specs.declared.ice_creds.IceCreds.{IceCreds}
-use Rattle.rtc_part_values.specs.Why.{Why, Timed, Other}
 use Rattle.rtc_part_ice.specs.declared.ice_event.IceEvent.{IceEvent}
 use Rattle.rtc_part_ice.specs.IceMeaning.{IceMeaning}
 
@@ -30,11 +29,6 @@ pub data IceAct : Type 0 where
   Given : (message : List ℕ) → IceAct
   Taken : (transmit : Transmit) → IceAct
   Stirred : (call : IceCall) → IceAct
-
--- why a call changed the agent
-abbrev pub why_of_ice : IceCall → Why
-why_of_ice (TimedAt moment answer) = Timed moment
-why_of_ice _ = Other
 
 -- a call took the agent from p to q
 abbrev pub IceCalled : {I : Type 0} → IceMeaning I → I → IceCall → I → Type 0

@@ -30,7 +30,7 @@ use Rattle.rtc_peer_resting.proofs.KeptTurns.{phase_of_peer, turns_keep, visits_
 use Rattle.rtc_peer_resting.proofs.Draining.{visit_drains}
 use Rattle.rtc_peer_direct.specs.SourcesAndFeedback.{SendsAppFeedback}
 use Rattle.rtc_peer.specs.CachedPeer.{CachedPeer, AnswersKept, polled_of, kept_if, kept_in, kept_timeout_of}
-use Rattle.rtc_peer.specs.PeerSignals.{IsQuiet, IsTimed, AreSignals, MeetsParts, EndsClosing}
+use Rattle.rtc_peer.specs.PeerSignals.{MeetsNothing, IsTimed, AreSignals, MeetsParts, EndsClosing}
 
 module _ {I D S M E X T W N : Type 0} (m : Meanings I D S M E X T W N) (laws : PartsLaws m) where
   -- the least deadline, by what the media part waits for
@@ -63,7 +63,7 @@ module _ {I D S M E X T W N : Type 0} (m : Meanings I D S M E X T W N) (laws : P
 
   -- what a walk that met nothing leaves, for whatever reason the last timeout was
   pub walked_quiet : (p q : PolledPeer I D S M N) (reason : Reason) → RepeatsStage (VisitsParts m) p Nothing q → is_closing_complete m q ≡ false
-      → IsQuiet m (with_reason reason q)
+      → MeetsNothing m (with_reason reason q)
   walked_quiet p q reason h complete = record {
     walk = visited_quiet m laws h.last q reason h.ends;
     due = (visit_drains m laws h.last q h.ends).due;
@@ -71,11 +71,11 @@ module _ {I D S M E X T W N : Type 0} (m : Meanings I D S M E X T W N) (laws : P
   }
 
   -- a quiet peer is so for whatever reason the last timeout was
-  pub quiet_with : (p : PolledPeer I D S M N) (reason : Reason) → IsQuiet m p → IsQuiet m (with_reason reason p)
+  pub quiet_with : (p : PolledPeer I D S M N) (reason : Reason) → MeetsNothing m p → MeetsNothing m (with_reason reason p)
   quiet_with p reason h = walked_quiet p p reason (repeats_once (VisitsParts m) p p h.walk) h.closing
 
   -- a walk over a quiet peer
-  pub quiet_met : (p : PolledPeer I D S M N) → IsQuiet m p → MeetsParts m p Nothing p
+  pub quiet_met : (p : PolledPeer I D S M N) → MeetsNothing m p → MeetsParts m p Nothing p
   quiet_met p h = record { visited = p; by_visits = repeats_once (VisitsParts m) p p h.walk; by_end = rw h.closing refl }
 
   -- once a walk met nothing, and the closing is not complete

@@ -14,7 +14,7 @@ use Rattle.rtc_peer_polling.specs.Walk.{VisitsParts}
 
 module _ {I D S M E X T W N : Type 0} (m : Meanings I D S M E X T W N) where
   -- A walk meets nothing and leaves every part as it is, no moment of DTLS is reached, and the closing is not complete.
-  pub record IsQuiet (p : PolledPeer I D S M N) : Type 0 where
+  pub record MeetsNothing (p : PolledPeer I D S M N) : Type 0 where
     pub walk : VisitsParts m p Nothing p
     pub due : is_dtls_due p ≡ false
     pub closing : is_closing_complete m p ≡ false
@@ -26,7 +26,7 @@ module _ {I D S M E X T W N : Type 0} (m : Meanings I D S M E X T W N) where
 
   -- If the signal of events is off, the peer is quiet; if that of the timeout is, the kept timeout is the one that a walk ends with.
   pub record AreSignals (p : PolledPeer I D S M N) (signals : Signals) (kept : ℕ) : Type 0 where
-    pub events : signals.events ≡ false → IsQuiet p
+    pub events : signals.events ≡ false → MeetsNothing p
     pub timeout : signals.timeout ≡ false → IsTimed p kept
 
   -- if nothing was met, a closing that is complete leaves the peer closed

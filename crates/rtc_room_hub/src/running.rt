@@ -13,8 +13,8 @@ use std::alloc::{AllocError, Global};
 /// Takes the steps of a room in order, and returns a reply for each.
 ///
 /// What a member receives of another one is a prefix of what the hub heard of that one while both were in one room. `pairs` then has the
-/// pair of each member that joined, by its number, also of those that have left. Running out of memory in any step ends it with an error, of
-/// a step of a pair too.
+/// pair of each member that joined, by its number, also of those that have left. Running out of memory in any step ends it with an error,
+/// of a step of a pair too.
 pub fn run_room(
     alloc: Global,
     steps: &[RoomStep],

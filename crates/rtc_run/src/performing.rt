@@ -61,8 +61,8 @@ pub fn perform_step<I: IceAgent, D: DtlsInstance, S: Association, M: MediaSessio
     step: &Step,
 ) -> Reply<M::E>
     requires count { length sdps.old.items < 2 ^ 32 }
-    ensures { Acts (meanings I.ice D.dtls S.association M.media N.ids) I.stun other own step.now (polled_of rtc.old) sdps.old.items packets.old.items
-        result.outcome result.table (polled_of rtc.new) sdps.new.items packets.new.items }
+    ensures { Acts (meanings I.ice D.dtls S.association M.media N.ids) I.stun other own step.now (polled_of rtc.old)
+        sdps.old.items packets.old.items result.outcome result.table (polled_of rtc.new) sdps.new.items packets.new.items }
 {
     match step {
         Step::Negotiate { at, ops, apply } => {

@@ -81,7 +81,8 @@ fn shut_channel<I: IceAgent, D: DtlsInstance, S: Association, M: MediaSession, N
     rtc: &mut Rtc<I, D, S, M, N>,
     id: ChannelId,
 ) -> Result<(), RtcError>
-    ensures closes { ClosesOpenChannel (meanings I.ice D.dtls S.association M.media N.ids) id (polled_of rtc.old) result (polled_of rtc.new) }
+    ensures closes { ClosesOpenChannel (meanings I.ice D.dtls S.association M.media N.ids) id (polled_of rtc.old)
+        result (polled_of rtc.new) }
     ensures lines { rtc.new.core.lines ≡ rtc.old.core.lines }
     ensures channels { length rtc.new.core.channels.rows ≤ length rtc.old.core.channels.rows }
 {
