@@ -2,7 +2,7 @@
 """Counts instructions of the proved programs by valgrind --tool=callgrind, so that growth is seen. It is no part of the gate.
 
 usage: tests/measure.py [PART..]     PART is descriptions, rounds, orderly, associations, streams, channels, boundary, forged, lookups,
-frames, polls, connecting, demos or room; without one all are counted
+frames, polls, connecting, demos, room or forwarding; without one all are counted
 
 The programs are those that the gate left in crates/*/out/. Each figure is a difference of two runs, so that the start of the
 program is not in it. docs/PERFORMANCE.md has the tables.
@@ -382,12 +382,46 @@ def room():
             sys.exit(f"measure: the members of rooms heard {heard} messages")
         print(f"| {members} | {rooms} | {len(given):,} | {min(times):.3f} s | {memory(words, given):,} KiB |")
 
+# Messages of member 0 that member 1 is sent, in batches. All are acknowledged at once. Further members are in rooms of their own.
+def forwarding_script(members, batches):
+    lines = ["str0m-room 1", "join 0", "join 0"] + [f"join {k}" for k in range(2, members)]
+    lines += [f"{k} {step}" for k in range(2) for step in JOINING.replace("TURN", TURN).split("|")]
+    packet = 13
+    for number, size in enumerate(batches):
+        there, back = range(packet, packet + size), range(packet + size, packet + 2 * size)
+        lines += ["0 do R write 0 text 68"] * size + ["0 do R drain", *(f"0 arrive {p} 0" for p in there), "0 do L drain"]
+        lines += [f"0 do R datagram {p} 0" for p in back]
+        if number < len(batches) - 1:
+            lines += ["1 forward", "1 do L drain", *(f"1 do R datagram {p} 0" for p in there), "1 do R drain"]
+            lines += [f"1 arrive {p} 0" for p in back]
+        packet += 2 * size
+    return "".join(f"{line}\n" for line in lines).encode()
+
+
+# A forward of ten messages, with few and with many members, and after few and after many messages: within a tenth of each other.
+def forwarding():
+    print("| Members | Messages before | A forward of ten |\n|---|---|---|")
+    costs = []
+    for members, before in ((2, [10]), (256, [10]), (2, [500] * 20)):
+        given = forwarding_script(members, before + [10])
+        if len(given) > 1_048_576:
+            sys.exit("measure: the script of forwards is too long")
+        words = [program("rtc_room"), "run"]
+        (without, _), (cost, report) = count(words, given), count(words, given + b"1 forward\n")
+        if not report.endswith(b" forwarded 10\n") or report.count(b" forwarded ") != len(before) + 1:
+            sys.exit("measure: the messages are not forwarded")
+        costs.append(cost - without)
+        print(f"| {members} | {sum(before):,} | {costs[-1]:,} |")
+    if max(costs) > 1.1 * min(costs):
+        sys.exit("measure: a forward costs more with more members or more messages")
+
+
 
 def main():
     parts = {
         "descriptions": descriptions, "rounds": rounds, "orderly": orderly, "associations": associations,
         "streams": streams, "channels": channels, "boundary": boundary, "forged": forged, "lookups": lookups, "frames": frames, "polls": polls,
-        "connecting": connecting, "demos": demos, "room": room,
+        "connecting": connecting, "demos": demos, "room": room, "forwarding": forwarding,
     }
     wanted = sys.argv[1:] or list(parts)
     if any(name not in parts for name in wanted):
