@@ -7,6 +7,7 @@ pub mod CandidateLemmas
 pub mod PairLemmas
 pub mod RtpmapLemmas
 pub mod FmtpLemmas
+mod AptLemmas
 pub mod ExtmapLemmas
 pub mod MsidLemmas
 pub mod RidLemmas

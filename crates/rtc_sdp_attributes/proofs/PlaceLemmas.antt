@@ -67,3 +67,18 @@ parts_none at text h = parts_by_cut at text ∙ ap (behind_cut at text) (sym h)
 -- what stands before the first such byte is the first part
 pub parts_some : (at : ℕ) (text front behind : List ℕ) → Some (front, behind) ≡ cut at text → parts at text ≡ front ∷ parts at behind
 parts_some at text front behind h = parts_by_cut at text ∙ ap (behind_cut at text) (sym h)
+
+-- what is behind a cut is shorter than the text
+one_shorter : (x : ℕ) (xs : List ℕ) (found : Option (List ℕ × List ℕ)) (pair : List ℕ × List ℕ) → ((p : List ℕ × List ℕ) → Some p ≡ found → length p.1 < length xs)
+    → Some pair ≡ option_map (λ p. (x ∷ p.0, p.1)) found → length pair.1 < length (x ∷ xs)
+one_shorter x xs None pair below h = absurd cc
+one_shorter x xs (Some p) pair below h =
+    let same : pair.1 ≡ p.1 = cc in
+    omega (arith, below p refl, ap length same)
+
+pub shorter : (at : ℕ) (text : List ℕ) (pair : List ℕ × List ℕ) → Some pair ≡ cut at text → length pair.1 < length text
+shorter at [] pair h = absurd cc
+shorter at (x ∷ xs) pair h = elim (eqb_tells x at) [
+  | inl (t, e) ↦ let same : pair.1 ≡ xs = (let found : Some pair ≡ Some ([], xs) = rw t at h in cc) in omega (arith, ap length same)
+  | inr (f, _) ↦ one_shorter x xs (cut at xs) pair (shorter at xs) (rw f at h)
+]

@@ -1,6 +1,7 @@
 -- The forms of the values of attributes, each with the section that has it.
 use Rattle.std.specs.Prelude.{ℕ, Bool, true, false, not, List, [], ◌∷◌, filter, map, Option, Some, None, option_map, if◌then◌else◌, codes}
 use Rattle.std.specs.Str.{bytes_eq}
+use Rattle.rtc_wire_text.specs.Cuts.{cut}
 use Rattle.rtc_wire_text.specs.Fields.{each, first}
 use Rattle.rtc_wire_text.specs.Fronts.{from_first, is_blank, is_byte}
 use Rattle.rtc_wire_text.specs.Hex.{hex_bytes}
@@ -147,6 +148,18 @@ apt_pair pair = labelled (codes "apt") EQUALS (number_up_to 127) (from_first is_
 
 abbrev pub apt : Form ℕ
 apt text = first apt_pair (parts SEMICOLON text)
+
+-- what is behind the first pair, if this names no payload type
+abbrev pub behind_pair : Option ℕ → List ℕ → Option (List ℕ)
+behind_pair None rest = Some rest
+behind_pair (Some number) rest = None
+
+abbrev pub behind_halves : Option (List ℕ × List ℕ) → Option (List ℕ)
+behind_halves None = None
+behind_halves (Some halves) = behind_pair (apt_pair halves.0) halves.1
+
+abbrev pub behind_other : List ℕ → Option (List ℕ)
+behind_other text = behind_halves (cut SEMICOLON text)
 
 -- the primary of redundant packets: the first number (RFC 2198, section 5)
 abbrev pub red_primary : Form ℕ

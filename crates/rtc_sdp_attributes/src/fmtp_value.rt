@@ -1,13 +1,14 @@
 //! Values of `fmtp`.
-ghost use Rattle.std.specs.Prelude.{◌≡◌, ◌++◌, IfOk, OnOk, string_bytes, map};
-ghost use Rattle.rtc_wire_text.specs.Fields.{first};
+ghost use Rattle.std.specs.Prelude.{◌≡◌, ◌++◌, IfOk, OnOk, option_map, string_bytes};
+ghost use Rattle.rtc_wire_text.specs.Cuts.{cut as spec_cut};
 ghost use Rattle.rtc_sdp_attributes.specs.AttributeForms as form;
 ghost use Rattle.rtc_sdp_attributes.specs.AttributeTexts as written;
+ghost use Rattle.rtc_sdp_attributes.specs.Forms as forms;
 
 use crate::{Fmtp, cut, put_decimal};
 use rtc_sdp_values::Pt;
 use rtc_wire::Text;
-use rtc_wire_text::{number_up_to, parts, without_blanks};
+use rtc_wire_text::{number_up_to, without_blanks};
 use std::alloc::{AllocError, Global};
 
 /// The parameters that a value gives to a payload type (RFC 8866, section 6.15), at least one byte.
@@ -53,23 +54,40 @@ fn apt_pair(pair: &str) -> Option<u64>
     }
 }
 
-fn first_apt(pairs: &[&str]) -> Option<u64>
-    ensures { result ≡ first form.apt_pair (map (λ pair. pair.now) pairs.now) }
+/// The first pair of parameters that semicolons part.
+fn first_pair(text: &str) -> &str
+    ensures { result.now ≡ forms.front_of text.now (spec_cut forms.SEMICOLON text.now) }
 {
-    for pair in pairs {
-        if let Some(number) = apt_pair(pair) {
-            return Some(number);
-        }
+    match cut(text, b';') {
+        None => text,
+        Some((pair, _)) => pair,
     }
-    None
 }
 
-/// The payload type that the parameters of a retransmission name as theirs (RFC 4588, section 8.1).
-pub fn read_apt(alloc: Global, text: &str) -> Result<Option<u64>, AllocError>
-    ensures { IfOk result (λ read. read ≡ form.apt text.now) }
+/// What is behind the first pair, if this names no payload type.
+fn behind_other(text: &str) -> Option<&str>
+    ensures { option_map (λ rest. rest.now) result ≡ form.behind_other text.now }
 {
-    let pairs = parts(alloc, text, ';')?;
-    Ok(first_apt(pairs.as_slice()))
+    let Some((pair, rest)) = cut(text, b';') else {
+        return None;
+    };
+    match apt_pair(pair) {
+        Some(_) => None,
+        None => Some(rest),
+    }
+}
+
+/// The payload type that the parameters of a retransmission name as theirs (RFC 4588, section 8.1). The pairs are cut off one by
+/// one, so that no list is made.
+#[tactic(auto, using(crate::proofs::AptLemmas::apt_next, crate::proofs::AptLemmas::apt_shorter, crate::proofs::AptLemmas::apt_done))]
+pub fn read_apt(text: &str) -> Option<u64>
+    ensures { result ≡ form.apt text.now }
+{
+    let mut rest = text;
+    while let Some(next) = behind_other(rest) {
+        rest = next;
+    }
+    apt_pair(first_pair(rest))
 }
 
 /// Appends the parameters of the retransmission of a payload type.

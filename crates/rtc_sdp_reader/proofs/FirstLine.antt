@@ -1,13 +1,12 @@
 -- The first line of a text.
-use Rattle.std.proofs.Common.{◌≡◌, ◌∙◌, ◌+◌, ◌-◌, ◌<◌, ℕ, suc, false, eqb, List, [], ◌∷◌, length, Option, Some, None, refl, sym, ap, inl, inr, arith, nat_eq}
-use Rattle.std.specs.Prelude.{option_map}
+use Rattle.std.proofs.Common.{◌≡◌, ◌∙◌, ◌+◌, ◌-◌, ◌<◌, ℕ, suc, false, eqb, List, [], ◌∷◌, length, Some, None, refl, sym, ap, inl, inr, arith, nat_eq}
 use Rattle.std.specs.List.{onto_first}
 use Rattle.std.specs.Str.Lines.{strip_carriage_return, lines_of_parts}
 use Rattle.std.proofs.lemmas.Bool.Decides.{eqb_tells, nat_tests}
 use Rattle.rtc_wire_text.specs.Cuts.{cut}
 use Rattle.rtc_wire_text.specs.Lines.{lines}
 use Rattle.rtc_wire_text.specs.Words.{parts}
-use Rattle.rtc_sdp_attributes.proofs.PlaceLemmas.{parts_none, parts_some}
+use Rattle.rtc_sdp_attributes.proofs.PlaceLemmas.{parts_none, parts_some, shorter}
 
 more_in_front : (line : List ℕ) (b : ℕ) (rest : List (List ℕ)) → lines_of_parts (line ∷ onto_first b rest) ≡ strip_carriage_return line ∷ lines_of_parts (onto_first b rest)
 more_in_front line b [] = refl
@@ -30,20 +29,6 @@ last_line [] some h = absurd (omega arith)
 last_line (b ∷ bs) some h =
     let filled : eqb (length (b ∷ bs)) 0 ≡ false = grind (arith, nat_tests) in
     ap lines_of_parts (parts_none 10 (b ∷ bs) h) ∙ rw filled refl
-
-one_shorter : (x : ℕ) (xs : List ℕ) (found : Option (List ℕ × List ℕ)) (pair : List ℕ × List ℕ) → ((p : List ℕ × List ℕ) → Some p ≡ found → length p.1 < length xs)
-    → Some pair ≡ option_map (λ p. (x ∷ p.0, p.1)) found → length pair.1 < length (x ∷ xs)
-one_shorter x xs None pair below h = absurd cc
-one_shorter x xs (Some p) pair below h =
-    let same : pair.1 ≡ p.1 = cc in
-    omega (arith, below p refl, ap length same)
-
-shorter : (at : ℕ) (text : List ℕ) (pair : List ℕ × List ℕ) → Some pair ≡ cut at text → length pair.1 < length text
-shorter at [] pair h = absurd cc
-shorter at (x ∷ xs) pair h = elim (eqb_tells x at) [
-  | inl (t, e) ↦ let same : pair.1 ≡ xs = (let found : Some pair ≡ Some ([], xs) = rw t at h in cc) in omega (arith, ap length same)
-  | inr (f, _) ↦ one_shorter x xs (cut at xs) pair (shorter at xs) (rw f at h)
-]
 
 pub is_shorter : (text line behind : List ℕ) → Some (line, behind) ≡ cut 10 text → length behind < length text
 is_shorter text line behind h = shorter 10 text (line, behind) h

@@ -47,31 +47,31 @@ fn is_red(codec: &str) -> bool
     same_letters(codec, "red")
 }
 
-fn link_of(alloc: Global, codec: &Rtpmap, fmtp: &str) -> Result<Link, AllocError>
-    ensures { IfOk result (λ link. link ≡ spec.link_of (record { codec = codec.now; fmtp = fmtp.now })) }
+/// What a payload type serves. Its parameters are looked for if its codec serves others.
+fn link_of(codec: &Rtpmap, fmtps: &[Fmtp], format: u8) -> Link
+    ensures { result ≡ spec.link_of (record { codec = codec.now; fmtp = spec.fmtp_for fmtps.now format }) }
 {
     let pt = codec.pt.0;
     let name = codec.codec.as_str();
     if is_rtx(name) {
-        let rtx_of = read_apt(alloc, fmtp)?;
-        return Ok(Link {
+        return Link {
             pt,
-            rtx_of,
+            rtx_of: read_apt(fmtp_for(fmtps, format)),
             red_of: None,
-        });
+        };
     }
     if is_red(name) {
-        return Ok(Link {
+        return Link {
             pt,
             rtx_of: None,
-            red_of: read_red_primary(fmtp),
-        });
+            red_of: read_red_primary(fmtp_for(fmtps, format)),
+        };
     }
-    Ok(Link {
+    Link {
         pt,
         rtx_of: None,
         red_of: None,
-    })
+    }
 }
 
 fn links_of(
@@ -87,8 +87,7 @@ fn links_of(
         let Some(codec) = codec_for(codecs, *format) else {
             continue;
         };
-        let link = link_of(alloc, codec, fmtp_for(fmtps, *format))?;
-        links.push(link)?;
+        links.push(link_of(codec, fmtps, *format))?;
     }
     Ok(links)
 }

@@ -1,5 +1,5 @@
 //! The lines of payload rows, put behind a text.
-ghost use Rattle.std.specs.Prelude.{◌≡◌, ◌++◌, OnOk, string_bytes, map};
+ghost use Rattle.std.specs.Prelude.{◌≡◌, ◌++◌, ◌∷◌, OnOk, codes, string_bytes, map};
 ghost use Rattle.rtc_wire_text.specs.Lines.{crlf, text_of};
 ghost use Rattle.rtc_sdp_grammar.specs.MediaTexts as spec;
 ghost use Rattle.rtc_sdp_attributes.specs.AttributeTexts.{red_text, apt_text};
@@ -7,6 +7,7 @@ ghost use Rattle.rtc_sdp_reader.specs.PlainPayloads.{fmtp_row, own_fmtp};
 ghost use Rattle.rtc_sdp_values.specs.declared.line_kind.LineKind.TheVariants.{Video};
 ghost use Rattle.rtc_sdp_writer.specs.MediaRows as rows;
 
+use itoa::Buffer;
 use rtc_sdp_attributes::{put_apt, put_decimal, put_fmtp, put_red, put_rtpmap};
 use rtc_sdp_values::{LineKind, PayloadRow, Pt};
 use std::alloc::AllocError;
@@ -41,24 +42,28 @@ fn put_parameters(out: &mut String, pt: Pt, text: &str) -> Result<(), AllocError
     out.push_str("\r\n")
 }
 
-#[tactic(auto, unfolding(rtc_sdp_grammar::specs::MediaTexts::feedback_line))]
-fn put_feedback_kind(out: &mut String, pt: Pt, kind: &str) -> Result<(), AllocError>
-    ensures { OnOk result (string_bytes out.new ≡ string_bytes out.old ++ crlf (spec.feedback_line pt.0 kind.now)) }
+/// A kind of feedback to a payload type, whose number is written in decimal.
+fn put_feedback_kind(out: &mut String, number: &str, kind: &str) -> Result<(), AllocError>
+    ensures { OnOk result (string_bytes out.new ≡ string_bytes out.old
+        ++ crlf (codes "a=rtcp-fb:" ++ (number.now ++ (32 ∷ kind.now)))) }
 {
     out.push_str("a=rtcp-fb:")?;
-    put_decimal(out, pt.0 as u64)?;
+    out.push_str(number)?;
     out.push_str(" ")?;
     out.push_str(kind)?;
     out.push_str("\r\n")
 }
 
-#[tactic(auto, using(rtc_wire_text::proofs::LineLemmas::appends))]
+/// Three kinds, for which the number is made once.
+#[tactic(auto, unfolding(rtc_sdp_grammar::specs::MediaTexts::feedback_line), using(rtc_wire_text::proofs::LineLemmas::appends))]
 fn put_video_feedback(out: &mut String, pt: Pt) -> Result<(), AllocError>
     ensures { OnOk result (string_bytes out.new ≡ string_bytes out.old ++ text_of (rows.feedback_lines Video pt.0)) }
 {
-    put_feedback_kind(out, pt, "nack")?;
-    put_feedback_kind(out, pt, "nack pli")?;
-    put_feedback_kind(out, pt, "ccm fir")
+    let mut buffer = Buffer::new();
+    let number = buffer.format(pt.0);
+    put_feedback_kind(out, number, "nack")?;
+    put_feedback_kind(out, number, "nack pli")?;
+    put_feedback_kind(out, number, "ccm fir")
 }
 
 fn put_feedback(out: &mut String, kind: LineKind, pt: Pt) -> Result<(), AllocError>

@@ -11,6 +11,6 @@ loop-format-preserved-in_default c =
 pub loop-format-preserved : goal.loop-format-preserved
 loop-format-preserved c =
     let format : ℕ = get_or c.args.formats.now c.loop-format.format-index 0 in
-    one_link c.args.codecs.now c.args.fmtps.now c.args.formats.now c.loop-format.format-index format c.in-Some.codec.now c.in_ok-link.link
-    c.loop-format.links.items _ _ c.loop-format-test.true refl (sym c.in-Some.ensures) (rw c.fmtp_for.ensures at c.in_ok-link.ensures)
+    one_link c.args.codecs.now c.args.fmtps.now c.args.formats.now c.loop-format.format-index format c.in-Some.codec.now c.link_of.result
+    c.loop-format.links.items _ _ c.loop-format-test.true refl (sym c.in-Some.ensures) c.link_of.ensures
     c.in_ok-push.ensures.items c.loop-format.invariant
