@@ -11,7 +11,7 @@ fn is_packet_copied(alloc: Global) -> Result<bool, AllocError> {
 
 fn is_message_copied(alloc: Global) -> Result<bool, AllocError> {
     let config = ChannelConfig::new(alloc);
-    let message = DcepOpen::from_config(&config)?;
+    let message = DcepOpen::from_config(alloc, &config)?;
     Ok(is_ok(message.copy()))
 }
 

@@ -15,13 +15,13 @@ fn is_written(message: &DcepOpen, buf: &mut [u8; 15]) -> bool {
     (length == 13) & (message.marshal_to(buf) == 13)
 }
 
-fn is_config(message: &DcepOpen, config: &ChannelConfig) -> bool {
-    gives(ChannelConfig::from_open(message), config)
+fn is_config(alloc: Global, message: &DcepOpen, config: &ChannelConfig) -> bool {
+    gives(ChannelConfig::from_open(alloc, message), config)
 }
 
 // Whether a config is announced by the open message, and both are read back.
 fn is_announced(alloc: Global, config: &ChannelConfig) -> Result<bool, DcepError> {
-    let message = DcepOpen::from_config(config)?;
+    let message = DcepOpen::from_config(alloc, config)?;
     let mut buf = [0xffu8; 15];
     let written = is_written(&message, &mut buf);
     Ok(every(&[
@@ -29,7 +29,7 @@ fn is_announced(alloc: Global, config: &ChannelConfig) -> Result<bool, DcepError
         &buf[..13] == OPEN_A.as_slice(),
         &buf[13..] == [0xffu8, 0xff].as_slice(),
         gives(DcepOpen::read(alloc, &buf), &message),
-        is_config(&message, config),
+        is_config(alloc, &message, config),
     ]))
 }
 

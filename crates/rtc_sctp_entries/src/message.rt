@@ -65,7 +65,7 @@ fn read_open(alloc: Global, bytes: &[u8]) -> ReadMessage
     ensures { ReadsOpen bytes.now result }
 {
     match DcepOpen::read(alloc, bytes) {
-        Ok(message) => match ChannelConfig::from_open(&message) {
+        Ok(message) => match ChannelConfig::from_open(alloc, &message) {
             Ok(config) => ReadMessage::Open(message.label, config),
             Err(_) => ReadMessage::OutOfMemory,
         },

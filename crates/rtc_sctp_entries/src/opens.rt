@@ -56,7 +56,7 @@ fn open_message_of(alloc: Global, config: &ChannelConfig) -> Result<Bytes, Alloc
     requires protocol { length config.now.protocol ≤ 65535 }
     ensures { IfOk result (λ bytes. bytes ≡ open_bytes (open_of config.now)) }
 {
-    let message = DcepOpen::from_config(config)?;
+    let message = DcepOpen::from_config(alloc, config)?;
     let mut bytes = vec![in alloc; 0u8; message.marshal_len()]?;
     message.marshal_to(bytes.as_mut_slice());
     Ok(Bytes::new(bytes))

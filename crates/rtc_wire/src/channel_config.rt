@@ -32,11 +32,11 @@ impl ChannelConfig {
     }
 
     /// The config that an open message asks for.
-    pub fn from_open(d: &DcepOpen) -> Result<ChannelConfig, AllocError>
+    pub fn from_open(alloc: Global, d: &DcepOpen) -> Result<ChannelConfig, AllocError>
         ensures { IfOk result (λ made. made ≡ config_of d.now) }
     {
-        let label = d.label.copy()?;
-        let protocol = d.protocol.copy()?;
+        let label = Text::from_str(alloc, d.label.as_str())?;
+        let protocol = Text::from_str(alloc, d.protocol.as_str())?;
         Ok(ChannelConfig {
             label,
             ordered: !d.unordered,

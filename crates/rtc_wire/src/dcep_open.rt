@@ -164,12 +164,12 @@ impl DcepOpen {
     }
 
     /// The message that announces a channel.
-    pub fn from_config(c: &ChannelConfig) -> Result<DcepOpen, AllocError>
+    pub fn from_config(alloc: Global, c: &ChannelConfig) -> Result<DcepOpen, AllocError>
         ensures made { IfOk result (λ made. made ≡ open_of c.now) }
         ensures reverse { IfOk result (λ made. config_of made ≡ record c.now { negotiated = None }) }
     {
-        let label = c.label.copy()?;
-        let protocol = c.protocol.copy()?;
+        let label = Text::from_str(alloc, c.label.as_str())?;
+        let protocol = Text::from_str(alloc, c.protocol.as_str())?;
         let (channel_type, reliability_parameter) = c.reliability.parts();
         Ok(DcepOpen {
             unordered: !c.ordered,
