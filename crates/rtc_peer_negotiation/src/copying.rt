@@ -89,7 +89,7 @@ pub fn put_told(
 {
     put_creds(sdp, &mut growth.following.creds)?;
     let candidates = sdp.candidates()?;
-    set(&mut growth.following.candidates, candidates);
+    set(&mut growth.following.candidates, Seq::new(candidates));
     put_fingerprint(known, sdp, &mut growth.fingerprint)
 }
 

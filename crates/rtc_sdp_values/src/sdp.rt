@@ -84,8 +84,8 @@ fn application_line(lines: &[MediaLine]) -> Option<&MediaLine>
     None
 }
 
-fn append_candidates(found: &mut Seq<Candidate>, candidates: &[Candidate]) -> Result<(), AllocError>
-    ensures { OnOk result (found.new ≡ found.old ++ candidates.now) }
+fn append_candidates(found: &mut Vec<Candidate>, candidates: &[Candidate]) -> Result<(), AllocError>
+    ensures { OnOk result (found.new.items ≡ found.old.items ++ candidates.now) }
 {
     for candidate in candidates {
         let copied = candidate.copy()?;
@@ -94,8 +94,8 @@ fn append_candidates(found: &mut Seq<Candidate>, candidates: &[Candidate]) -> Re
     Ok(())
 }
 
-fn append_line_candidates(found: &mut Seq<Candidate>, lines: &[MediaLine]) -> Result<(), AllocError>
-    ensures { OnOk result (found.new ≡ found.old ++ flat_map (λ line. line.candidates) lines.now) }
+fn append_line_candidates(found: &mut Vec<Candidate>, lines: &[MediaLine]) -> Result<(), AllocError>
+    ensures { OnOk result (found.new.items ≡ found.old.items ++ flat_map (λ line. line.candidates) lines.now) }
 {
     for line in lines {
         append_candidates(found, line.candidates.as_slice())?;
@@ -158,11 +158,11 @@ impl Sdp {
     }
 
     /// The candidates of all lines, in order.
-    pub fn candidates(&self) -> Result<Seq<Candidate>, AllocError>
-        ensures { IfOk result (λ found. found ≡ spec.candidates_of self.now) }
+    pub fn candidates(&self) -> Result<Vec<Candidate>, AllocError>
+        ensures { IfOk result (λ found. found.items ≡ spec.candidates_of self.now) }
     {
         let nothing = self.lines.empty_string();
-        let mut found = Seq::empty(*nothing.allocator());
+        let mut found = Vec::new(*nothing.allocator());
         let filled = append_line_candidates(&mut found, self.lines.as_slice());
         whole(found, filled)
     }
