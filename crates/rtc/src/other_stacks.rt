@@ -30,7 +30,7 @@ fn write_filled(answer: SdpAnswer) -> Result<Option<Text>, RtcError>
     ensures { WritesFilled answer.0 result }
 {
     match answer.to_sdp_string_with_formats() {
-        Ok(text) => release(answer, Ok(Some(text))),
+        Ok(text) => release(answer, Ok(Some(Text::new(text)))),
         Err(_) => release(answer, Err(RtcError::Alloc)),
     }
 }

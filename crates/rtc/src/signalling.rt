@@ -40,7 +40,7 @@ fn write_answer(answer: SdpAnswer) -> Result<Text, RtcError>
     ensures { WritesAnswer answer.0 result }
 {
     match answer.to_sdp_string() {
-        Ok(text) => release(answer, Ok(text)),
+        Ok(text) => release(answer, Ok(Text::new(text))),
         Err(_) => release(answer, Err(RtcError::Alloc)),
     }
 }

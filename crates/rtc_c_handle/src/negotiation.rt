@@ -9,6 +9,7 @@ ghost use Rattle.rtc_c_handle.specs.Negotiation.{TakesOffer, Offers, SpendsToken
 use crate::staging::make_offer;
 use crate::{Held, Made, Status};
 use rtc::{Plain, PlainRtc, RtcError, SdpAnswer, SdpOffer, SdpPendingOffer, accept_offer_text};
+use rtc_wire::Text;
 use rtc_wire_drops::release;
 use std::alloc::Global;
 
@@ -97,7 +98,7 @@ impl Held {
     {
         match offer.to_sdp_string() {
             Ok(text) => {
-                self.text = text;
+                self.text = Text::new(text);
                 release(offer, Status::Done)
             }
             Err(_) => release(offer, Status::NoMemory),

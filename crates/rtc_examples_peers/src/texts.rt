@@ -1,6 +1,5 @@
 //! The texts of a round.
 use rtc_peer::{RtcError, SdpAnswer, SdpOffer, SdpPendingOffer};
-use rtc_wire::Text;
 use rtc_wire_drops::release;
 use rtc_wire_text::lines;
 use std::alloc::{AllocError, Global};
@@ -9,10 +8,10 @@ use std::alloc::{AllocError, Global};
 pub fn write_offer(
     alloc: Global,
     made: Option<(SdpOffer, SdpPendingOffer)>,
-) -> Result<Text, AllocError> {
+) -> Result<String, AllocError> {
     let text = match &made {
         Some((offer, _)) => offer.to_sdp_string(),
-        None => Ok(Text::new(String::new(alloc))),
+        None => Ok(String::new(alloc)),
     };
     release(made, text)
 }

@@ -1,5 +1,5 @@
 //! Answers.
-ghost use Rattle.std.specs.Prelude.{◌≡◌, IfOk, Ok};
+ghost use Rattle.std.specs.Prelude.{◌≡◌, IfOk, Ok, string_bytes};
 ghost use Rattle.rtc_lines.specs.SdpReads.{ReadsAnswer};
 ghost use Rattle.rtc_sdp_reader.specs.Reading.{reading};
 ghost use Rattle.rtc_sdp_values.specs.Sdp.{inconsistency, refusal};
@@ -11,7 +11,7 @@ ghost use Rattle.rtc_sdp_writer.specs.SessionRows.{written_sdp};
 use crate::sdp_text::{filled_text, sdp_text};
 use rtc_sdp_reader::read;
 use rtc_sdp_values::{Sdp, SdpError};
-use rtc_wire::{Text, TryCopy};
+use rtc_wire::TryCopy;
 use std::alloc::{AllocError, Global};
 
 /// A session description that is an answer (RFC 3264, section 4).
@@ -28,20 +28,20 @@ impl SdpAnswer {
     }
 
     /// The answer as text. Every answer has one; that of a legible one reads as it, with the SSRCs that its lines give.
-    pub fn to_sdp_string(&self) -> Result<Text, AllocError>
-        ensures text { IfOk result (λ text. text ≡ written_sdp self.now.0) }
-        ensures read_again { IsLegible self.now.0 → IfOk result (λ text. reading text ≡ Ok (as_read self.now.0)) }
-        ensures read_back { IsPlain self.now.0 → IfOk result (λ text. reading text ≡ Ok self.now.0) }
+    pub fn to_sdp_string(&self) -> Result<String, AllocError>
+        ensures text { IfOk result (λ text. string_bytes text ≡ written_sdp self.now.0) }
+        ensures read_again { IsLegible self.now.0 → IfOk result (λ text. reading (string_bytes text) ≡ Ok (as_read self.now.0)) }
+        ensures read_back { IsPlain self.now.0 → IfOk result (λ text. reading (string_bytes text) ≡ Ok self.now.0) }
     {
         sdp_text(&self.0)
     }
 
     /// The answer as text in which each m-line has a format, as RFC 8866, section 5.14, wants it: a line with port 0 and no
     /// payload types has the format 0. Browsers refuse the text of `to_sdp_string` if it has such a line.
-    pub fn to_sdp_string_with_formats(&self) -> Result<Text, AllocError>
-        ensures text { IfOk result (λ text. text ≡ filled_sdp self.now.0) }
-        ensures read_again { IsLegible self.now.0 → IfOk result (λ text. reading text ≡ Ok (as_read self.now.0)) }
-        ensures read_back { IsPlain self.now.0 → IfOk result (λ text. reading text ≡ Ok self.now.0) }
+    pub fn to_sdp_string_with_formats(&self) -> Result<String, AllocError>
+        ensures text { IfOk result (λ text. string_bytes text ≡ filled_sdp self.now.0) }
+        ensures read_again { IsLegible self.now.0 → IfOk result (λ text. reading (string_bytes text) ≡ Ok (as_read self.now.0)) }
+        ensures read_back { IsPlain self.now.0 → IfOk result (λ text. reading (string_bytes text) ≡ Ok self.now.0) }
     {
         filled_text(&self.0)
     }

@@ -1,5 +1,5 @@
 //! A session description, read and written again.
-ghost use Rattle.std.specs.Prelude.{◌≡◌, Ok, Err, MatchResult};
+ghost use Rattle.std.specs.Prelude.{◌≡◌, Ok, Err, MatchResult, string_bytes};
 ghost use Rattle.rtc_sdp_reader.specs.Reading.{reading};
 ghost use Rattle.rtc_sdp_text.specs.Repair.{bytes_reading};
 ghost use Rattle.rtc_sdp_text.specs.Rewrite.{Rewrites};
@@ -14,11 +14,11 @@ use rtc_wire_drops::release;
 use std::alloc::{AllocError, Global};
 
 // The text, or that there is no memory for it.
-fn or_no_memory(text: Result<Text, AllocError>) -> Result<Text, TextError>
-    ensures { MatchResult text (λ text. result ≡ Ok text) (λ _. result ≡ Err Alloc) }
+fn or_no_memory(text: Result<String, AllocError>) -> Result<Text, TextError>
+    ensures { MatchResult text (λ text. result ≡ Ok (string_bytes text)) (λ _. result ≡ Err Alloc) }
 {
     match text {
-        Ok(text) => Ok(text),
+        Ok(text) => Ok(Text::new(text)),
         Err(_) => Err(TextError::Alloc),
     }
 }

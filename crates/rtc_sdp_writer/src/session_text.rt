@@ -9,7 +9,6 @@ use crate::line_text::{put_group, put_origin};
 use crate::media_text::put_lines;
 use crate::semantic_text::put_semantic;
 use rtc_sdp_values::Sdp;
-use rtc_wire::Text;
 use std::alloc::AllocError;
 
 fn put_lite_if_so(out: &mut String, lite: bool) -> Result<(), AllocError>
@@ -39,23 +38,23 @@ fn put_session(out: &mut String, sdp: &Sdp) -> Result<(), AllocError>
 /// The text of a value (RFC 8866, section 5). Each value has one; what the session itself says of a connection, and what is None,
 /// are not written.
 #[tactic(auto, unfolding(crate::specs::SessionRows::written_sdp))]
-pub fn write(sdp: &Sdp) -> Result<Text, AllocError>
-    ensures { IfOk result (λ text. text ≡ spec.written_sdp sdp.now) }
+pub fn write(sdp: &Sdp) -> Result<String, AllocError>
+    ensures { IfOk result (λ text. string_bytes text ≡ spec.written_sdp sdp.now) }
 {
     let mut out = sdp.lines.empty_string();
     put_session(&mut out, sdp)?;
     put_lines(&mut out, sdp.lines.as_slice())?;
-    Ok(Text::new(out))
+    Ok(out)
 }
 
 /// The text of a value in which each m-line has a format, as other readers want it (RFC 8866, section 5.14): a line with
 /// port 0 and no payload types has the format 0.
 #[tactic(auto, unfolding(crate::specs::Placeholders::filled_sdp))]
-pub fn write_filled(sdp: &Sdp) -> Result<Text, AllocError>
-    ensures { IfOk result (λ text. text ≡ filled_sdp sdp.now) }
+pub fn write_filled(sdp: &Sdp) -> Result<String, AllocError>
+    ensures { IfOk result (λ text. string_bytes text ≡ filled_sdp sdp.now) }
 {
     let mut out = sdp.lines.empty_string();
     put_session(&mut out, sdp)?;
     put_filled_lines(&mut out, sdp.lines.as_slice())?;
-    Ok(Text::new(out))
+    Ok(out)
 }
