@@ -121,8 +121,8 @@ impl Changes {
 
     #[tactic(auto, using(crate::proofs::AddedLemmas::channels_step, crate::proofs::AddedLemmas::others_step))]
     /// Takes the channels out, the last first. The other changes stay in order.
-    pub fn take_new_channels(&mut self) -> Result<Seq<(ChannelId, ChannelConfig)>, AllocError>
-        ensures channels { IfOk result (λ channels. channels ≡ reverse (new_channels self.old.0)) }
+    pub fn take_new_channels(&mut self) -> Result<Vec<(ChannelId, ChannelConfig)>, AllocError>
+        ensures channels { IfOk result (λ channels. channels.items ≡ reverse (new_channels self.old.0)) }
         ensures others { OnOk result (self.new.0 ≡ without_channels self.old.0) }
         ensures err { OnErr result (self.new ≡ self.old) }
     {
@@ -135,16 +135,16 @@ impl Changes {
         }
         others.reverse();
         self.0 = Seq::new(others);
-        Ok(Seq::new(channels))
+        Ok(channels)
     }
 
     /// The rows of the lines that they add, at places from `index_start` on.
-    pub fn as_new_medias(&self, index_start: u32) -> Result<Seq<LineRow>, AllocError>
+    pub fn as_new_medias(&self, index_start: u32) -> Result<Vec<LineRow>, AllocError>
         requires { index_start + length (added_mids self.now.0) < 2 ^ 32 }
-        ensures rows { IfOk result (λ rows. rows ≡ added_rows index_start self.now.0) }
-        ensures count { IfOk result (λ rows. length rows ≡ length (added_mids self.now.0)) }
+        ensures rows { IfOk result (λ rows. rows.items ≡ added_rows index_start self.now.0) }
+        ensures count { IfOk result (λ rows. length rows.items ≡ length (added_mids self.now.0)) }
     {
-        let mut rows = Seq::empty(self.allocator());
+        let mut rows = Vec::new(self.allocator());
         let mut place = index_start;
         for change in self.0.as_slice() {
             let Some(row) = change.new_row(place) else {
