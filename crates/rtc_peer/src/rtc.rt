@@ -32,7 +32,7 @@ use rtc_peer_core::Phase;
 use rtc_peer_staging::{build_peer, list_channels, show_channel};
 use rtc_peer_transport::{PolledPeer, Transport};
 use rtc_ready::Readiness;
-use rtc_wire::{Moment, Seq};
+use rtc_wire::Moment;
 use std::alloc::{AllocError, Global};
 use std::marker::Model;
 
@@ -160,8 +160,8 @@ impl<I: IceAgent, D: DtlsInstance, S: Association, M: MediaSession, N: Ids> Rtc<
     }
 
     /// The rows of the data channels, in order of their numbers.
-    pub fn channels(&self) -> Result<Seq<ChannelRow>, AllocError>
-        ensures { IfOk result (λ rows. rows ≡ channel_rows S.association self.now.core.sctp self.now.core.channels) }
+    pub fn channels(&self) -> Result<Vec<ChannelRow>, AllocError>
+        ensures { IfOk result (λ rows. rows.items ≡ channel_rows S.association self.now.core.sctp self.now.core.channels) }
     {
         list_channels(&self.polled.core)
     }

@@ -11,7 +11,7 @@ use rtc_channels::ChannelRow;
 use rtc_part_association::Association;
 use rtc_peer_core::Peer;
 use rtc_sctp::RtcSctp;
-use rtc_wire::{ChannelId, Seq};
+use rtc_wire::ChannelId;
 use std::alloc::{AllocError, Global};
 
 // How often a stream was reset; 0 if there is none.
@@ -50,22 +50,22 @@ fn list_rows<S: Association>(
     alloc: Global,
     sctp: &RtcSctp<S>,
     rows: &[(ChannelId, Option<u16>)],
-) -> Result<Seq<ChannelRow>, AllocError>
-    ensures { IfOk result (λ shown. shown ≡ map (numbered_row S.association sctp.now) rows.now) }
+) -> Result<Vec<ChannelRow>, AllocError>
+    ensures { IfOk result (λ shown. shown.items ≡ map (numbered_row S.association sctp.now) rows.now) }
 {
     let mut shown = Vec::new(alloc);
     for row in rows {
         shown.push(make_row(sctp, row))?;
     }
-    Ok(Seq::new(shown))
+    Ok(shown)
 }
 
 /// The rows of the channels, in order of their numbers.
 #[tactic(auto, using(crate::proofs::ShownLemmas::shown_rows))]
 pub fn list_channels<I, D, S: Association, M, N>(
     peer: &Peer<I, D, S, M, N>,
-) -> Result<Seq<ChannelRow>, AllocError>
-    ensures { IfOk result (λ rows. rows ≡ channel_rows S.association peer.now.sctp peer.now.channels) }
+) -> Result<Vec<ChannelRow>, AllocError>
+    ensures { IfOk result (λ rows. rows.items ≡ channel_rows S.association peer.now.sctp peer.now.channels) }
 {
     let rows = list_rows(peer.alloc, &peer.sctp, peer.channels.rows())?;
     Ok(rows)
