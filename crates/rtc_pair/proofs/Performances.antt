@@ -1,5 +1,5 @@
 -- Scripts that were run on the pair of the program.
-use Rattle.std.proofs.Common.{◌≡◌, ◌⊎◌, inl, inr, ℕ, Bool, List, Option, Result, Ok, Err, IfOk, sym, subst}
+use Rattle.std.proofs.Common.{◌≡◌, ◌⊎◌, inl, inr, ℕ, Bool, List, Option, Result, Ok, Err, IfOk, Vec, sym, subst}
 use Rattle.std.specs.declared.alloc.Global.{Global}
 use Rattle.rtc_run_laws.specs.Crossed.{CrossedOffersMeet}
 use Rattle.rtc_run_laws.proofs.AcknowledgedSides.{run_acknowledges}
@@ -36,10 +36,10 @@ KnowPlain steps start pair told =
     → AllPlain pair.sdps
 
 -- so it is of steps that are the same
-pub known_of : {E : Type 0} (start pair : PlainPairState) (replies : Result (List (Reply PlainMediaEvent)) E) (steps steps' : List Step) → steps ≡ steps'
-    → (HaveNoLines plain_parts start → IfOk replies (KnowPlain steps start pair)) → HaveNoLines plain_parts start → IfOk replies (KnowPlain steps' start pair)
+pub known_of : {E : Type 0} (start pair : PlainPairState) (replies : Result (Vec (Reply PlainMediaEvent) Global) E) (steps steps' : List Step) → steps ≡ steps'
+    → (HaveNoLines plain_parts start → IfOk replies (λ told. KnowPlain steps start pair told.items)) → HaveNoLines plain_parts start → IfOk replies (λ told. KnowPlain steps' start pair told.items)
 known_of start pair replies steps steps' is known =
-    subst (λ (x : List Step). HaveNoLines plain_parts start → IfOk replies (KnowPlain x start pair)) is known
+    subst (λ (x : List Step). HaveNoLines plain_parts start → IfOk replies (λ told. KnowPlain x start pair told.items)) is known
 
 -- what is known of drains, by replies
 abbrev pub KnowDrains : List Step → (start pair : PlainPairState) → List (Reply PlainMediaEvent) → Type 0
@@ -47,42 +47,42 @@ KnowDrains steps start pair told =
     (run : Runs plain_parts is_ice_message start steps told pair) → DrainsWithin plain_parts is_ice_message start run.past pair
 
 -- so it is of steps that are the same
-pub drains_of : {E : Type 0} (start pair : PlainPairState) (replies : Result (List (Reply PlainMediaEvent)) E) (steps steps' : List Step) → steps ≡ steps'
-    → (AreUndriven plain_parts start → IfOk replies (KnowDrains steps start pair)) → AreUndriven plain_parts start → IfOk replies (KnowDrains steps' start pair)
+pub drains_of : {E : Type 0} (start pair : PlainPairState) (replies : Result (Vec (Reply PlainMediaEvent) Global) E) (steps steps' : List Step) → steps ≡ steps'
+    → (AreUndriven plain_parts start → IfOk replies (λ told. KnowDrains steps start pair told.items)) → AreUndriven plain_parts start → IfOk replies (λ told. KnowDrains steps' start pair told.items)
 drains_of start pair replies steps steps' is known =
-    subst (λ (x : List Step). AreUndriven plain_parts start → IfOk replies (KnowDrains x start pair)) is known
+    subst (λ (x : List Step). AreUndriven plain_parts start → IfOk replies (λ told. KnowDrains x start pair told.items)) is known
 
 -- replies that are joined with the pair are those of the run
-pub ran_joined : {E : Type 0} (alloc : Global) (script : Script) (start pair : PlainPairState) (replies : Result (List (Reply PlainMediaEvent)) E)
-    (result : Result (PlainPairState × List (Reply PlainMediaEvent)) E) → IfOk result (λ joined. (joined.0 ≡ pair) × (replies ≡ Ok joined.1))
-    → IsPairOf alloc script start → IsFresh plain_parts start → ArePeersFormed plain_parts start → IfOk replies (λ told. Runs plain_parts is_ice_message start script.steps told pair)
-    → IfOk replies (λ told. AllReadBack pair.sdps) → (HaveNoLines plain_parts start → IfOk replies (KnowPlain script.steps start pair))
-    → CrossedOffersMeet plain_parts is_ice_message start → (AreUndriven plain_parts start → IfOk replies (KnowDrains script.steps start pair))
-    → IfOk result (λ ran. RanScript alloc script ran.1 ran.0)
+pub ran_joined : {E : Type 0} (alloc : Global) (script : Script) (start pair : PlainPairState) (replies : Result (Vec (Reply PlainMediaEvent) Global) E)
+    (result : Result (PlainPairState × Vec (Reply PlainMediaEvent) Global) E) → IfOk result (λ joined. (joined.0 ≡ pair) × (replies ≡ Ok joined.1))
+    → IsPairOf alloc script start → IsFresh plain_parts start → ArePeersFormed plain_parts start → IfOk replies (λ told. Runs plain_parts is_ice_message start script.steps told.items pair)
+    → IfOk replies (λ told. AllReadBack pair.sdps) → (HaveNoLines plain_parts start → IfOk replies (λ told. KnowPlain script.steps start pair told.items))
+    → CrossedOffersMeet plain_parts is_ice_message start → (AreUndriven plain_parts start → IfOk replies (λ told. KnowDrains script.steps start pair told.items))
+    → IfOk result (λ ran. RanScript alloc script ran.1.items ran.0)
 ran_joined {E = E} alloc script start pair replies (Ok (kept, told)) (kept_is, told_is) program fresh formed runs read_back plain crossed drains =
-    let Q : Result (List (Reply PlainMediaEvent)) E → Type 0 = λ (r : Result (List (Reply PlainMediaEvent)) E). IfOk r (λ told. Runs plain_parts is_ice_message start script.steps told pair) in
-    let U : Result (List (Reply PlainMediaEvent)) E → Type 0 = λ (r : Result (List (Reply PlainMediaEvent)) E). IfOk r (λ told. AllReadBack pair.sdps) in
-    let V : Result (List (Reply PlainMediaEvent)) E → Type 0 = λ (r : Result (List (Reply PlainMediaEvent)) E). IfOk r (KnowPlain script.steps start pair) in
-    let ran : Runs plain_parts is_ice_message start script.steps told pair = subst Q told_is runs in
+    let Q : Result (Vec (Reply PlainMediaEvent) Global) E → Type 0 = λ (r : Result (Vec (Reply PlainMediaEvent) Global) E). IfOk r (λ told. Runs plain_parts is_ice_message start script.steps told.items pair) in
+    let U : Result (Vec (Reply PlainMediaEvent) Global) E → Type 0 = λ (r : Result (Vec (Reply PlainMediaEvent) Global) E). IfOk r (λ told. AllReadBack pair.sdps) in
+    let V : Result (Vec (Reply PlainMediaEvent) Global) E → Type 0 = λ (r : Result (Vec (Reply PlainMediaEvent) Global) E). IfOk r (λ told. KnowPlain script.steps start pair told.items) in
+    let ran : Runs plain_parts is_ice_message start script.steps told.items pair = subst Q told_is runs in
     let read : AllReadBack pair.sdps = subst U told_is read_back in
-    let D : Result (List (Reply PlainMediaEvent)) E → Type 0 = λ (r : Result (List (Reply PlainMediaEvent)) E). IfOk r (KnowDrains script.steps start pair) in
-    let drained : KnowDrains script.steps start pair told = subst D told_is (drains (program_undriven alloc _ _ start program)) in
-    let known : KnowPlain script.steps start pair told = subst V told_is (plain (program_no_lines alloc _ _ start program)) in
-    subst (λ (left : PlainPairState). RanScript alloc script told left) (sym kept_is) (record {
+    let D : Result (Vec (Reply PlainMediaEvent) Global) E → Type 0 = λ (r : Result (Vec (Reply PlainMediaEvent) Global) E). IfOk r (λ told. KnowDrains script.steps start pair told.items) in
+    let drained : KnowDrains script.steps start pair told.items = subst D told_is (drains (program_undriven alloc _ _ start program)) in
+    let known : KnowPlain script.steps start pair told.items = subst V told_is (plain (program_no_lines alloc _ _ start program)) in
+    subst (λ (left : PlainPairState). RanScript alloc script told.items left) (sym kept_is) (record {
       start = start;
       program = program;
       formed = formed;
       runs = ran;
       read_back = read;
       plain = λ drew. known ran drew;
-      no_fault = plain_unfaulted start pair script.steps told ran;
-      channels = λ native. run_hands_out counting is_ice_message start pair script.steps told (program_new alloc _ _ start program) native ran;
-      settles = λ native. run_settles_open counting is_ice_message start pair script.steps told (program_new alloc _ _ start program) native ran;
-      acknowledges = λ native. run_acknowledges counting is_ice_message start pair script.steps told (program_new alloc _ _ start program) native ran;
-      connected = λ native. run_connected counting is_ice_message start pair script.steps told (program_new alloc _ _ start program) native ran;
+      no_fault = plain_unfaulted start pair script.steps told.items ran;
+      channels = λ native. run_hands_out counting is_ice_message start pair script.steps told.items (program_new alloc _ _ start program) native ran;
+      settles = λ native. run_settles_open counting is_ice_message start pair script.steps told.items (program_new alloc _ _ start program) native ran;
+      acknowledges = λ native. run_acknowledges counting is_ice_message start pair script.steps told.items (program_new alloc _ _ start program) native ran;
+      connected = λ native. run_connected counting is_ice_message start pair script.steps told.items (program_new alloc _ _ start program) native ran;
       crossed = crossed;
-      answered = run_answered plain_parts is_ice_message start pair script.steps told ran;
-      in_line = run_in_line start pair script.steps told fresh ran;
+      answered = run_answered plain_parts is_ice_message start pair script.steps told.items ran;
+      in_line = run_in_line start pair script.steps told.items fresh ran;
       drains = drained ran;
     })
 ran_joined alloc script start pair replies (Err error) joined program fresh formed runs read_back plain crossed drains = tt

@@ -8,7 +8,6 @@ use rtc_run::run_pair;
 use rtc_run_history::{Reply, Side};
 use rtc_run_plain::{PeerSettings, PlainPair, make_pair};
 use rtc_script::Script;
-use rtc_wire::Seq;
 use std::alloc::{AllocError, Global};
 
 /// Whether a reply reports that memory ran out.
@@ -41,8 +40,8 @@ fn settings_of(script: &Script, at: Side) -> PeerSettings
 // Replies, with what the steps were performed on.
 fn join_replies<P: Drop>(
     performed: P,
-    replies: Result<Seq<Reply<PlainMediaEvent>>, AllocError>,
-) -> Result<(P, Seq<Reply<PlainMediaEvent>>), AllocError>
+    replies: Result<Vec<Reply<PlainMediaEvent>>, AllocError>,
+) -> Result<(P, Vec<Reply<PlainMediaEvent>>), AllocError>
     ensures { IfOk result (λ joined. (joined.0 ≡ performed) × (replies ≡ Ok joined.1)) }
 {
     match replies {
@@ -55,9 +54,9 @@ fn join_replies<P: Drop>(
 pub fn run_script(
     alloc: Global,
     script: &Script,
-) -> Result<(PlainPair, Seq<Reply<PlainMediaEvent>>), AllocError>
+) -> Result<(PlainPair, Vec<Reply<PlainMediaEvent>>), AllocError>
     requires { steps_size script.now.steps < 2 ^ 32 }
-    ensures { IfOk result (λ ran. RanScript alloc script.now ran.1 ran.0) }
+    ensures { IfOk result (λ ran. RanScript alloc script.now ran.1.items ran.0) }
 {
     let left_settings = settings_of(script, Side::Left);
     let right_settings = settings_of(script, Side::Right);

@@ -7,7 +7,6 @@ ghost use Rattle.rtc_room_steps.specs.RoomSizes.{room_size};
 use crate::taking::take_step;
 use rtc_room_steps::{RoomReply, RoomStep};
 use rtc_run_plain::PlainPair;
-use rtc_wire::Seq;
 use std::alloc::{AllocError, Global};
 
 /// Takes the steps of a room in order, and returns a reply for each.
@@ -19,12 +18,12 @@ pub fn run_room(
     alloc: Global,
     steps: &[RoomStep],
     pairs: &mut Vec<PlainPair>,
-) -> Result<Seq<RoomReply>, AllocError>
+) -> Result<Vec<RoomReply>, AllocError>
     requires empty { pairs.old.items ≡ [] }
     requires sizes { room_size steps.now < 2 ^ 32 }
-    ensures runs { IfOk result (λ replies. RoomRuns alloc steps.now replies pairs.new.items) }
-    ensures hands_on { IfOk result (λ replies. (run : RoomRuns alloc steps.now replies pairs.new.items)
-        → RoomHandsOn alloc steps.now replies pairs.new.items run) }
+    ensures runs { IfOk result (λ replies. RoomRuns alloc steps.now replies.items pairs.new.items) }
+    ensures hands_on { IfOk result (λ replies. (run : RoomRuns alloc steps.now replies.items pairs.new.items)
+        → RoomHandsOn alloc steps.now replies.items pairs.new.items run) }
 {
     let mut replies = Vec::with_capacity(alloc, steps.len())?;
     let mut members = Vec::new(alloc);
@@ -32,5 +31,5 @@ pub fn run_room(
         let reply = take_step(alloc, &mut members, pairs, step)?;
         replies.push_reserved(reply);
     }
-    Ok(Seq::new(replies))
+    Ok(replies)
 }

@@ -13,7 +13,6 @@ use crate::Pair;
 use crate::moments::read_moment;
 use rtc_peer::{Association, DtlsInstance, IceAgent, Ids, MediaSession};
 use rtc_run_history::{Reply, Step};
-use rtc_wire::Seq;
 use std::alloc::{AllocError, Global};
 
 /// Performs steps in order, each by the public calls of the acting peer, and returns a reply for each.
@@ -26,24 +25,24 @@ pub fn run_pair<I: IceAgent, D: DtlsInstance, S: Association, M: MediaSession, N
     alloc: Global,
     pair: &mut Pair<I, D, S, M, N>,
     steps: &[Step],
-) -> Result<Seq<Reply<M::E>>, AllocError>
+) -> Result<Vec<Reply<M::E>>, AllocError>
     requires fresh { IsFresh (meanings I.ice D.dtls S.association M.media N.ids) pair.old }
     requires sizes { steps_size steps.now < 2 ^ 32 }
     ensures runs { IfOk result (λ replies. Runs (meanings I.ice D.dtls S.association M.media N.ids) I.stun
-        pair.old steps.now replies pair.new) }
+        pair.old steps.now replies.items pair.new) }
     ensures read_back { ArePeersFormed (meanings I.ice D.dtls S.association M.media N.ids) pair.old
         → IfOk result (λ replies. AllReadBack pair.new.sdps) }
     ensures plain { ArePeersFormed (meanings I.ice D.dtls S.association M.media N.ids) pair.old
         → HaveNoLines (meanings I.ice D.dtls S.association M.media N.ids) pair.old
         → IfOk result (λ replies. (run : Runs (meanings I.ice D.dtls S.association M.media N.ids) I.stun
-        pair.old steps.now replies pair.new)
-        → DrawsUnused (meanings I.ice D.dtls S.association M.media N.ids) I.stun pair.old steps.now replies pair.new run
+        pair.old steps.now replies.items pair.new)
+        → DrawsUnused (meanings I.ice D.dtls S.association M.media N.ids) I.stun pair.old steps.now replies.items pair.new run
         → AllPlain pair.new.sdps) }
     ensures crossed { ArePeersFormed (meanings I.ice D.dtls S.association M.media N.ids) pair.old
         → CrossedOffersMeet (meanings I.ice D.dtls S.association M.media N.ids) I.stun pair.old }
     ensures drains { AreUndriven (meanings I.ice D.dtls S.association M.media N.ids) pair.old
         → IfOk result (λ replies. (run : Runs (meanings I.ice D.dtls S.association M.media N.ids) I.stun
-        pair.old steps.now replies pair.new)
+        pair.old steps.now replies.items pair.new)
         → DrainsWithin (meanings I.ice D.dtls S.association M.media N.ids) I.stun pair.old run.past pair.new) }
     ensures untouched { OnErr result (pair.new ≡ pair.old) }
 {
@@ -53,5 +52,5 @@ pub fn run_pair<I: IceAgent, D: DtlsInstance, S: Association, M: MediaSession, N
         let reply = pair.perform(step);
         replies.push_reserved(reply);
     }
-    Ok(Seq::new(replies))
+    Ok(replies)
 }

@@ -1,7 +1,8 @@
 -- A fault is reported only where a listed call failed.
 use Rattle.std.proofs.Common.{◌≡◌, ◌≤◌, ◌+◌, ◌-◌, ◌^◌, ℕ, List, [], ◌∷◌, Result, Ok, Err, arith}
-use Rattle.std.specs.Prelude.{min, IfOk}
+use Rattle.std.specs.Prelude.{min, IfOk, Vec}
 use Rattle.std.specs.declared.alloc.AllocError.{AllocError}
+use Rattle.std.specs.declared.alloc.Global.{Global}
 use Rattle.rtc_assoc_state.proofs.PlainLaws.{plain_laws}
 use Rattle.rtc_assoc_state.specs.PlainMeaning.{plain_meaning}
 use Rattle.rtc_faulty.specs.FaultyAssociationLaws.{faulty_association_laws}
@@ -61,7 +62,7 @@ told_listed start (entry ∷ past) pair went = (
   λ part told. listed_rose part (peer_at (side_of entry.step) went.0) (peer_at (side_of entry.step) pair) (went.2.2.fault part told),
 )
 
-pub told_in_runs : (start pair : FaultyPairState) (steps : List Step) (r : Result (List (Reply PlainMediaEvent)) AllocError)
-    → IfOk r (λ replies. (run : Runs faulty_parts is_ice_message start steps replies pair) → TellListedFaults start run.past pair run.went)
+pub told_in_runs : (start pair : FaultyPairState) (steps : List Step) (r : Result (Vec (Reply PlainMediaEvent) Global) AllocError)
+    → IfOk r (λ replies. (run : Runs faulty_parts is_ice_message start steps replies.items pair) → TellListedFaults start run.past pair run.went)
 told_in_runs start pair steps (Ok replies) = λ run. told_listed start run.past pair run.went
 told_in_runs start pair steps (Err error) = tt

@@ -15,7 +15,6 @@ use crate::FaultyPair;
 use rtc_plain::PlainMediaEvent;
 use rtc_run::run_pair;
 use rtc_run_history::{Reply, Step};
-use rtc_wire::Seq;
 use std::alloc::{AllocError, Global};
 
 /// Performs steps in order over parts that fail at listed calls, as `run_pair` does over any parts, and gives a reply for each. An error
@@ -27,19 +26,19 @@ pub fn run_faulty_pair(
     alloc: Global,
     pair: &mut FaultyPair,
     steps: &[Step],
-) -> Result<Seq<Reply<PlainMediaEvent>>, AllocError>
+) -> Result<Vec<Reply<PlainMediaEvent>>, AllocError>
     requires fresh { IsFresh faulty_parts pair.old }
     requires sizes { steps_size steps.now < 2 ^ 32 }
-    ensures runs { IfOk result (λ replies. Runs faulty_parts is_ice_message pair.old steps.now replies pair.new) }
-    ensures faults { IfOk result (λ replies. (run : Runs faulty_parts is_ice_message pair.old steps.now replies pair.new)
+    ensures runs { IfOk result (λ replies. Runs faulty_parts is_ice_message pair.old steps.now replies.items pair.new) }
+    ensures faults { IfOk result (λ replies. (run : Runs faulty_parts is_ice_message pair.old steps.now replies.items pair.new)
         → TellListedFaults pair.old run.past pair.new run.went) }
     ensures read_back { ArePeersFormed faulty_parts pair.old → IfOk result (λ replies. AllReadBack pair.new.sdps) }
     ensures plain { ArePeersFormed faulty_parts pair.old → HaveNoLines faulty_parts pair.old
-        → IfOk result (λ replies. (run : Runs faulty_parts is_ice_message pair.old steps.now replies pair.new)
-        → DrawsUnused faulty_parts is_ice_message pair.old steps.now replies pair.new run → AllPlain pair.new.sdps) }
+        → IfOk result (λ replies. (run : Runs faulty_parts is_ice_message pair.old steps.now replies.items pair.new)
+        → DrawsUnused faulty_parts is_ice_message pair.old steps.now replies.items pair.new run → AllPlain pair.new.sdps) }
     ensures crossed { ArePeersFormed faulty_parts pair.old → CrossedOffersMeet faulty_parts is_ice_message pair.old }
     ensures drains { AreUndriven faulty_parts pair.old
-        → IfOk result (λ replies. (run : Runs faulty_parts is_ice_message pair.old steps.now replies pair.new)
+        → IfOk result (λ replies. (run : Runs faulty_parts is_ice_message pair.old steps.now replies.items pair.new)
         → DrainsWithin faulty_parts is_ice_message pair.old run.past pair.new) }
     ensures untouched { OnErr result (pair.new ≡ pair.old) }
 {
