@@ -1,9 +1,10 @@
 //! One call at one end.
 ghost use Rattle.std.specs.Prelude.{◌≡◌, ◌&&◌, ◌<◌, ◌≤◌, ◌+◌, ◌^◌, not, length, [], ◌∷◌, ◌++◌, IfOk, OnOk};
-ghost use Rattle.std.specs.Prelude.{OnErr, IfSome, IsNone, Some, true, false, slice_get};
+ghost use Rattle.std.specs.Prelude.{Ok, OnErr, IfSome, IsNone, Some, true, false, slice_get};
 ghost use Rattle.rtc_assoc.specs.declared.assoc_step.AssocStep.TheVariants.{Transmit};
 ghost use Rattle.std.specs.Option.{option_copied};
 ghost use Rattle.rtc_assoc_state.specs.Contents.{is_started};
+ghost use Rattle.rtc_part_association.specs.Returned.{message_of};
 ghost use Rattle.rtc_assoc.specs.Steps.{is_refusal, Tried, Connects, Accepts, Opens, Writes, ClosesStream};
 ghost use Rattle.rtc_assoc.specs.Steps.{StepTimes, Delivers, StepPolls, StepReads, StepTransmits};
 ghost use Rattle.rtc_assoc.specs.Steps.{PerformsAssocStep, is_packet_for, bytes_of};
@@ -143,6 +144,16 @@ pub fn poll(end: &mut PlainAssociation) -> AssocReply
     AssocReply::Event(event)
 }
 
+// A message that was read, as a reply keeps it.
+fn kept_message(message: Option<(Ppi, Vec<u8>)>) -> Option<(Ppi, Bytes)>
+    ensures { message_of (Ok message) ≡ Ok result }
+{
+    match message {
+        None => None,
+        Some((ppi, bytes)) => Some((ppi, Bytes::new(bytes))),
+    }
+}
+
 pub fn read(end: &mut PlainAssociation, id: u16) -> Result<AssocReply, AllocError>
     ensures { IfOk result (λ reply. Tried (is_started end.old) (StepReads id reply end.old end.new) reply end.old end.new) }
 {
@@ -153,7 +164,7 @@ pub fn read(end: &mut PlainAssociation, id: u16) -> Result<AssocReply, AllocErro
     match end.stream_read(id) {
         Ok(message) => Ok(AssocReply::Message {
             generation,
-            message,
+            message: kept_message(message),
         }),
         Err(error) => {
             if is_refusal(error) {
@@ -188,7 +199,7 @@ pub fn transmit(
     match end.poll_transmit() {
         None => Ok(AssocReply::Packet(None)),
         Some(bytes) => {
-            keep(packets, left, bytes)?;
+            keep(packets, left, Bytes::new(bytes))?;
             Ok(AssocReply::Packet(Some(number)))
         }
     }

@@ -1,7 +1,7 @@
 //! The plain association as a part.
 use crate::association::PlainAssociation;
 use rtc_part_association::{AssocError, AssocEvent, Association, Ppi};
-use rtc_wire::{Bytes, Moment, ReliabilityType};
+use rtc_wire::{Moment, ReliabilityType};
 use std::alloc::AllocError;
 
 impl Association for PlainAssociation {
@@ -89,13 +89,16 @@ impl Association for PlainAssociation {
         Ok(bytes.len())
     }
 
-    fn stream_read(&mut self, id: u16) -> Result<Option<(Ppi, Bytes)>, AssocError> {
+    fn stream_read(&mut self, id: u16) -> Result<Option<(Ppi, Vec<u8>)>, AssocError> {
         if !self.has(id) {
             return Err(AssocError::NoStream);
         }
         match self.read(id) {
             None => Ok(None),
-            Some(message) => Ok(Some((Ppi::of(message.identifier), message.bytes))),
+            Some(message) => {
+                let ppi = Ppi::of(message.identifier);
+                Ok(Some((ppi, message.bytes.into_vec())))
+            }
         }
     }
 
@@ -148,8 +151,11 @@ impl Association for PlainAssociation {
         self.next_event()
     }
 
-    fn poll_transmit(&mut self) -> Option<Bytes> {
-        self.next_packet()
+    fn poll_transmit(&mut self) -> Option<Vec<u8>> {
+        match self.next_packet() {
+            None => None,
+            Some(packet) => Some(packet.into_vec()),
+        }
     }
 
     fn poll_timeout(&self) -> Option<Moment> {

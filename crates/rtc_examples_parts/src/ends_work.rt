@@ -3,7 +3,7 @@ use crate::work::Work;
 use rtc_assoc_end::PlainAssociation;
 use rtc_examples_cases::gives;
 use rtc_parts::{AssocError, Association, Ppi};
-use rtc_wire::{Bytes, Moment};
+use rtc_wire::Moment;
 use std::alloc::{AllocError, Global};
 
 fn start<A: Association>(left: &mut A, right: &mut A) -> Result<(), AssocError> {
@@ -44,7 +44,7 @@ fn close<A: Association>(end: &mut A, id: u16) -> Result<(), AssocError> {
     end.stream_close(id)
 }
 
-fn length(message: &Option<(Ppi, Bytes)>) -> usize {
+fn length(message: &Option<(Ppi, Vec<u8>)>) -> usize {
     match message {
         None => 0,
         Some((_, bytes)) => bytes.as_slice().len(),

@@ -1,7 +1,7 @@
 //! A faulty association.
 use crate::faulty::Faulty;
 use rtc_part_association::{AssocError, AssocEvent, Association, Ppi};
-use rtc_wire::{Bytes, Moment, ReliabilityType};
+use rtc_wire::{Moment, ReliabilityType};
 use std::alloc::AllocError;
 
 impl<S: Association> Association for Faulty<S> {
@@ -103,7 +103,7 @@ impl<S: Association> Association for Faulty<S> {
     }
 
     /// A reading that gives none uses no number.
-    fn stream_read(&mut self, id: u16) -> Result<Option<(Ppi, Bytes)>, AssocError> {
+    fn stream_read(&mut self, id: u16) -> Result<Option<(Ppi, Vec<u8>)>, AssocError> {
         if self.numbers.fail() {
             return Err(AssocError::Fault);
         }
@@ -164,7 +164,7 @@ impl<S: Association> Association for Faulty<S> {
         self.inner.poll()
     }
 
-    fn poll_transmit(&mut self) -> Option<Bytes> {
+    fn poll_transmit(&mut self) -> Option<Vec<u8>> {
         self.inner.poll_transmit()
     }
 

@@ -1,7 +1,7 @@
 //! A counted association.
 use crate::{CallKind, Counted};
 use rtc_part_association::{AssocError, AssocEvent, Association, Ppi};
-use rtc_wire::{Bytes, Moment, ReliabilityType};
+use rtc_wire::{Moment, ReliabilityType};
 use std::alloc::AllocError;
 
 impl<S: Association> Association for Counted<S> {
@@ -75,7 +75,7 @@ impl<S: Association> Association for Counted<S> {
         self.inner.stream_write(id, ppi, bytes)
     }
 
-    fn stream_read(&mut self, id: u16) -> Result<Option<(Ppi, Bytes)>, AssocError> {
+    fn stream_read(&mut self, id: u16) -> Result<Option<(Ppi, Vec<u8>)>, AssocError> {
         self.calls.add(CallKind::Message);
         self.inner.stream_read(id)
     }
@@ -121,7 +121,7 @@ impl<S: Association> Association for Counted<S> {
         self.inner.poll()
     }
 
-    fn poll_transmit(&mut self) -> Option<Bytes> {
+    fn poll_transmit(&mut self) -> Option<Vec<u8>> {
         self.calls.add(CallKind::Poll);
         self.inner.poll_transmit()
     }

@@ -1,4 +1,5 @@
 pub mod Ppi
+pub mod Returned
 pub mod AssociationMeaning
 pub mod AssociationNeeds
 pub mod AssociationActs

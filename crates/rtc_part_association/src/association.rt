@@ -1,6 +1,6 @@
 //! The transport of messages under the data channels.
 use crate::{AssocError, AssocEvent, Ppi};
-use rtc_wire::{Bytes, Moment, ReliabilityType};
+use rtc_wire::{Moment, ReliabilityType};
 use std::alloc::AllocError;
 
 /// One end of a reliable transport of messages over streams that can be reset (RFC 8831, section 6).
@@ -11,6 +11,7 @@ pub trait Association {
     ghost use Rattle.std.specs.Prelude.{◌≡◌, ◌≤◌, true, false};
     ghost use Rattle.rtc_part_association.specs.AssociationMeaning.{AssociationMeaning};
     ghost use Rattle.rtc_part_association.specs.AssociationLaws.{AssociationLaws};
+    ghost use Rattle.rtc_part_association.specs.Returned.{message_of, packet_of};
 
     ghost association: { AssociationMeaning Self };
 
@@ -71,9 +72,9 @@ pub trait Association {
         ensures { association.wrote self.old id ppi bytes.now result self.new };
 
     /// The oldest unread message of the stream, if there is one.
-    fn stream_read(&mut self, id: u16) -> Result<Option<(Ppi, Bytes)>, AssocError>
+    fn stream_read(&mut self, id: u16) -> Result<Option<(Ppi, Vec<u8>)>, AssocError>
         requires { association.started self.old ≡ true }
-        ensures { association.read self.old id result self.new };
+        ensures { association.read self.old id (message_of result) self.new };
 
     /// Closes the stream, which is reset once both ends closed it.
     fn stream_close(&mut self, id: u16) -> Result<(), AssocError>
@@ -112,8 +113,8 @@ pub trait Association {
         ensures { association.polled self.old result self.new };
 
     /// The next packet for the other end.
-    fn poll_transmit(&mut self) -> Option<Bytes>
-        ensures { association.gave self.old result self.new };
+    fn poll_transmit(&mut self) -> Option<Vec<u8>>
+        ensures { association.gave self.old (packet_of result) self.new };
 
     /// When `handle_timeout` is wanted.
     fn poll_timeout(&self) -> Option<Moment>

@@ -40,7 +40,7 @@ fn take_packet<S: Association>(alloc: Global, room: &mut Vec<Bytes>, association
         return Met::Nothing;
     };
     let mut packets = mem::replace(room, Vec::new(alloc));
-    packets.push_reserved(packet);
+    packets.push_reserved(Bytes::new(packet));
     *room = make_packet_room(alloc);
     Met::Output(SctpEvent::Transmit {
         packets: Seq::new(packets),

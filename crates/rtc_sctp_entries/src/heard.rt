@@ -1,5 +1,6 @@
 //! What an association returns for a reading.
 ghost use Rattle.std.specs.Prelude.{◌≡◌};
+ghost use Rattle.rtc_part_association.specs.Returned.{message_of};
 ghost use Rattle.rtc_sctp_entries.specs.Answers.{heard_of};
 
 use rtc_part_association::{AssocError, Ppi};
@@ -16,12 +17,12 @@ pub enum Heard {
 
 impl Heard {
     /// What a result is to streams.
-    pub fn of(answer: Result<Option<(Ppi, Bytes)>, AssocError>) -> Heard
-        ensures { result ≡ heard_of answer }
+    pub fn of(answer: Result<Option<(Ppi, Vec<u8>)>, AssocError>) -> Heard
+        ensures { result ≡ heard_of (message_of answer) }
     {
         match answer {
             Ok(None) => Heard::Nothing,
-            Ok(Some((ppi, bytes))) => Heard::Message(ppi, bytes),
+            Ok(Some((ppi, bytes))) => Heard::Message(ppi, Bytes::new(bytes)),
             Err(AssocError::StreamExists) => Heard::Refused,
             Err(AssocError::ResetPending) => Heard::Refused,
             Err(AssocError::NoStream) => Heard::Refused,
