@@ -8,6 +8,7 @@ pub mod HoldLemmas
 pub mod AllocationLemmas
 pub mod GivingLemmas
 pub mod OpeningLemmas
+pub mod NarrowedMoments
 pub mod UnheldLemmas
 pub mod SettledLemmas
 pub mod PoolLemmas

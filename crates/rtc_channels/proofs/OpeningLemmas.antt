@@ -45,7 +45,7 @@ use Rattle.rtc_channels.specs.Channels.{Channel, Channels, AreRising, AreBelow}
 use Rattle.rtc_channels.specs.Kept.{channels_of, place_of_channel, config_taken}
 use Rattle.rtc_channels.specs.Granted.{holds_of, FitsOpenMessage, FitOpenMessages, AreHandled}
 use Rattle.rtc_channels.specs.Allocation.{Allocates, sought_at, can_be_given, is_waiting}
-use Rattle.rtc_channels.specs.Openings.{rows_opened, config_handed, OpensChannel, OpensChannelAt, OpensAll, MeetsMoment}
+use Rattle.rtc_channels.specs.Openings.{rows_opened, config_handed, OpensChannel, OpensChannelAt, OpensAll, MeetsMoment, can_open, opening_wake}
 use Rattle.rtc_channels.proofs.KeptLemmas.{place_behind, some_same}
 use Rattle.rtc_channels.proofs.PlaceLemmas.{handled_ascending, place_own}
 use Rattle.rtc_channels.proofs.HoldLemmas.{handler_view}
@@ -236,16 +236,18 @@ module _ {S : Type 0} (m : AssociationMeaning S) (start : Channels) (first : Sct
 -- ---- a moment
 
 module _ {S : Type 0} (m : AssociationMeaning S) (held : Channels) (p : SctpStreams S) (wake : Signals) (due client : Bool) (is : due ≡ true) (own : client ≡ p.client) where
-  pub meets_ok : (between held' : Channels) (r : Result (Unit {0}) AllocError) (p' : SctpStreams S) → Allocates (parity_of client) held (Ok tt) between → OpensAll m between.rows between p r held' p'
-      → MeetsMoment m due held p wake r held' p' wake
-  meets_ok between held' r p' allocates opens =
-      subst (λ (b : Bool). MeetsMoment m b held p wake r held' p' wake) (sym is)
-      ((Ok tt, between, subst (λ (c : Bool). Allocates (parity_of c) held (Ok tt) between) own allocates, opens), refl)
+  pub meets_ok : (between held' : Channels) (r : Result (Unit {0}) AllocError) (p' : SctpStreams S) (wake' : Signals)
+      → Allocates (parity_of client) held (Ok tt) between → OpensAll m between.rows between p r held' p'
+      → wake' ≡ opening_wake (can_open between.rows) wake → MeetsMoment m due held p wake r held' p' wake'
+  meets_ok between held' r p' wake' allocates opens woken =
+      subst (λ (b : Bool). MeetsMoment m b held p wake r held' p' wake') (sym is)
+      ((Ok tt, between, subst (λ (c : Bool). Allocates (parity_of c) held (Ok tt) between) own allocates, opens), woken)
 
-  pub meets_err : (between : Channels) (error : AllocError) → Allocates (parity_of client) held (Err error) between → MeetsMoment m due held p wake (Err error) between p wake
-  meets_err between error allocates =
-      subst (λ (b : Bool). MeetsMoment m b held p wake (Err error) between p wake) (sym is)
-      ((Err error, between, subst (λ (c : Bool). Allocates (parity_of c) held (Err error) between) own allocates, (refl, refl, refl)), refl)
+  pub meets_err : (between : Channels) (error : AllocError) (wake' : Signals) → Allocates (parity_of client) held (Err error) between
+      → wake' ≡ record wake { events = false } → MeetsMoment m due held p wake (Err error) between p wake'
+  meets_err between error wake' allocates woken =
+      subst (λ (b : Bool). MeetsMoment m b held p wake (Err error) between p wake') (sym is)
+      ((Err error, between, subst (λ (c : Bool). Allocates (parity_of c) held (Err error) between) own allocates, (refl, refl, refl)), woken)
 
 pub short_config : (kept : List Kept) (i : ℕ) (own : Kept) (config : ChannelConfig) → own ≡ get_or kept i own → i < length kept → FitOpenMessages kept → own.config ≡ Some config
     → (length config.label ≤ 65535) × (length config.protocol ≤ 65535)

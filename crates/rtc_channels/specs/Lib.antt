@@ -3,6 +3,7 @@ pub mod Channels
 pub mod Granted
 pub mod Holds
 pub mod Kept
+pub mod Narrowing
 pub mod Openings
 pub mod Pools
 pub mod Settled

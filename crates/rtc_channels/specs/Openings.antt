@@ -55,6 +55,16 @@ abbrev pub Following : Result (Unit {0}) AllocError → Type 0 → Type 0 → Ty
 Following (Ok done) next stopped = next
 Following (Err error) next stopped = stopped
 
+-- whether streams are opened, by how channels were given theirs: not if memory ran out
+abbrev pub opens_streams : Result (Unit {0}) AllocError → Channels → Bool
+opens_streams (Ok done) given = can_open given.rows
+opens_streams (Err error) given = false
+
+-- the events mark is kept only if streams are opened
+abbrev pub opening_wake : Bool → Signals → Signals
+opening_wake true wake = wake
+opening_wake false wake = record wake { events = false }
+
 module _ {S : Type 0} (m : AssociationMeaning S) where
   -- the stream of a channel is opened with its config, if it has both; the config is passed on, also if memory runs out
   abbrev pub OpensChannel : Option ℕ → Option ChannelConfig → ℕ → Channels → SctpStreams S
@@ -85,11 +95,13 @@ module _ {S : Type 0} (m : AssociationMeaning S) where
       × Allocates (parity_of p.client) held did between
       × Following did (OpensAll between.rows between p r held' p') ((r ≡ did) × (held' ≡ between) × (p' ≡ p))
 
-  -- a moment is given: if nothing is due, nothing changes, no walk meets more than before, and no timer moved
+  -- a moment is given: if nothing is due, nothing changes, no walk meets more than before, and no timer moved; if no stream is opened,
+  -- no walk meets more than before
   abbrev pub MeetsMoment : Bool → Channels → SctpStreams S → Signals
       → Result (Unit {0}) AllocError → Channels → SctpStreams S → Signals → Type 0
   MeetsMoment false held p wake r held' p' wake' = (r ≡ Ok tt) × (held' ≡ held) × (p' ≡ p) × (wake' ≡ neither)
-  MeetsMoment true held p wake r held' p' wake' = Progresses held p r held' p' × (wake' ≡ wake)
+  MeetsMoment true held p wake r held' p' wake' =
+      (did : Progresses held p r held' p') × (wake' ≡ opening_wake (opens_streams did.0 did.1) wake)
 
   -- when a moment is wanted: at once if something is due
   abbrev pub channels_wake : Channels → SctpStreams S → Option ℕ

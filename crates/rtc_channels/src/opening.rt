@@ -3,7 +3,7 @@ ghost use Rattle.std.specs.Prelude.{◌≡◌, ◌+◌, ◌<◌, drop, length, m
 ghost use Rattle.rtc_channels.specs.Kept.{config_taken};
 ghost use Rattle.rtc_channels.specs.Channels.{numbered_stream, stream_of_channel};
 ghost use Rattle.rtc_channels.specs.Openings.{OpensChannelAt, OpensAll, MeetsMoment, channels_wake, ClosesChannel};
-ghost use Rattle.rtc_channels.specs.Openings.{is_progress_due as IsDue};
+ghost use Rattle.rtc_channels.specs.Openings.{is_progress_due as IsDue, can_open as CanOpen, opening_wake};
 
 use crate::ChannelHandler;
 use crate::kept::Kept;
@@ -67,6 +67,16 @@ impl ChannelHandler {
         sctp.is_inited() && self.can_progress(sctp.is_client())
     }
 
+    // Clears the events mark unless a stream can be opened.
+    fn narrow(&self, wake: &mut Wake)
+        ensures { wake.new ≡ opening_wake (CanOpen self.now.rows) wake.old }
+    {
+        if self.can_open() {
+            return;
+        }
+        wake.no_events();
+    }
+
     fn progress<S: Association>(
         &mut self,
         sctp: &mut RtcSctp<S>,
@@ -81,13 +91,19 @@ impl ChannelHandler {
             return Ok(());
         }
         match self.do_allocations(sctp.is_client()) {
-            Ok(()) => self.open_channels(sctp),
-            Err(error) => Err(error),
+            Ok(()) => {
+                self.narrow(wake);
+                self.open_channels(sctp)
+            }
+            Err(error) => {
+                wake.no_events();
+                Err(error)
+            }
         }
     }
 
     /// Gives streams to channels, and opens the streams of confirmed ones, if the association was started. If nothing
-    /// of this can be done, both marks of the wake are cleared.
+    /// of this can be done, both marks of the wake are cleared, and if no stream is opened, the events mark is.
     pub fn handle_timeout<S: Association>(
         &mut self,
         _now: Moment,

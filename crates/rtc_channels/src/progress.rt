@@ -58,7 +58,7 @@ impl ChannelHandler {
     }
 
     // Whether a channel can be opened. No settled one can.
-    fn can_open(&self) -> bool
+    pub(crate) fn can_open(&self) -> bool
         ensures { result ≡ CanOpen self.now.rows }
     {
         any_ready(self.rows.as_slice(), self.kept.as_slice(), self.settled)
