@@ -4,12 +4,27 @@ ghost use Rattle.rtc_wire_text.specs.Words as spec;
 
 use std::alloc::{AllocError, Global};
 
+// How many parts a text has, so that room for them is asked for once.
+fn count_parts(text: &str, at: char) -> usize {
+    let mut count = 1usize;
+    for byte in text.as_bytes() {
+        if char::from(*byte) == at {
+            count = count.saturating_add(1);
+        }
+    }
+    count
+}
+
 /// The parts round each `at`, an ASCII character. Two of it in a row have an empty part between them.
 pub fn parts<'a>(alloc: Global, text: &'a str, at: char) -> Result<Vec<&'a str>, AllocError>
     requires { at < 128 }
     ensures { IfOk result (λ found. map (λ part. part.now) found.items ≡ spec.parts at text.now) }
 {
-    text.split(at).collect(alloc)
+    let mut found = Vec::with_capacity(alloc, count_parts(text, at))?;
+    match found.extend(text.split(at)) {
+        Ok(()) => Ok(found),
+        Err(error) => Err(error),
+    }
 }
 
 /// The words that single spaces part. Two spaces in a row have an empty word between them.
