@@ -1,5 +1,6 @@
 pub mod SkippedLines
 pub mod Rejecting
+pub mod OfferedFormats
 pub mod SdpReads
 pub use Rattle.rtc_sdp_reader.specs.Reading
 pub use Rattle.rtc_sdp_writer.specs.SessionRows

@@ -2,6 +2,7 @@
 #![tactic(auto)]
 
 mod laws;
+mod offered_formats;
 mod rejecting;
 mod sdp_answer;
 mod sdp_offer;

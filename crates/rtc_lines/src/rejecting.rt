@@ -8,7 +8,8 @@ use rtc_sdp_values::{LineKind, MediaKind, MediaLine, Mid, PayloadRow, Sdp};
 use rtc_wire::{Seq, TryCopy};
 use std::alloc::{AllocError, Global};
 
-fn is_none(rows: &[PayloadRow]) -> bool
+/// Whether a line has no payload types.
+pub(crate) fn is_none(rows: &[PayloadRow]) -> bool
     ensures { result ≡ spec.is_none rows.now }
 {
     match rows {

@@ -1,5 +1,6 @@
 //! Answers.
 ghost use Rattle.std.specs.Prelude.{◌≡◌, IfOk, Ok, string_bytes};
+ghost use Rattle.rtc_lines.specs.OfferedFormats.{answer_with_offered};
 ghost use Rattle.rtc_lines.specs.SdpReads.{ReadsAnswer};
 ghost use Rattle.rtc_sdp_reader.specs.Reading.{reading};
 ghost use Rattle.rtc_sdp_values.specs.Sdp.{inconsistency, refusal};
@@ -8,6 +9,8 @@ ghost use Rattle.rtc_sdp_writer.specs.Placeholders.{filled_sdp};
 ghost use Rattle.rtc_sdp_writer.specs.Plain.{IsLegible, IsPlain};
 ghost use Rattle.rtc_sdp_writer.specs.SessionRows.{written_sdp};
 
+use crate::SdpOffer;
+use crate::offered_formats::with_offered_formats as copy_with_offered;
 use crate::sdp_text::{filled_text, sdp_text};
 use rtc_sdp_reader::read;
 use rtc_sdp_values::{Sdp, SdpError};
@@ -44,6 +47,15 @@ impl SdpAnswer {
         ensures read_back { IsPlain self.now.0 → IfOk result (λ text. reading (string_bytes text) ≡ Ok self.now.0) }
     {
         filled_text(&self.0)
+    }
+
+    /// The answer in which each line with port 0 and no payload types has those of the line at its place in the offer that it
+    /// answers. Their meaning is ignored (RFC 3264, section 6), but some stacks look for a codec on each line.
+    pub fn with_offered_formats(&self, offer: &SdpOffer) -> Result<SdpAnswer, AllocError>
+        ensures { IfOk result (λ answer. answer.0 ≡ answer_with_offered self.now.0 offer.now.0) }
+    {
+        let sdp = copy_with_offered(&self.0, &offer.0)?;
+        Ok(SdpAnswer(sdp))
     }
 
     /// Whether the mids and the BUNDLE group of the answer fit together (RFC 8843, section 7.1). If there is no memory
