@@ -6,10 +6,12 @@ use Rattle.rtc_part_association.specs.AssociationMeaning.{AssociationMeaning}
 use Rattle.rtc_sctp_entries.specs.declared.stream_entry_state.StreamEntryState.{StreamEntryState}
 use Rattle.rtc_sctp_entries.specs.declared.stream_entry_state.StreamEntryState.TheVariants.{AwaitOpen, AwaitConfig, AwaitDcepAck, Open, Closed}
 use Rattle.rtc_sctp_entries.specs.declared.stream_entry.StreamEntry.{StreamEntry}
+use Rattle.rtc_sctp_entries.specs.Entries.{is_out_of_band}
 use Rattle.rtc_sctp_laws.specs.StreamMessages.{StreamMessage, is_dcep_message}
 use Rattle.rtc_sctp_laws.specs.GenerationLaws.{GenerationLaws}
-use Rattle.rtc_sctp_laws.specs.StreamUses.{is_of_generation, messages_of, any_dcep, entries_of, spoken_generation, IsOpened, WereOpened, IsIdleStream, IsUsedIn, AreUsedIn, IsUsed, OneAtMost, IsLiveIn, IsLive, IsShutDown}
+use Rattle.rtc_sctp_laws.specs.StreamUses.{is_of_generation, messages_of, any_dcep, entries_of, spoken_generation, IsOpened, WereOpened, IsDcepInBand, IsIdleStream, IsUsedIn, AreUsedIn, IsUsed, OneAtMost, IsLiveIn, IsLive, IsShutDown}
 use Rattle.rtc_sctp_laws.proofs.GenerationMessages.{messages-append}
+use Rattle.rtc_sctp_laws.proofs.KnownUses.{open_without}
 use Rattle.rtc_peer_core.specs.Meanings.{Meanings}
 use Rattle.rtc_peer_transport.specs.declared.polled_peer.PolledPeer.{PolledPeer}
 use Rattle.rtc_peer_laws.specs.ChannelStreams.{AreNumberedChannels, IsLiveChannel, IsUsedStream, OpensStreamOf}
@@ -131,8 +133,10 @@ module _ {S : Type 0} (m : AssociationMeaning S) where
       idle_fewer s a (messages_of s (m.generation a s) ws) (messages_of s (m.generation a s) hs) (messages_of s (m.generation a s) (without s g hs))
       (fewer_without s g (m.generation a s) hs) h
   are_used_without (e ∷ []) s g a ws hs h =
-      let k = spoken_generation e.state e.generation (m.generation a s) in
-      used_fewer e.state e.marked e.generation s a (messages_of s k ws) (messages_of s k hs) (messages_of s k (without s g hs)) (fewer_without s g k hs) h
+      let k = spoken_generation e.state e.generation (m.generation a s) in (
+        used_fewer e.state e.marked e.generation s a (messages_of s k ws) (messages_of s k hs) (messages_of s k (without s g hs)) (fewer_without s g k hs) h.0,
+        h.1,
+      )
   are_used_without (e ∷ f ∷ es) s g a ws hs h = absurd h
 
   used_without : (s g : ℕ) (ws hs : List StreamMessage) (a : S) (es : List StreamEntry) → IsUsed m s ws hs a es → IsUsed m s ws (without s g hs) a es

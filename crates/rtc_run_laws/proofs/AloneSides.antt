@@ -203,7 +203,7 @@ module _ {N : Type 0} (draws : Draws N) where
         (not_idle plain_meaning s q.core.sctp.association y.written y.read wrote_some free_there _
         (subst (λ (st : StreamEntryState). IsUsedIn plain_meaning st e.marked e.generation s q.core.sctp.association
         (messages_for plain_meaning st e.generation s q.core.sctp.association y.written)
-        (messages_for plain_meaning st e.generation s q.core.sctp.association y.read)) waits.0 used))
+        (messages_for plain_meaning st e.generation s q.core.sctp.association y.read)) waits.0 used.0))
     waits_heard e is used (inr it) =
         waits_in e.state e.generation (shut_entry e is) (unmarked s q.core.sctp.association y.written y.read e it.0 used)
 

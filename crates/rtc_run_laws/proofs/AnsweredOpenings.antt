@@ -104,7 +104,7 @@ pub unmarked : (s : ℕ) (a : Contents) (ws hs : List StreamMessage) (e : Stream
     (messages_for plain_meaning e.state e.generation s a hs)
 unmarked s a ws hs e none h =
     subst (λ (b : Bool). IsUsedIn plain_meaning e.state b e.generation s a (messages_for plain_meaning e.state e.generation s a ws)
-    (messages_for plain_meaning e.state e.generation s a hs)) none h
+    (messages_for plain_meaning e.state e.generation s a hs)) none h.0
 
 some_is : (n k : ℕ) → Some n ≡ Some k → n ≡ k
 some_is n k h = cc

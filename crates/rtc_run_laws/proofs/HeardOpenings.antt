@@ -73,14 +73,14 @@ module _ {S : Type 0} (m : AssociationMeaning S) (s : ℕ) (a : S) (ws hs : List
       absurd
       (not_idle _
       (subst (λ (st : StreamEntryState). IsUsedIn m st e.marked e.generation s a (messages_for m st e.generation s a ws) (messages_for m st e.generation s a hs))
-      waits.0 used))
+      waits.0 used.0))
   open_heard e same any used (inr heard) =
       let fits : fits_generation e.generation (m.generation a s) ≡ true =
       ap (λ (n : ℕ). fits_generation e.generation (m.generation a n)) (sym same) ∙ heard.3 in
       let none : m.has_unread a s (m.generation a s) ≡ false = ap (λ (n : ℕ). m.has_unread a n (m.generation a n)) (sym same) ∙ heard.2 in (
         open_in e.state e.generation (any none) fits
             (subst (λ (b : Bool). IsUsedIn m e.state b e.generation s a (messages_for m e.state e.generation s a ws) (messages_for m e.state e.generation s a hs))
-            heard.0 used),
+            heard.0 used.0),
         fits,
       )
 

@@ -73,7 +73,7 @@ module _ {N : Type 0} (draws : Draws N) where
         idle_written
         (subst (λ (st : StreamEntryState). IsUsedIn plain_meaning st e.entry.marked e.entry.generation s p.core.sctp.association
         (messages_for plain_meaning st e.entry.generation s p.core.sctp.association x.written)
-        (messages_for plain_meaning st e.entry.generation s p.core.sctp.association x.read)) e.is_so e.used)
+        (messages_for plain_meaning st e.entry.generation s p.core.sctp.association x.read)) e.is_so e.used.0)
 
     -- so nothing was read there
     unread_there : messages_of s g x.written ≡ [] → messages_of s g y.read ≡ []

@@ -142,7 +142,7 @@ module _ {N : Type 0} (draws : Draws N) where
         not_idle any
         (subst (λ (st : StreamEntryState). IsUsedIn plain_meaning st f.marked f.generation s q.core.sctp.association
         (messages_for plain_meaning st f.generation s q.core.sctp.association y.written)
-        (messages_for plain_meaning st f.generation s q.core.sctp.association y.read)) opening used)
+        (messages_for plain_meaning st f.generation s q.core.sctp.association y.read)) opening used.0)
 
     taken_by : any_dcep (messages_of s g y.read) ≡ true → (l : List StreamEntry) → entries_of s q.core.sctp.entries ≡ l
         → AreUsedIn plain_meaning l s q.core.sctp.association y.written y.read → IsTakenUp s q.core.sctp.entries
