@@ -18,4 +18,5 @@ pub mod WorkLemmas
 pub mod DoesLemmas
 pub mod StartLemmas
 pub mod CourseLemmas
+mod FallLemmas
 pub mod PlainLaws

@@ -30,6 +30,7 @@ use Rattle.rtc_assoc_state.proofs.WorkLemmas.{work-opened, work-thresholded, wor
 use Rattle.rtc_assoc_state.proofs.StartLemmas.{started-connected, started-accepted, started-snapped, leaves_started, raised_starts, inbox_starts}
 use Rattle.rtc_assoc_state.proofs.StartLemmas.{streams-connected, streams-accepted, streams-snapped, streams_start, same_generation}
 use Rattle.rtc_assoc_state.proofs.BufferedLemmas.{buffered-append, buffered-pieces}
+use Rattle.rtc_assoc_state.proofs.FallLemmas.{falls_act}
 use Rattle.rtc_assoc_state.proofs.DoesLemmas.{does_answered, refused_changes_nothing, refused_again, unrefused, does_leaves, does_sends, does_writes, gives, times, Popped, polls_some, polls_none, transmits_some, transmits_none, reads_some, reads_none}
 
 -- every act but a start, an event and a threshold keeps; each of these is told apart
@@ -252,6 +253,8 @@ plain_laws = record {
   stale_there = λ p id h. both_hold (has_stream p id) (closed_here p id) h;
   stale_closed = λ p id h. both_held (has_stream p id) (closed_here p id) h;
   none_buffered = λ p id h. ap (λ b. cond b (buffered id p.outbox.items) 0) h;
+  there_buffered = λ p id h. ap (λ b. cond b (buffered id p.outbox.items) 0) h;
+  unacknowledged_falls = λ p q act id other h. falls_act p q act id (λ s i bytes. bytes_written p s i bytes id) other h;
   adds = λ p q act h. adds p q act (brings_threshold plain_meaning p q act h) (keeps_act p q act h);
   closed_silent = λ p q act h. silent_act p q act (brings_threshold plain_meaning p q act h) (keeps_act p q act h);
   poll_head = λ p q e h. let w = polls_some p.events p q e h in w.0.is ∙ ap (λ (c : Contents). e ∷ c.events) (sym w.1);

@@ -14,6 +14,7 @@ use Rattle.rtc_assoc_state.specs.declared.message.Message.{Message}
 use Rattle.rtc_assoc_state.specs.Contents.{Contents, fresh_contents, is_started, is_closing, is_closed, is_ending}
 use Rattle.rtc_assoc_state.specs.Contents.{has_stream, closed_here, is_stale, generation_of, buffered_of, wake_of}
 use Rattle.rtc_assoc_state.specs.Contents.{is_finished, has_unread, held_outputs, work}
+use Rattle.rtc_assoc_state.specs.Outbox.{buffered}
 use Rattle.rtc_assoc_state.specs.Streams.{any_threshold}
 use Rattle.rtc_assoc_state.specs.Says.{Queues}
 use Rattle.rtc_assoc_state.specs.Calls.{limited, connected, accepted, snapped, opened, message_written}
@@ -120,4 +121,5 @@ plain_meaning = record {
   due = λ p. p.events;
   finished = is_finished;
   has_unread = has_unread;
+  unacknowledged = λ p id. buffered id p.outbox.items;
 }

@@ -56,4 +56,5 @@ faulty_association m = record {
   due = λ p. m.due p.inner;
   finished = λ p id. m.finished p.inner id;
   has_unread = λ p id generation. m.has_unread p.inner id generation;
+  unacknowledged = λ p id. m.unacknowledged p.inner id;
 }

@@ -40,7 +40,7 @@ use Rattle.rtc_part_association.specs.declared.assoc_error.AssocError.TheVariant
 use Rattle.rtc_part_association.specs.declared.ppi.Ppi.{Ppi}
 use Rattle.rtc_part_association.specs.AssociationMeaning.{AssociationMeaning}
 use Rattle.rtc_part_association.specs.AssociationNeeds.{Answered, closing_need, open_need, write_need, end_need, stream_need}
-use Rattle.rtc_part_association.specs.AssociationActs.{AssociationAct, Acted, starts, brings_threshold}
+use Rattle.rtc_part_association.specs.AssociationActs.{AssociationAct, Acted, starts, writes_to, brings_threshold}
 use Rattle.rtc_part_association.specs.AssociationWords.{told}
 use Rattle.rtc_part_association.specs.AssociationEvents.{AddsEvents}
 use Rattle.rtc_part_association.specs.AssociationLaws.{AssociationLaws, LeavesStarted, Buffers, IsSilent}
@@ -163,6 +163,13 @@ module _ {S : Type 0} (m : AssociationMeaning S) (w : AssociationLaws m) where
     | inr k ↦ w.closed_silent p.inner q.inner act k.0 quiet
   ]
 
+  acknowledges : (p q : Faulty S) (act : AssociationAct) (id : ℕ) → writes_to id act ≡ false → Acted Whole p act q
+      → m.unacknowledged q.inner id ≤ m.unacknowledged p.inner id
+  acknowledges p q act id other h = elim (association_act_inside m p q act h) [
+    | inl f ↦ omega (arith, ap (λ (i : S). m.unacknowledged i id) f.1.0)
+    | inr k ↦ w.unacknowledged_falls p.inner q.inner act id other k.0
+  ]
+
   never_falls : (p q : Faulty S) (act : AssociationAct) → Acted Whole p act q → Whole.faults p ≤ Whole.faults q
   never_falls p q act h = elim (association_act_inside m p q act h) [
     | inl f ↦ later_outside (m.faults p.inner) (m.faults q.inner) p.numbers.faults q.numbers.faults (ap m.faults f.1.0) f.1.1
@@ -251,6 +258,8 @@ module _ {S : Type 0} (m : AssociationMeaning S) (w : AssociationLaws m) where
     stale_there = λ p id h. w.stale_there p.inner id h;
     stale_closed = λ p id h. w.stale_closed p.inner id h;
     none_buffered = λ p id h. w.none_buffered p.inner id h;
+    there_buffered = λ p id h. w.there_buffered p.inner id h;
+    unacknowledged_falls = acknowledges;
     adds = adds_events;
     poll_head = λ p q event h. w.poll_head p.inner q.inner event h.0;
     poll_none = λ p q h. w.poll_none p.inner q.inner h.0;

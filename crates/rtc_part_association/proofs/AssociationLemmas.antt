@@ -1,8 +1,9 @@
 -- What lists of acts gave, took, wrote, read and told, part by part.
-use Rattle.std.proofs.Common.{◌≡◌, ℕ, ◌+◌, ◌≤◌, ◌==◌, ◌&&◌, ◌||◌, inl, inr, not, cond, Bool, true, false, List, [], ◌∷◌, ◌++◌, refl, ap, sym, ◌∙◌, subst, arith, zero-add, append_assoc, append-nil}
+use Rattle.std.proofs.Common.{◌≡◌, ℕ, ◌+◌, ◌≤◌, ◌==◌, ◌&&◌, ◌||◌, inl, inr, not, cond, Bool, true, false, true≢false, List, [], ◌∷◌, ◌++◌, refl, ap, sym, ◌∙◌, subst, arith, zero-add, append_assoc, append-nil}
+use Rattle.std.specs.List.{list_any}
 use Rattle.rtc_part_association.specs.declared.assoc_event.AssocEvent.{AssocEvent}
 use Rattle.rtc_part_association.specs.declared.assoc_event.AssocEvent.TheVariants.{Readable, Finished, ResetComplete}
-use Rattle.rtc_part_association.specs.AssociationActs.{AssociationAct, Wrote, Ended, Given, Taken, Read, Told, Acted, Moved}
+use Rattle.rtc_part_association.specs.AssociationActs.{AssociationAct, Wrote, Ended, Given, Taken, Read, Told, writes_to, Acted, Moved}
 use Rattle.rtc_part_association.specs.AssociationWords.{given, taken, written, read, ended, told, completions}
 use Rattle.rtc_part_association.specs.AssociationEvents.{InOrder, AddsEvents}
 use Rattle.rtc_part_association.proofs.AmongLemmas.{member-left, member-right}
@@ -96,6 +97,17 @@ adds_all m w p q (act ∷ acts) h =
 pub silent_all : {S : Type 0} (m : AssociationMeaning S) → AssociationLaws m → (p q : S) (acts : List AssociationAct) → Moved m p acts q → IsSilent m p → IsSilent m q
 silent_all {S} m w p q [] h k = subst (λ (x : S). IsSilent m x) (sym h) k
 silent_all m w p q (act ∷ acts) h k = silent_all m w h.0 q acts h.1.1 (w.closed_silent p h.0 act h.1.0 k)
+
+-- of a stream that no act of a list writes to no more is unacknowledged
+pub unacknowledged_all : {S : Type 0} (m : AssociationMeaning S) → AssociationLaws m → (p q : S) (acts : List AssociationAct) (id : ℕ) → Moved m p acts q → list_any (writes_to id) acts ≡ false → m.unacknowledged q id ≤ m.unacknowledged p id
+unacknowledged_all {S} m w p q [] id h k = omega (arith, ap (λ (x : S). m.unacknowledged x id) h)
+unacknowledged_all m w p q (act ∷ acts) id h k =
+    let two = neither (writes_to id act) (list_any (writes_to id) acts) k in
+    omega (arith, w.unacknowledged_falls p h.0 act id two.0 h.1.0, unacknowledged_all m w h.0 q acts id h.1.1 two.1)
+  where
+    neither : (a b : Bool) → (a || b) ≡ false → (a ≡ false) × (b ≡ false)
+    neither true b e = absurd (true≢false e)
+    neither false b e = (refl, e)
 
 -- a generation never falls
 pub generation_rises : {S : Type 0} (m : AssociationMeaning S) → AssociationLaws m → (p q : S) (act : AssociationAct) (id : ℕ) → Acted m p act q → m.generation p id ≤ m.generation q id

@@ -1,5 +1,5 @@
 -- What was done to an association, as a list of acts. The acts follow from the meaning of the calls.
-use Rattle.std.specs.Prelude.{ℕ, ◌≡◌, Bool, true, false, List, [], ◌∷◌, ◌++◌, Some, Result, Ok, Err, refl}
+use Rattle.std.specs.Prelude.{ℕ, ◌≡◌, ◌==◌, Bool, true, false, List, [], ◌∷◌, ◌++◌, Some, Result, Ok, Err, refl}
 use Rattle.std.proofs.Common.{subst}
 use Rattle.rtc_wire.specs.declared.reliability_type.ReliabilityType.{ReliabilityType}
 use Rattle.rtc_part_association.specs.declared.assoc_error.AssocError.{AssocError}
@@ -25,6 +25,11 @@ pub data AssociationAct : Type 0 where
 abbrev pub starts : AssociationAct → Bool
 starts Started = true
 starts _ = false
+
+-- whether an act writes a message to a stream
+abbrev pub writes_to : ℕ → AssociationAct → Bool
+writes_to id (Wrote s g i b) = s == id
+writes_to id _ = false
 
 -- the calls that start the association
 pub data Starts {S : Type 0} (m : AssociationMeaning S) (p q : S) : Type 0 where

@@ -7,7 +7,7 @@ use Rattle.rtc_part_association.specs.declared.assoc_event.AssocEvent.{AssocEven
 use Rattle.rtc_part_association.specs.declared.ppi.Ppi.{Ppi}
 use Rattle.rtc_part_association.specs.AssociationMeaning.{AssociationMeaning}
 use Rattle.rtc_part_association.specs.AssociationNeeds.{Answered, closing_need, open_need, write_need, end_need, stream_need}
-use Rattle.rtc_part_association.specs.AssociationActs.{AssociationAct, starts, Acted, brings_threshold}
+use Rattle.rtc_part_association.specs.AssociationActs.{AssociationAct, starts, writes_to, Acted, brings_threshold}
 use Rattle.rtc_part_association.specs.AssociationEvents.{AddsEvents}
 
 -- what a result of a starting call leaves: a started part with this limit, or one that is not started
@@ -83,6 +83,10 @@ pub record AssociationLaws {S : Type 0} (m : AssociationMeaning S) : Type 0 wher
   pub stale_there : (p : S) (id : ℕ) → m.stale p id ≡ true → m.has_stream p id ≡ true
   pub stale_closed : (p : S) (id : ℕ) → m.stale p id ≡ true → m.closed_here p id ≡ true
   pub none_buffered : (p : S) (id : ℕ) → m.has_stream p id ≡ false → m.buffered p id ≡ 0
+  -- the buffered amount of a stream that is there is what is not acknowledged of it, which no act but an Ok write to it raises
+  pub there_buffered : (p : S) (id : ℕ) → m.has_stream p id ≡ true → m.buffered p id ≡ m.unacknowledged p id
+  pub unacknowledged_falls : (p q : S) (act : AssociationAct) (id : ℕ) → writes_to id act ≡ false → Acted m p act q
+      → m.unacknowledged q id ≤ m.unacknowledged p id
   -- an act adds events behind those that are due, and a poll takes the first of these and adds none
   pub adds : (p q : S) (act : AssociationAct) → Acted m p act q → AddsEvents m p (act ∷ []) q
   pub poll_head : (p q : S) (event : AssocEvent) → m.polled p (Some event) q → m.due p ≡ event ∷ m.due q

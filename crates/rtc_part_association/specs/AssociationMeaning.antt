@@ -51,3 +51,5 @@ pub record AssociationMeaning (S : Type 0) : Type 1 where
   pub finished : S → (id : ℕ) → Bool
   -- whether a whole message of a generation of a stream is unread
   pub has_unread : S → (id generation : ℕ) → Bool
+  -- how many written bytes of a stream are not acknowledged, whether it is there or not
+  pub unacknowledged : S → (id : ℕ) → ℕ
