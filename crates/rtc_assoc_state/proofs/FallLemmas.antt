@@ -76,19 +76,19 @@ unfolding shut_down
 falls-shut_down p = falls_none p
 
 -- a close has no bytes
-none_of : (b : Bool) → cond b 0 0 ≡ 0
-none_of true = refl
-none_of false = refl
+none_of : (b : Bool) (n : ℕ) → n ≡ 0 → cond b n 0 ≡ 0
+none_of true n e = e
+none_of false n e = refl
 
 falls-close : (now s g : ℕ) (p : Contents) → Falls p (sent now (close_of s g ∷ []) p)
 unfolding sent
-falls-close now s g p = λ id. omega (arith, buffered-append id p.outbox.items (close_of s g ∷ []), none_of (s == id))
+falls-close now s g p = λ id. omega (arith, buffered-append id p.outbox.items (close_of s g ∷ []), none_of (s == id) 0 refl)
 
 falls-ended : (now id : ℕ) (p : Contents) → Falls p (stream_ended now id p)
 unfolding stream_ended sent
 falls-ended now id p = λ s.
     let g = (stream_of id p.streams).generation in
-    omega (arith, buffered-append s p.outbox.items (close_of id g ∷ []), none_of (id == s))
+    omega (arith, buffered-append s p.outbox.items (close_of id g ∷ []), none_of (id == s) 0 refl)
 
 falls-timed : (now : ℕ) (p : Contents) → Falls p (timed now p)
 unfolding timed

@@ -1,5 +1,5 @@
 -- Each call of streams keeps the entries tended.
-use Rattle.std.proofs.Common.{◌≡◌, ◌≢◌, ℕ, zero, suc, not, cond, Bool, true, false, true≢false, List, [], ◌∷◌, ◌++◌, take, drop, insert, Option, Some, None, Result, Ok, Err, refl, sym, ap, subst, ◌∙◌}
+use Rattle.std.proofs.Common.{◌≡◌, ◌≢◌, ℕ, zero, suc, not, cond, Bool, true, false, true≢false, List, [], ◌∷◌, ◌++◌, take, drop, insert, get_or, Option, Some, None, Result, Ok, Err, refl, sym, ap, subst, ◌∙◌}
 use Rattle.std.specs.Prelude.{slice_get, slice_set, if◌then◌else◌, is_some}
 use Rattle.std.specs.declared.alloc.AllocError.{AllocError}
 use Rattle.rtc_wire.specs.declared.channel_config.ChannelConfig.{ChannelConfig}
@@ -22,7 +22,8 @@ use Rattle.rtc_sctp_values.specs.InitHalves.{InitHalves, half_bytes}
 use Rattle.rtc_sctp.specs.declared.agenda.Agenda.{Agenda}
 use Rattle.rtc_sctp.specs.Calls.{AsksInit}
 use Rattle.rtc_sctp.specs.Polls.{TakesPacket}
-use Rattle.rtc_sctp.specs.Rest.{AreUnclosed, OthersRest, AreTended}
+use Rattle.rtc_sctp.specs.Rest.{AreUnclosed, OthersRest, AreCounted, AreTended}
+use Rattle.rtc_sctp.proofs.CountLemmas.{has_entry_set, has_entry_unclosed, counted_with}
 use Rattle.rtc_sctp.proofs.OrderKept.{ascend_unclosed}
 use Rattle.rtc_sctp.proofs.RestLemmas.{others_noted, others_set}
 use Rattle.rtc_sctp.proofs.TendedLemmas.{unclosed_set}
@@ -47,30 +48,44 @@ module _ {S : Type 0} (m : AssociationMeaning S) where
       by false rest = rest
 
   pub tended_swept : (a : S) (es es' : List StreamEntry) (agenda agenda' : Agenda) → AreTended m a es agenda → es' ≡ unclosed es
-      → agenda'.streams ≡ agenda.streams → AreTended m a es' agenda'
+      → (agenda'.streams ≡ agenda.streams) × (agenda'.buffered ≡ agenda.buffered) → AreTended m a es' agenda'
   tended_swept a es es' agenda agenda' h is same =
       subst (λ (l : List StreamEntry). AreTended m a l agenda') (sym is) (record {
         ascend = ascend_unclosed es h.ascend;
-        rest = subst (λ (ids : StreamIds). OthersRest m a ids (unclosed es)) (sym same) (others_unclosed a agenda.streams es h.rest);
+        rest = subst (λ (ids : StreamIds). OthersRest m a ids (unclosed es)) (sym same.0) (others_unclosed a agenda.streams es h.rest);
         unclosed_all = λ none. unclosed_left es;
+        counted = λ id has out. h.counted id (has_entry_unclosed id es has) (ap (λ (ids : StreamIds). has_id id ids) (sym same.1) ∙ out);
       })
 
   -- an id is noted
   pub tended_noted : (a : S) (id : ℕ) (es : List StreamEntry) (agenda agenda' : Agenda) → AreTended m a es agenda → has_id id agenda'.streams ≡ true
-      → ((other : ℕ) → other ≢ id → has_id other agenda'.streams ≡ has_id other agenda.streams) → agenda'.closed ≡ agenda.closed → AreTended m a es agenda'
-  tended_noted a id es agenda agenda' h here others closed = record {
+      → ((other : ℕ) → other ≢ id → has_id other agenda'.streams ≡ has_id other agenda.streams) → has_id id agenda'.buffered ≡ true
+      → ((other : ℕ) → other ≢ id → has_id other agenda'.buffered ≡ has_id other agenda.buffered) → agenda'.closed ≡ agenda.closed → AreTended m a es agenda'
+  tended_noted a id es agenda agenda' h here others counts apart closed = record {
     ascend = h.ascend;
     rest = others_noted m a id agenda.streams agenda'.streams es here others h.rest;
     unclosed_all = λ none. h.unclosed_all (sym closed ∙ none);
+    counted = counted_with m a id agenda.buffered agenda'.buffered es counts apart h.counted;
+  }
+
+  -- other streams are noted of which something may not be acknowledged
+  pub tended_counted : (a : S) (es : List StreamEntry) (agenda agenda' : Agenda) → AreTended m a es agenda → agenda'.streams ≡ agenda.streams
+      → agenda'.closed ≡ agenda.closed → AreCounted m a agenda'.buffered es → AreTended m a es agenda'
+  tended_counted a es agenda agenda' h streams closed counted = record {
+    ascend = h.ascend;
+    rest = subst (λ (ids : StreamIds). OthersRest m a ids es) (sym streams) h.rest;
+    unclosed_all = λ none. h.unclosed_all (sym closed ∙ none);
+    counted = counted;
   }
 
   -- an entry whose id is noted is another one, closed only where it was
   pub tended_set : (a : S) (es : List StreamEntry) (i : ℕ) (e' : StreamEntry) (agenda : Agenda) → AreTended m a es agenda → has_id e'.id agenda.streams ≡ true
-      → (AreUnclosed es → is_closed_state e'.state ≡ false) → Ascend (slice_set es i e') → AreTended m a (slice_set es i e') agenda
-  tended_set a es i e' agenda h noted still order = record {
+      → (get_or es i e').id ≡ e'.id → (AreUnclosed es → is_closed_state e'.state ≡ false) → Ascend (slice_set es i e') → AreTended m a (slice_set es i e') agenda
+  tended_set a es i e' agenda h noted own still order = record {
     ascend = order;
     rest = others_set m a agenda.streams es i e' noted h.rest;
     unclosed_all = λ none. unclosed_set es i e' (still (h.unclosed_all none)) (h.unclosed_all none);
+    counted = λ id has out. h.counted id (sym (has_entry_set id es i e' own) ∙ has) out;
   }
 
 -- ---- calls of the association alone

@@ -1,9 +1,10 @@
 -- An event keeps the entries tended, and where none is met none is due.
-use Rattle.std.proofs.Common.{◌≡◌, ℕ, Bool, true, false, true≢false, List, [], Option, Some, None, refl, sym, ap, subst, ◌∙◌}
+use Rattle.std.proofs.Common.{◌≡◌, ℕ, Bool, true, false, true≢false, List, [], Option, Some, None, refl, sym, ap, subst, ◌∙◌, ◌≤◌, arith}
 use Rattle.rtc_part_association.specs.declared.assoc_event.AssocEvent.{AssocEvent}
 use Rattle.rtc_part_association.specs.declared.assoc_event.AssocEvent.TheVariants as assoc
 use Rattle.rtc_part_association.specs.AssociationMeaning.{AssociationMeaning}
 use Rattle.rtc_part_association.specs.AssociationLaws.{AssociationLaws}
+use Rattle.rtc_part_association.specs.AssociationActs.{Told}
 use Rattle.rtc_sctp_values.specs.StreamIds.{has_id}
 use Rattle.rtc_sctp_entries.specs.declared.stream_entry.StreamEntry.{StreamEntry}
 use Rattle.rtc_sctp_entries.specs.declared.met.Met.{Met}
@@ -29,36 +30,38 @@ module _ {S : Type 0} (m : AssociationMeaning S) (w : AssociationLaws m) where
   -- over the association that gave the event, before the event is followed
   polled_tended : (a b : S) (event : AssocEvent) (es : List StreamEntry) (agenda agenda' : Agenda) → m.polled a (Some event) b → AreTended m a es agenda
       → ((id : ℕ) → IsTouched id event → has_id id agenda'.streams ≡ true) → ((id : ℕ) → has_id id agenda'.streams ≡ false → has_id id agenda.streams ≡ false)
-      → agenda'.closed ≡ agenda.closed → AreTended m b es agenda'
-  polled_tended a b event es agenda agenda' polled h notes keeps closed = record {
+      → ((id : ℕ) → has_id id agenda'.buffered ≡ false → has_id id agenda.buffered ≡ false) → agenda'.closed ≡ agenda.closed → AreTended m b es agenda'
+  polled_tended a b event es agenda agenda' polled h notes keeps kept closed = record {
     ascend = h.ascend;
     rest = others_event m w a b event agenda.streams agenda'.streams es polled notes keeps h.rest;
     unclosed_all = λ none. h.unclosed_all (sym closed ∙ none);
+    counted = λ id has out. omega (arith, w.unacknowledged_falls a b (Told event) id refl polled, h.counted id has (kept id out));
   }
 
   tended_is : (b : S) (es es' : List StreamEntry) (agenda : Agenda) → es' ≡ es → AreTended m b es agenda → AreTended m b es' agenda
   tended_is b es es' agenda is h = subst (λ (l : List StreamEntry). AreTended m b l agenda) (sym is) h
 
   after_tended : (event : AssocEvent) (b : S) (k k' : Book) (agenda : Agenda) → AreTended m b k.entries agenda
-      → ((id : ℕ) → IsTouched id event → has_id id agenda.streams ≡ true) → AfterEvent event k k' → AreTended m b k'.entries agenda
-  after_tended assoc.Connected b k k' agenda h notes after = tended_is b k.entries k'.entries agenda (ap (λ (x : Book). x.entries) after) h
-  after_tended assoc.Lost b k k' agenda h notes after = tended_is b k.entries k'.entries agenda (ap (λ (x : Book). x.entries) after) h
-  after_tended (assoc.Readable id) b k k' agenda h notes after =
+      → ((id : ℕ) → IsTouched id event → has_id id agenda.streams ≡ true) → ((id : ℕ) → IsTouched id event → has_id id agenda.buffered ≡ true) → AfterEvent event k k' → AreTended m b k'.entries agenda
+  after_tended assoc.Connected b k k' agenda h notes counts after = tended_is b k.entries k'.entries agenda (ap (λ (x : Book). x.entries) after) h
+  after_tended assoc.Lost b k k' agenda h notes counts after = tended_is b k.entries k'.entries agenda (ap (λ (x : Book). x.entries) after) h
+  after_tended (assoc.Readable id) b k k' agenda h notes counts after =
       tended_is b _ k'.entries agenda (ap (λ (x : Book). x.entries) after)
-      (tended_expected m (entry_place id k.entries) b id k.entries agenda h (notes id refl) refl)
-  after_tended (assoc.Writable id) b k k' agenda h notes after =
+      (tended_expected m (entry_place id k.entries) b id k.entries agenda h (notes id refl) (counts id refl) refl)
+  after_tended (assoc.Writable id) b k k' agenda h notes counts after =
       tended_is b _ k'.entries agenda (ap (λ (x : Book). x.entries) after)
-      (tended_expected m (entry_place id k.entries) b id k.entries agenda h (notes id refl) refl)
-  after_tended (assoc.Finished id) b k k' agenda h notes after =
+      (tended_expected m (entry_place id k.entries) b id k.entries agenda h (notes id refl) (counts id refl) refl)
+  after_tended (assoc.Finished id) b k k' agenda h notes counts after =
       tended_finished m (entry_place id k.entries) b id k.entries k'.entries agenda h (notes id refl) refl after.0
-  after_tended (assoc.ResetComplete id) b k k' agenda h notes after = tended_is b k.entries k'.entries agenda (ap (λ (x : Book). x.entries) after) h
-  after_tended (assoc.BufferedAmountLow id) b k k' agenda h notes after = tended_is b k.entries k'.entries agenda (ap (λ (x : Book). x.entries) after) h
+  after_tended (assoc.ResetComplete id) b k k' agenda h notes counts after = tended_is b k.entries k'.entries agenda (ap (λ (x : Book). x.entries) after) h
+  after_tended (assoc.BufferedAmountLow id) b k k' agenda h notes counts after = tended_is b k.entries k'.entries agenda (ap (λ (x : Book). x.entries) after) h
 
   pub tended_event : (event : AssocEvent) (a b : S) (k k' : Book) (agenda agenda' : Agenda) → m.polled a (Some event) b → AreTended m a k.entries agenda
       → ((id : ℕ) → IsTouched id event → has_id id agenda'.streams ≡ true) → ((id : ℕ) → has_id id agenda'.streams ≡ false → has_id id agenda.streams ≡ false)
+      → ((id : ℕ) → IsTouched id event → has_id id agenda'.buffered ≡ true) → ((id : ℕ) → has_id id agenda'.buffered ≡ false → has_id id agenda.buffered ≡ false)
       → agenda'.closed ≡ agenda.closed → AfterEvent event k k' → AreTended m b k'.entries agenda'
-  tended_event event a b k k' agenda agenda' polled h notes keeps closed after =
-      after_tended event b k k' agenda' (polled_tended a b event k.entries agenda agenda' polled h notes keeps closed) notes after
+  tended_event event a b k k' agenda agenda' polled h notes keeps counts kept closed after =
+      after_tended event b k k' agenda' (polled_tended a b event k.entries agenda agenda' polled h notes keeps kept closed) notes counts after
 
   -- where no event was met none is due
   pub none_due : (a : S) (k : Book) (met : Met) (b : S) (k' : Book) → TakesEvent m a k met b k' → met ≡ Nothing → m.started b ≡ true → m.due b ≡ []

@@ -17,6 +17,7 @@ use Rattle.rtc_sctp_entries.proofs.VisitIds.{visits_id}
 use Rattle.rtc_sctp.specs.declared.agenda.Agenda.{Agenda}
 use Rattle.rtc_sctp.specs.Rest.{OthersRest, AreTended}
 use Rattle.rtc_sctp.specs.TourSteps.{StepsBy, VisitsFrom}
+use Rattle.rtc_sctp.proofs.CountLemmas.{no_entry, counted_at}
 use Rattle.rtc_sctp.proofs.WalkLemmas.{absent, goes, stops}
 
 -- the place of an id is one of the list, and its entry stands there
@@ -40,11 +41,15 @@ module _ {S : Type 0} (m : AssociationMeaning S) where
   )
 
   pub tended_absent : (a : S) (id : ℕ) (es : List StreamEntry) (agenda agenda' : Agenda) → AreTended m a es agenda → entry_place id es ≡ None
-      → ((other : ℕ) → other ≢ id → has_id other agenda'.streams ≡ has_id other agenda.streams) → agenda'.closed ≡ agenda.closed → AreTended m a es agenda'
-  tended_absent a id es agenda agenda' h none same closed = record {
+      → ((other : ℕ) → other ≢ id → has_id other agenda'.streams ≡ has_id other agenda.streams)
+      → ((other : ℕ) → other ≢ id → has_id other agenda'.buffered ≡ has_id other agenda.buffered) → agenda'.closed ≡ agenda.closed → AreTended m a es agenda'
+  tended_absent a id es agenda agenda' h none same apart closed = record {
     ascend = h.ascend;
     rest = others_missing a agenda.streams agenda'.streams id es (λ i d lt. none_missing id es none i d lt) same h.rest;
     unclosed_all = λ e. h.unclosed_all (sym closed ∙ e);
+    counted =
+        counted_at m a a id agenda.buffered agenda'.buffered es es (λ other ne. omega arith) (λ other has. has) apart
+        (λ has out. absurd (true≢false (sym has ∙ no_entry id es none))) h.counted;
   }
 
 module _ {S : Type 0} (m : AssociationMeaning S) (w : AssociationLaws m) where

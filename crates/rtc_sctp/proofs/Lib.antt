@@ -7,6 +7,7 @@ pub mod OrderKept
 pub mod StartLemmas
 pub mod BegunLemmas
 pub mod RestLemmas
+pub mod CountLemmas
 pub mod TendedLemmas
 pub mod WalkLemmas
 pub mod IdSteps
@@ -14,4 +15,5 @@ pub mod CallsTended
 pub mod StreamsTended
 pub mod EventsTended
 pub mod RetryLemmas
+pub mod SumLemmas
 pub mod RestingLemmas

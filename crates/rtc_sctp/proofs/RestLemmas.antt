@@ -19,7 +19,7 @@ use Rattle.rtc_sctp_entries.specs.declared.stream_entry_state.StreamEntryState.T
 use Rattle.rtc_sctp_entries.specs.declared.stream_entry.StreamEntry.{StreamEntry}
 use Rattle.rtc_sctp_entries.specs.Entries.{fits_generation, is_retrying}
 use Rattle.rtc_sctp_entries.specs.Visits.{is_entry_there}
-use Rattle.rtc_sctp_entries.proofs.UntoldVisits.{Untold}
+use Rattle.rtc_sctp_entries.proofs.UntoldVisits.{UntoldBut}
 use Rattle.rtc_sctp.specs.Rest.{IsTouched, IsWoken, AreNoted, Rests, RestsIn, AtRest, OthersRest}
 
 both_parts : (a b : Bool) → (a && b) ≡ true → (a ≡ true) × (b ≡ true)
@@ -77,8 +77,8 @@ module _ {S : Type 0} (m : AssociationMeaning S) (w : AssociationLaws m) where
     readable : (id g : ℕ) → m.has_unread b id g ≡ true → (m.has_unread a id g ≡ true) ⊎ Member (assoc.Readable id) more
     gone : (id : ℕ) → m.has_stream a id ≡ true → (m.has_stream b id ≡ true) ⊎ Member (assoc.ResetComplete id) more
 
-  untold_adds : (a b : S) (s : ℕ) → Untold m a b → Adds a b s
-  untold_adds a b s h =
+  untold_adds : (own : ℕ) (a b : S) (s : ℕ) → UntoldBut m own a b → Adds a b s
+  untold_adds own a b s h =
       let all = adds_all m w a b h.acts h.moved in
       let due_is : m.due b ≡ m.due a ++ all.more = ap (λ l. l ++ m.due b) (sym h.untold) ∙ all.due_is in
       let woken : IsWoken s (m.due a ++ all.more) → IsWoken s (m.due b) = subst (λ (l : List AssocEvent). IsWoken s l) (sym due_is) in
@@ -154,9 +154,9 @@ module _ {S : Type 0} (m : AssociationMeaning S) (w : AssociationLaws m) where
   -- ---- all entries
 
   -- acts that tell nothing
-  pub others_on : (a b : S) (ids : StreamIds) (es : List StreamEntry) → Untold m a b → OthersRest m a ids es → OthersRest m b ids es
-  others_on a b ids [] u h = tt
-  others_on a b ids (e ∷ es) u h = (λ out. rests_in e.state a b e (untold_adds a b e.id u) (h.0 out), others_on a b ids es u h.1)
+  pub others_on : (own : ℕ) (a b : S) (ids : StreamIds) (es : List StreamEntry) → UntoldBut m own a b → OthersRest m a ids es → OthersRest m b ids es
+  others_on own a b ids [] u h = tt
+  others_on own a b ids (e ∷ es) u h = (λ out. rests_in e.state a b e (untold_adds own a b e.id u) (h.0 out), others_on own a b ids es u h.1)
 
   -- an event, whose stream is in the set afterwards
   pub others_event : (a b : S) (event : AssocEvent) (ids ids' : StreamIds) (es : List StreamEntry) → m.polled a (Some event) b

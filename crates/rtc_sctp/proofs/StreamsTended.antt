@@ -1,6 +1,7 @@
 -- The calls on one stream, and events, keep the entries tended.
 use Rattle.std.proofs.Common.{◌≡◌, ◌≢◌, ◌⊎◌, inl, inr, ℕ, Bool, true, false, true≢false, List, [], ◌∷◌, ◌++◌, take, drop, insert, get_or, length, ◌<◌, Option, Some, None, Result, Ok, Err, refl, sym, ap, subst, ◌∙◌, zero, suc, arith}
 use Rattle.std.specs.Prelude.{slice_get, slice_set, if◌then◌else◌, is_some}
+use Rattle.std.proofs.lemmas.Bool.{cases_eq}
 use Rattle.std.proofs.lemmas.Option.{get_or_from_slice_get, slice_get_within}
 use Rattle.std.specs.declared.alloc.AllocError.{AllocError}
 use Rattle.rtc_wire.specs.declared.channel_config.ChannelConfig.{ChannelConfig}
@@ -16,13 +17,14 @@ use Rattle.rtc_sctp_entries.specs.declared.stream_entry_state.StreamEntryState.T
 use Rattle.rtc_sctp_entries.specs.declared.stream_entry.StreamEntry.{StreamEntry}
 use Rattle.rtc_sctp_entries.specs.declared.met.Met.{Met}
 use Rattle.rtc_sctp_entries.specs.Entries.{Ascend, entry_place, with_entry, new_entry, new_place, marked_entry, is_closed_state, is_open_awaited}
-use Rattle.rtc_sctp_entries.proofs.UntoldVisits.{Untold, untold_none, calls_untold}
+use Rattle.rtc_sctp_entries.proofs.UntoldVisits.{Untold, untold_none, untold_ended, untold_reliability}
 use Rattle.rtc_sctp_entries.proofs.OrderLemmas.{ascend_set, ascend_with, none_missing}
 use Rattle.rtc_sctp.specs.declared.agenda.Agenda.{Agenda}
 use Rattle.rtc_sctp.specs.StreamCalls.{ConfigBy, TakesConfig, Declined, Answered, OpensAwaiting, OpensOver, OpensAt, MarksAt, SetsThresholdAt, EndsStream, NoRoom, Ended, EndsIf, ClosesAt}
 use Rattle.rtc_sctp.specs.Polls.{finished_entry, FinishesAt}
 use Rattle.rtc_sctp.specs.Rest.{AreUnclosed, OthersRest, AreTended}
 use Rattle.rtc_sctp.proofs.CallsTended.{tended_set}
+use Rattle.rtc_sctp.proofs.CountLemmas.{has_entry_with}
 use Rattle.rtc_sctp.proofs.OrderKept.{over_id}
 use Rattle.rtc_sctp.proofs.TendedLemmas.{tended_on}
 use Rattle.rtc_sctp.proofs.IdSteps.{place_is}
@@ -62,18 +64,24 @@ module _ {S : Type 0} (m : AssociationMeaning S) where
       → AreTended m a (slice_set es place e') agenda
   tended_at a id place es e e' agenda h noted is at same still =
       let own : e'.id ≡ id = same ∙ own_id id place es e is at in
-      tended_set m a es place e' agenda h (ap (λ n. has_id n agenda.streams) own ∙ noted) (λ all. still (unclosed_at es place e at all))
+      tended_set m a es place e' agenda h (ap (λ n. has_id n agenda.streams) own ∙ noted)
+      (ap (λ (x : StreamEntry). x.id) (get_or_from_slice_get es place e e' at) ∙ sym same) (λ all. still (unclosed_at es place e at all))
       (ascend_set 0 es place e e' at same h.ascend)
 
   -- a noted id gets an entry, where it has none
   pub tended_with : (a : S) (es : List StreamEntry) (e : StreamEntry) (agenda : Agenda) → AreTended m a es agenda → has_id e.id agenda.streams ≡ true
-      → entry_place e.id es ≡ None → is_closed_state e.state ≡ false → AreTended m a (with_entry e es) agenda
-  tended_with a es e agenda h noted none live = record {
+      → has_id e.id agenda.buffered ≡ true → entry_place e.id es ≡ None → is_closed_state e.state ≡ false → AreTended m a (with_entry e es) agenda
+  tended_with a es e agenda h noted counts none live = record {
     ascend = ascend_with e es h.ascend (none_missing e.id es none);
     rest = others_insert m a agenda.streams es (new_place e.id es) e noted h.rest;
     unclosed_all = λ k.
         unclosed_append (take (new_place e.id es) es) (e ∷ drop (new_place e.id es) es) (unclosed_take (new_place e.id es) es (h.unclosed_all k))
         (live, unclosed_drop (new_place e.id es) es (h.unclosed_all k));
+    counted = λ id has out.
+        elim (cases_eq id e.id) [
+          | inl same ↦ absurd (true≢false (sym counts ∙ ap (λ n. has_id n agenda.buffered) (sym same) ∙ out))
+          | inr apart ↦ h.counted id (sym (has_entry_with id es e apart) ∙ has) out
+        ];
   }
 
   -- an entry is marked, or gets a threshold to hand over
@@ -106,15 +114,15 @@ module _ {S : Type 0} (m : AssociationMeaning S) where
 
   -- the other end uses a stream
   pub tended_expected : (o : Option ℕ) (a : S) (id : ℕ) (es : List StreamEntry) (agenda : Agenda) → AreTended m a es agenda → has_id id agenda.streams ≡ true
-      → entry_place id es ≡ o → AreTended m a (if is_some o then es else with_entry (new_entry id AwaitConfig None) es) agenda
-  tended_expected None a id es agenda h noted is = tended_with a es (new_entry id AwaitConfig None) agenda h noted is refl
-  tended_expected (Some place) a id es agenda h noted is = h
+      → has_id id agenda.buffered ≡ true → entry_place id es ≡ o → AreTended m a (if is_some o then es else with_entry (new_entry id AwaitConfig None) es) agenda
+  tended_expected None a id es agenda h noted counts is = tended_with a es (new_entry id AwaitConfig None) agenda h noted counts is refl
+  tended_expected (Some place) a id es agenda h noted counts is = h
 
 module _ {S : Type 0} (m : AssociationMeaning S) (w : AssociationLaws m) where
   -- a stream is closed
   ends_untold : (id : ℕ) (p : S) (resets : List ℕ) (r : Result (Unit {0}) AllocError) (q : S) (resets' : List ℕ) → EndsStream m id p resets r q resets' → Untold m p q
   ends_untold id p resets r q resets' (NoRoom e same kept) = subst (λ (x : S). Untold m p x) (sym same) (untold_none m p)
-  ends_untold id p resets r q resets' (Ended answer asks by) = (calls_untold m w p).ended p q id asks.result (untold_none m p) asks.called
+  ends_untold id p resets r q resets' (Ended answer asks by) = untold_ended m p q id asks.result asks.called
 
   ends_if_untold : (b : Bool) (id : ℕ) (p : S) (resets : List ℕ) (r : Result (Unit {0}) AllocError) (q : S) (resets' : List ℕ) → EndsIf m b id p resets r q resets' → Untold m p q
   ends_if_untold false id p resets r q resets' h = subst (λ (x : S). Untold m p x) (sym h.1) (untold_none m p)
@@ -134,7 +142,7 @@ module _ {S : Type 0} (m : AssociationMeaning S) (w : AssociationLaws m) where
   -- a stream is opened
   config_untold : (config : ChannelConfig) (p : S) (e : StreamEntry) (r : Result (Unit {0}) AllocError) (q : S) (e' : StreamEntry) → TakesConfig m config p e r q e' → Untold m p q
   config_untold config p e r q e' (Declined c f same h) = subst (λ (x : S). Untold m p x) (sym same) (untold_none m p)
-  config_untold config p e r q e' (Answered answer c asks h) = (calls_untold m w p).reliability p q e.id _ _ _ asks.result (untold_none m p) asks.called
+  config_untold config p e r q e' (Answered answer c asks h) = untold_reliability m p q e.id _ _ _ asks.result asks.called
 
   awaiting_untold : (b : Bool) (config : ChannelConfig) (p : S) (e : StreamEntry) (r : Result (Unit {0}) AllocError) (q : S) (e' : StreamEntry) → OpensAwaiting m b config p e r q e' → Untold m p q
   awaiting_untold true config p e r q e' h = subst (λ (x : S). Untold m p x) (sym h.1) (untold_none m p)
@@ -172,17 +180,17 @@ module _ {S : Type 0} (m : AssociationMeaning S) (w : AssociationLaws m) where
   over_live Closed config p e r q e' h live = ap (λ (y : StreamEntry). is_closed_state y.state) h.2 ∙ live
 
   opens_tended : (o : Option ℕ) (id : ℕ) (config : ChannelConfig) (p : S) (es : List StreamEntry) (r : Result (Unit {0}) AllocError) (q : S) (es' : List StreamEntry) (agenda : Agenda)
-      → entry_place id es ≡ o → AreTended m p es agenda → has_id id agenda.streams ≡ true → OpensAt m o id config p es r q es' → AreTended m q es' agenda
-  opens_tended None id config p es (Ok x) q es' agenda is h noted k =
+      → entry_place id es ≡ o → AreTended m p es agenda → has_id id agenda.streams ≡ true → has_id id agenda.buffered ≡ true → OpensAt m o id config p es r q es' → AreTended m q es' agenda
+  opens_tended None id config p es (Ok x) q es' agenda is h noted counts k =
       subst (λ (y : S). AreTended m y es' agenda) (sym k.0)
-      (subst (λ (l : List StreamEntry). AreTended m p l agenda) (sym k.1) (tended_with m p es (new_entry id AwaitOpen (Some config)) agenda h noted is refl))
-  opens_tended None id config p es (Err x) q es' agenda is h noted k =
+      (subst (λ (l : List StreamEntry). AreTended m p l agenda) (sym k.1) (tended_with m p es (new_entry id AwaitOpen (Some config)) agenda h noted counts is refl))
+  opens_tended None id config p es (Err x) q es' agenda is h noted counts k =
       subst (λ (y : S). AreTended m y es' agenda) (sym k.0) (subst (λ (l : List StreamEntry). AreTended m p l agenda) (sym k.1) h)
-  opens_tended (Some place) id config p es r q es' agenda is h noted k =
+  opens_tended (Some place) id config p es r q es' agenda is h noted counts k =
       tended_on m w p q es' agenda (over_untold k.0.state config p k.0 r q k.1 k.3)
       (subst (λ (l : List StreamEntry). AreTended m p l agenda) (sym k.4)
       (tended_at m p id place es k.0 k.1 agenda h noted is k.2 (over_id m k.0.state config p k.0 r q k.1 k.3) (over_live k.0.state config p k.0 r q k.1 k.3)))
 
   pub tended_opened : (id : ℕ) (config : ChannelConfig) (p : S) (es : List StreamEntry) (r : Result (Unit {0}) AllocError) (q : S) (es' : List StreamEntry) (agenda : Agenda)
-      → AreTended m p es agenda → has_id id agenda.streams ≡ true → OpensAt m (entry_place id es) id config p es r q es' → AreTended m q es' agenda
-  tended_opened id config p es r q es' agenda h noted k = opens_tended (entry_place id es) id config p es r q es' agenda refl h noted k
+      → AreTended m p es agenda → has_id id agenda.streams ≡ true → has_id id agenda.buffered ≡ true → OpensAt m (entry_place id es) id config p es r q es' → AreTended m q es' agenda
+  tended_opened id config p es r q es' agenda h noted counts k = opens_tended (entry_place id es) id config p es r q es' agenda refl h noted counts k

@@ -15,10 +15,11 @@ use Rattle.rtc_sctp_entries.specs.StreamLaws.{is_nothing_met}
 use Rattle.rtc_sctp_entries.specs.Visits.{Turn, turn, VisitsIn, Visits}
 use Rattle.rtc_sctp_entries.proofs.OrderLemmas.{ascend_least, ascend_set}
 use Rattle.rtc_sctp_entries.proofs.StillVisits.{Idle, attends_still, visits_still}
-use Rattle.rtc_sctp_entries.proofs.UntoldVisits.{Untold, visits_untold}
+use Rattle.rtc_sctp_entries.proofs.UntoldVisits.{Untold, UntoldBut, but_all, visits_untold, untold_falls, others_fall}
 use Rattle.rtc_sctp_entries.proofs.VisitIds.{visits_id}
 use Rattle.rtc_sctp.specs.declared.agenda.Agenda.{Agenda}
-use Rattle.rtc_sctp.specs.Rest.{AreUnclosed, Rests, RestsIn, AtRest, OthersRest, AreTended, is_done}
+use Rattle.rtc_sctp.specs.Rest.{AreUnclosed, Rests, RestsIn, AtRest, OthersRest, AreTended, is_done, may_buffer}
+use Rattle.rtc_sctp.proofs.CountLemmas.{has_entry_set, counted_at, none_counted}
 use Rattle.rtc_sctp.proofs.RestLemmas.{others_on, others_noted}
 
 -- ---- closed entries
@@ -71,7 +72,25 @@ module _ {S : Type 0} (m : AssociationMeaning S) where
 module _ {S : Type 0} (m : AssociationMeaning S) (w : AssociationLaws m) where
   -- acts that tell nothing
   pub tended_on : (a b : S) (es : List StreamEntry) (agenda : Agenda) → Untold m a b → AreTended m a es agenda → AreTended m b es agenda
-  tended_on a b es agenda u h = record { ascend = h.ascend; rest = others_on m w a b agenda.streams es u h.rest; unclosed_all = h.unclosed_all }
+  tended_on a b es agenda u h = record {
+    ascend = h.ascend;
+    rest = others_on m w 0 a b agenda.streams es (but_all m 0 a b u) h.rest;
+    unclosed_all = h.unclosed_all;
+    counted = λ id has out. omega (arith, untold_falls m w a b id u, h.counted id has out);
+  }
+
+  -- a write to a stream that is noted
+  pub tended_wrote : (own : ℕ) (a b : S) (es : List StreamEntry) (agenda agenda' : Agenda) → UntoldBut m own a b → agenda'.streams ≡ agenda.streams
+      → agenda'.closed ≡ agenda.closed → has_id own agenda'.buffered ≡ true
+      → ((other : ℕ) → other ≢ own → has_id other agenda'.buffered ≡ has_id other agenda.buffered) → AreTended m a es agenda → AreTended m b es agenda'
+  tended_wrote own a b es agenda agenda' u streams closed here apart h = record {
+    ascend = h.ascend;
+    rest = subst (λ (ids : StreamIds). OthersRest m b ids es) (sym streams) (others_on m w own a b agenda.streams es u h.rest);
+    unclosed_all = λ none. h.unclosed_all (sym closed ∙ none);
+    counted =
+        counted_at m a b own agenda.buffered agenda'.buffered es es (λ other ne. others_fall m w own a b other u ne) (λ other has. has) apart
+        (λ has out. absurd (true≢false (sym here ∙ out))) h.counted;
+  }
 
   -- a visit of this state that met this left the entry with nothing to do
   done_closed : (st : StreamEntryState) (met : Met) (a : S) (e : StreamEntry) → is_nothing_met met ≡ false → is_done st met ≡ true → RestsIn m st a e
@@ -112,20 +131,27 @@ module _ {S : Type 0} (m : AssociationMeaning S) (w : AssociationLaws m) where
   pub tended_visit : (now : ℕ) (met : Met) (id : ℕ) (a : S) (rs : List ℕ) (es : List StreamEntry) (i : ℕ) (x : StreamEntry) (t : Turn S) (agenda agenda' : Agenda)
       → AreTended m a es agenda → i < length es → x ≡ get_or es i x → x.id ≡ id → Visits m now (turn a x rs) met t
       → has_id id agenda'.streams ≡ not (is_done t.entry.state met) → ((other : ℕ) → other ≢ id → has_id other agenda'.streams ≡ has_id other agenda.streams)
+      → has_id id agenda'.buffered ≡ may_buffer m t.association id → ((other : ℕ) → other ≢ id → has_id other agenda'.buffered ≡ has_id other agenda.buffered)
       → agenda'.closed ≡ (agenda.closed || is_closed_state t.entry.state) → AreTended m t.association (set es i t.entry) agenda'
-  tended_visit now met id a rs es i x t agenda agenda' h lt is own v here others closed =
+  tended_visit now met id a rs es i x t agenda agenda' h lt is own v here others counts apart closed =
       let same : t.entry.id ≡ x.id = visits_id m now (turn a x rs) met t v in
       let at : t.entry.id ≡ id = same ∙ own in
-      let moved = others_on m w a t.association agenda.streams es (visits_untold m w now (turn a x rs) met t v) h.rest in
+      let u = visits_untold m w now (turn a x rs) met t v in
+      let moved = others_on m w x.id a t.association agenda.streams es u h.rest in
+      let place : (get_or es i t.entry).id ≡ t.entry.id = ap (λ (y : StreamEntry). y.id) (get_or_default es i t.entry x lt ∙ sym is) ∙ sym same in
       record {
         ascend = ascend_set 0 es i x t.entry (slice_get-get_or es i x lt ∙ ap (λ (y : StreamEntry). Some y) (sym is)) same h.ascend;
         rest =
             others_left m t.association agenda.streams agenda'.streams es i 0 t.entry h.ascend lt
-            (ap (λ (y : StreamEntry). y.id) (get_or_default es i t.entry x lt ∙ sym is) ∙ sym same)
+            place
             (λ other ne. others other (λ k. ne (k ∙ sym at)))
             (λ out. done_rests met now a x rs t v (not_true (is_done t.entry.state met) (sym here ∙ ap (λ n. has_id n agenda'.streams) (sym at) ∙ out)))
             moved;
         unclosed_all = λ none.
             let two = neither agenda.closed (is_closed_state t.entry.state) (sym closed ∙ none) in
             unclosed_set es i t.entry two.1 (h.unclosed_all two.0);
+        counted =
+            counted_at m a t.association id agenda.buffered agenda'.buffered es (set es i t.entry)
+            (λ other ne. others_fall m w x.id a t.association other u (λ k. ne (k ∙ own))) (λ other has. sym (has_entry_set other es i t.entry place) ∙ has) apart
+            (λ has out. none_counted m w t.association id (sym counts ∙ out)) h.counted;
       }

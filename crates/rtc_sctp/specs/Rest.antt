@@ -1,5 +1,6 @@
 -- Entries that have nothing to do. The type invariant of the streams cites this file, and no clause of a public call does.
-use Rattle.std.specs.Prelude.{ℕ, ◌≡◌, ◌⊎◌, ◌==◌, ◌&&◌, Bool, true, false, List, [], ◌∷◌}
+use Rattle.std.specs.Prelude.{ℕ, ◌≡◌, ◌⊎◌, ◌==◌, ◌&&◌, ◌||◌, ◌+◌, nat_lt, not, if◌then◌else◌, Bool, true, false, List, [], ◌∷◌}
+use Rattle.std.specs.List.{list_any}
 use Rattle.rtc_part_values.specs.Among.{Member}
 use Rattle.rtc_part_association.specs.declared.assoc_event.AssocEvent.{AssocEvent}
 use Rattle.rtc_part_association.specs.declared.assoc_event.AssocEvent.TheVariants as assoc
@@ -10,7 +11,7 @@ use Rattle.rtc_sctp_entries.specs.declared.stream_entry_state.StreamEntryState.T
 use Rattle.rtc_sctp_entries.specs.declared.stream_entry_state.StreamEntryState.TheVariants.{AwaitDcepAck, Open, Closed}
 use Rattle.rtc_sctp_entries.specs.declared.stream_entry.StreamEntry.{StreamEntry}
 use Rattle.rtc_sctp_entries.specs.declared.met.Met.{Met}
-use Rattle.rtc_sctp_entries.specs.Entries.{Ascend, is_closed_state, is_desired, is_retrying}
+use Rattle.rtc_sctp_entries.specs.Entries.{Ascend, is_entry_of, is_closed_state, is_desired, is_retrying}
 use Rattle.rtc_sctp_entries.specs.StreamLaws.{is_nothing_met}
 use Rattle.rtc_sctp_entries.specs.Visits.{is_entry_there}
 use Rattle.rtc_sctp.specs.declared.agenda.Agenda.{Agenda}
@@ -50,7 +51,24 @@ abbrev pub AreUnclosed : List StreamEntry → Type 0
 AreUnclosed [] = Unit {0}
 AreUnclosed (entry ∷ entries) = (is_closed_state entry.state ≡ false) × AreUnclosed entries
 
+-- whether a stream has an entry
+abbrev pub has_entry : ℕ → List StreamEntry → Bool
+has_entry id entries = list_any (is_entry_of id) entries
+
 module _ {S : Type 0} (m : AssociationMeaning S) where
+  -- whether something may not be acknowledged of a stream: it is not there, or has a buffered amount
+  abbrev pub may_buffer : S → ℕ → Bool
+  may_buffer a id = not (m.has_stream a id) || nat_lt 0 (m.buffered a id)
+
+  -- all of each stream is acknowledged that has an entry and is not in a set
+  abbrev pub AreCounted : S → StreamIds → List StreamEntry → Type 0
+  AreCounted a ids entries = (id : ℕ) → has_entry id entries ≡ true → has_id id ids ≡ false → m.unacknowledged a id ≡ 0
+
+  -- the buffered amount of a stream, if it has an entry
+  abbrev pub entry_amount : S → ℕ → List StreamEntry → ℕ
+  entry_amount a id [] = 0
+  entry_amount a id (entry ∷ entries) = (if entry.id == id then m.buffered a id else 0) + entry_amount a id entries
+
   -- An entry is not to be closed and has no threshold to hand over. Its stream is there, with nothing unread, unless an
   -- event is due that brings its id back.
   pub record Rests (a : S) (entry : StreamEntry) : Type 0 where
@@ -74,8 +92,10 @@ module _ {S : Type 0} (m : AssociationMeaning S) where
   OthersRest a ids [] = Unit {0}
   OthersRest a ids (entry ∷ entries) = (has_id entry.id ids ≡ false → AtRest a entry) × OthersRest a ids entries
 
-  -- the entries stand in order, those left out are at rest, and none is closed unless it is noted that one may be
+  -- the entries stand in order, those left out are at rest, none is closed unless it is noted that one may be, and all of those is
+  -- acknowledged of which nothing is noted
   pub record AreTended (a : S) (entries : List StreamEntry) (agenda : Agenda) : Type 0 where
     pub ascend : Ascend entries
     pub rest : OthersRest a agenda.streams entries
     pub unclosed_all : agenda.closed ≡ false → AreUnclosed entries
+    pub counted : AreCounted a agenda.buffered entries

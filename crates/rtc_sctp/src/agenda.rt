@@ -15,6 +15,10 @@ use rtc_sctp_values::StreamSet;
 pub struct Agenda {
     /// The streams that may have something to do.
     pub streams: StreamSet,
+    /// The streams of which something may not be acknowledged.
+    pub buffered: StreamSet,
+    // From which id on the next of these is looked at.
+    place: usize,
     /// Whether there may be closed entries.
     pub closed: bool,
 }
@@ -51,38 +55,72 @@ impl Agenda {
     {
         Agenda {
             streams: StreamSet::new(),
+            buffered: StreamSet::new(),
+            place: 0,
             closed: false,
         }
     }
 
-    /// A stream may have something to do.
+    /// A stream may have something to do, and something of it may not be acknowledged.
     pub fn note(&mut self, id: u16)
         ensures here { has_id id self.new.streams ≡ true }
         ensures others { (other : ℕ) → other ≢ id → has_id other self.new.streams ≡ has_id other self.old.streams }
+        ensures buffered { has_id id self.new.buffered ≡ true }
+        ensures apart { (other : ℕ) → other ≢ id → has_id other self.new.buffered ≡ has_id other self.old.buffered }
         ensures closed { self.new.closed ≡ self.old.closed }
     {
         self.streams.put(id, true);
+        self.buffered.put(id, true);
     }
 
-    /// A stream has nothing to do.
+    /// A stream has no entry.
     pub fn forget(&mut self, id: u16)
         ensures here { has_id id self.new.streams ≡ false }
         ensures others { (other : ℕ) → other ≢ id → has_id other self.new.streams ≡ has_id other self.old.streams }
+        ensures apart { (other : ℕ) → other ≢ id → has_id other self.new.buffered ≡ has_id other self.old.buffered }
         ensures closed { self.new.closed ≡ self.old.closed }
     {
         self.streams.put(id, false);
+        self.buffered.put(id, false);
     }
 
-    /// A stream was visited, which left its entry in this state.
-    pub fn settle(&mut self, id: u16, state: StreamEntryState, met: &Met)
+    /// Whether something of a stream may not be acknowledged.
+    pub fn count(&mut self, id: u16, some: bool)
+        ensures here { has_id id self.new.buffered ≡ some }
+        ensures apart { (other : ℕ) → other ≢ id → has_id other self.new.buffered ≡ has_id other self.old.buffered }
+        ensures streams { self.new.streams ≡ self.old.streams }
+        ensures closed { self.new.closed ≡ self.old.closed }
+    {
+        self.buffered.put(id, some);
+    }
+
+    /// The next stream, in turn, of which something may not be acknowledged.
+    pub fn next_buffered(&mut self) -> Option<u16>
+        ensures streams { self.new.streams ≡ self.old.streams }
+        ensures buffered { self.new.buffered ≡ self.old.buffered }
+        ensures closed { self.new.closed ≡ self.old.closed }
+    {
+        let next = self.buffered.next(self.place);
+        match next {
+            None => self.place = 0,
+            Some(id) => self.place = id as usize + 1,
+        }
+        next
+    }
+
+    /// A stream was visited, which left its entry in this state. `some` is whether something of it may not be acknowledged.
+    pub fn settle(&mut self, id: u16, state: StreamEntryState, met: &Met, some: bool)
         requires { has_id id self.old.streams ≡ true }
         ensures here { has_id id self.new.streams ≡ not (IsDone state met.now) }
         ensures others { (other : ℕ) → other ≢ id → has_id other self.new.streams ≡ has_id other self.old.streams }
+        ensures buffered { has_id id self.new.buffered ≡ some }
+        ensures apart { (other : ℕ) → other ≢ id → has_id other self.new.buffered ≡ has_id other self.old.buffered }
         ensures closed { self.new.closed ≡ (self.old.closed || IsClosedState state) }
     {
         if is_done(state, met) {
             self.streams.put(id, false);
         }
+        self.buffered.put(id, some);
         self.closed = self.closed || is_closed_state(state);
     }
 }

@@ -99,6 +99,8 @@ fn complete_reset(id: u16, resets: &mut Vec<u16>, completed: &mut VecDeque<u16>)
 fn note_event(event: AssocEvent, agenda: &mut Agenda)
     ensures notes { (id : ℕ) → IsTouched id event → has_id id agenda.new.streams ≡ true }
     ensures keeps { (id : ℕ) → has_id id agenda.new.streams ≡ false → has_id id agenda.old.streams ≡ false }
+    ensures counts { (id : ℕ) → IsTouched id event → has_id id agenda.new.buffered ≡ true }
+    ensures buffered { (id : ℕ) → has_id id agenda.new.buffered ≡ false → has_id id agenda.old.buffered ≡ false }
     ensures closed { agenda.new.closed ≡ agenda.old.closed }
 {
     match event {
@@ -172,6 +174,8 @@ pub fn apply_event_with_room(
         (book state.new entries.new.items resets.new.items completed.new.items) }
     ensures notes { (id : ℕ) → IsTouched id event → has_id id agenda.new.streams ≡ true }
     ensures keeps { (id : ℕ) → has_id id agenda.new.streams ≡ false → has_id id agenda.old.streams ≡ false }
+    ensures counts { (id : ℕ) → IsTouched id event → has_id id agenda.new.buffered ≡ true }
+    ensures buffered { (id : ℕ) → has_id id agenda.new.buffered ≡ false → has_id id agenda.old.buffered ≡ false }
     ensures closed { agenda.new.closed ≡ agenda.old.closed }
 {
     note_event(event, agenda);

@@ -2,6 +2,7 @@
 #![tactic(auto)]
 
 mod agenda;
+mod buffered;
 mod events;
 mod polls;
 mod pushed_back;

@@ -78,7 +78,7 @@ fn take_event<S: Association>(
 pub(crate) fn sweep(entries: &mut Vec<StreamEntry>, agenda: &mut Agenda)
     requires { agenda.old.closed ≡ false → AreUnclosed entries.old.items }
     ensures entries { entries.new.items ≡ unclosed entries.old.items }
-    ensures streams { agenda.new.streams ≡ agenda.old.streams }
+    ensures streams { (agenda.new.streams ≡ agenda.old.streams) × (agenda.new.buffered ≡ agenda.old.buffered) }
     ensures closed { agenda.new.closed ≡ false }
 {
     if agenda.closed {

@@ -7,6 +7,7 @@ ghost use Rattle.rtc_sctp.specs.TourSteps.{StepsBy};
 
 use crate::StreamEntry;
 use crate::agenda::Agenda;
+use crate::buffered::may_buffer;
 use rtc_part_association::Association;
 use rtc_sctp_entries::Met;
 use rtc_sctp_entries::entries::place_of;
@@ -37,7 +38,8 @@ fn visit_stream<S: Association>(
     };
     let entry = &mut entries[place];
     let met = visit(alloc, now, association, entry, resets);
-    agenda.settle(id, entry.state, &met);
+    let some = may_buffer(association, id);
+    agenda.settle(id, entry.state, &met, some);
     met
 }
 

@@ -5,6 +5,7 @@ ghost use Rattle.rtc_sctp.specs.Calls.{is_current as IsCurrent};
 ghost use Rattle.rtc_sctp.specs.Calls.{written_ppi as WrittenPpi, write_refusal as WriteRefusal};
 ghost use Rattle.rtc_sctp.specs.Refusals.{IsRefusedAs, refusal_of_message};
 
+use crate::buffered::{left_of, sift};
 use crate::streams::RtcSctp;
 use crate::{ProtoError, SctpError};
 use rtc_part_association::{AssocError, Association, Ppi};
@@ -57,12 +58,12 @@ impl<S: Association> RtcSctp<S> {
     fn left(&self) -> usize
         ensures { result ≡ self.now.max_buffered - buffered_sum S.association self.now.association self.now.entries }
     {
-        let entries = self.entries.as_slice();
-        let mut left = self.max_buffered;
-        for own in entries {
-            left = left.saturating_sub(self.association.buffered_amount(own.id));
-        }
-        left
+        left_of(
+            &self.association,
+            self.entries.as_slice(),
+            &self.agenda.buffered,
+            self.max_buffered,
+        )
     }
 
     fn can_write(&self, id: u16) -> bool
@@ -81,6 +82,13 @@ impl<S: Association> RtcSctp<S> {
         )
     }
 
+    // Looks at a stream that was written to, whether all of it is acknowledged.
+    fn sift(&mut self)
+        ensures { self.new ≡ self.old }
+    {
+        sift(&self.association, self.entries.as_slice(), &mut self.agenda);
+    }
+
     fn write_message(&mut self, id: u16, binary: bool, buf: &[u8]) -> Result<usize, SctpError>
         ensures { WritesStream S.association id binary buf.now self.old result self.new }
     {
@@ -92,6 +100,7 @@ impl<S: Association> RtcSctp<S> {
         }
         let ppi = written_ppi(binary, buf.is_empty());
         self.rests = false;
+        self.agenda.count(id, true);
         match self.association.stream_write(id, ppi, buf) {
             Ok(_) => Ok(buf.len()),
             Err(why) => Err(write_refusal(id, buf.len(), self.remote_max, why)),
@@ -104,6 +113,8 @@ impl<S: Association> RtcSctp<S> {
         ensures refused { IsRefusedAs (refusal_of_message S.association id buf.now self.old)
             (S.association.faults self.old.association) (S.association.faults self.new.association) result }
     {
+        self.sift();
+        self.sift();
         self.write_message(id, binary, buf)
     }
 }

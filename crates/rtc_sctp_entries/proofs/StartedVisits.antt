@@ -1,5 +1,5 @@
 -- A visit leaves the association started.
-use Rattle.std.proofs.Common.{◌≡◌, ℕ, true}
+use Rattle.std.proofs.Common.{◌≡◌, ℕ, true, refl}
 use Rattle.rtc_part_association.specs.AssociationMeaning.{AssociationMeaning}
 use Rattle.rtc_part_association.specs.AssociationLaws.{AssociationLaws}
 use Rattle.rtc_sctp_entries.specs.declared.met.Met.{Met}
@@ -8,10 +8,10 @@ use Rattle.rtc_sctp_entries.proofs.KeptVisits.{KeepsCalls, visits_keep}
 use Rattle.rtc_sctp_entries.proofs.PartLemmas.{started_opened, started_wrote, started_read, started_ended, started_threshold, started_reliability}
 
 module _ {S : Type 0} (m : AssociationMeaning S) (w : AssociationLaws m) where
-  calls_start : KeepsCalls m (λ (p : S). m.started p ≡ true)
-  calls_start = record {
+  calls_start : (own : ℕ) → KeepsCalls m own (λ (p : S). m.started p ≡ true)
+  calls_start own = record {
     opened = started_opened m w;
-    wrote = started_wrote m w;
+    wrote = λ p q id ppi b r is. started_wrote m w p q id ppi b r;
     read = started_read m w;
     ended = started_ended m w;
     threshold = started_threshold m w;
@@ -19,4 +19,4 @@ module _ {S : Type 0} (m : AssociationMeaning S) (w : AssociationLaws m) where
   }
 
   pub visits_started : (now : ℕ) (t : Turn S) (met : Met) (t' : Turn S) → m.started t.association ≡ true → Visits m now t met t' → m.started t'.association ≡ true
-  visits_started now t met t' s h = visits_keep m (λ (p : S). m.started p ≡ true) calls_start now t met t' s h
+  visits_started now t met t' s h = visits_keep m t.entry.id (λ (p : S). m.started p ≡ true) (calls_start t.entry.id) now t met t' refl s h

@@ -16,4 +16,5 @@ returns-clause-tended g c =
     (book c.args.state.now c.make_room.new.entries.items c.make_room.new.resets.items c.make_room.new.completed.items)
     (book c.apply_event_with_room.new.state c.apply_event_with_room.new.entries.items c.apply_event_with_room.new.resets.items c.apply_event_with_room.new.completed.items)
     c.args.agenda.now c.apply_event_with_room.new.agenda c.in-Some.ensures (rw (← c.make_room.ensures.entries) at c.requires)
-    c.apply_event_with_room.ensures.notes c.apply_event_with_room.ensures.keeps c.apply_event_with_room.ensures.closed c.apply_event_with_room.ensures.after
+    c.apply_event_with_room.ensures.notes c.apply_event_with_room.ensures.keeps
+    c.apply_event_with_room.ensures.counts c.apply_event_with_room.ensures.buffered c.apply_event_with_room.ensures.closed c.apply_event_with_room.ensures.after

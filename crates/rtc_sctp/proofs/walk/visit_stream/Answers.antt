@@ -10,7 +10,7 @@ pub returns-in_default-clause-tended : goal.returns-in_default-clause-tended
 returns-in_default-clause-tended g c =
     let none : entry_place c.args.id c.args.entries.now.items ≡ None = sym (c.place_of.ensures ∙ ap (entry_place c.args.id) c.as_slice.ensures.value) ∙ c.in_default.is in
     tended_absent g.S.Association.association c.args.association.now c.args.id c.args.entries.now.items c.args.agenda.now c.forget.new.self c.requires.tended none
-    c.forget.ensures.others c.forget.ensures.closed
+    c.forget.ensures.others c.forget.ensures.apart c.forget.ensures.closed
 
 pub returns-in_default-clause-steps : goal.returns-in_default-clause-steps
 returns-in_default-clause-steps g c =
@@ -26,7 +26,8 @@ returns-clause-tended g c =
     let own : x.id ≡ c.args.id = ap (λ (e : StreamEntry). e.id) c.index_mut-entry.ensures.value ∙ at.1 in
     tended_visit g.S.Association.association g.met.S.Association.laws c.args.now c.visit-met.result c.args.id c.args.association.now c.args.resets.now.items
     c.args.entries.now.items c.in-Some.place x (turn c.visit-met.new.association c.visit-met.new.entry c.visit-met.new.resets.items) c.args.agenda.now c.settle.new.self
-    c.requires.tended at.0 c.index_mut-entry.ensures.value own c.visit-met.ensures c.settle.ensures.here c.settle.ensures.others c.settle.ensures.closed
+    c.requires.tended at.0 c.index_mut-entry.ensures.value own c.visit-met.ensures c.settle.ensures.here c.settle.ensures.others
+    (c.settle.ensures.buffered ∙ c.may_buffer-some.ensures) c.settle.ensures.apart c.settle.ensures.closed
 
 pub returns-clause-steps : goal.returns-clause-steps
 returns-clause-steps g c =

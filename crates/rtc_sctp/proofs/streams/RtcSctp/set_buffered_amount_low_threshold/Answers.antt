@@ -8,7 +8,7 @@ use Rattle.rtc_sctp.proofs.streams.RtcSctp.set_buffered_amount_low_threshold.Goa
 pub invariant_of-self : goal.invariant_of-self
 invariant_of-self g c = (
   tended_threshold g.S.Association.association _ c.args.id c.args.n c.in-Some.place _ _ _
-      (tended_noted g.S.Association.association _ c.args.id _ _ _ c.self.invariant.0 c.note.ensures.here c.note.ensures.others c.note.ensures.closed) c.note.ensures.here
+      (tended_noted g.S.Association.association _ c.args.id _ _ _ c.self.invariant.0 c.note.ensures.here c.note.ensures.others c.note.ensures.buffered c.note.ensures.apart c.note.ensures.closed) c.note.ensures.here
       (sym (c.place_of.ensures ∙ ap (entry_place c.args.id) c.as_slice.ensures.value) ∙ c.in-Some.is) c.set_threshold_at.ensures,
   λ e. cc (e),
 )
