@@ -53,3 +53,5 @@ pub mod PartItems
 pub mod PartActs
 pub mod BufferedSums
 pub mod PassedReads
+pub mod NarrowedPolls
+pub mod DrainedPolls

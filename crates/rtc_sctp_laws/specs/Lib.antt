@@ -8,3 +8,4 @@ pub mod Contents
 pub mod PastGenerations
 pub mod RunningStreams
 pub mod PassedReads
+pub mod NarrowedTimeouts
