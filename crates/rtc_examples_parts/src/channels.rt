@@ -9,7 +9,8 @@ use rtc_sctp::RtcSctp;
 use rtc_wire::{ChannelConfig, ChannelId, Moment, Text};
 use std::alloc::{AllocError, Global};
 
-fn config(alloc: Global, settled: Option<u16>) -> Result<ChannelConfig, AllocError> {
+/// The config of a channel, negotiated out-of-band for a stream, if there is one.
+pub fn config(alloc: Global, settled: Option<u16>) -> Result<ChannelConfig, AllocError> {
     let label = Text::from_str(alloc, "chat")?;
     let mut config = ChannelConfig::new(alloc);
     config.label = label;
@@ -38,8 +39,13 @@ fn make(
     Ok(id)
 }
 
-// Whether a channel is made with this number.
-fn makes(alloc: Global, channels: &mut ChannelHandler, settled: Option<u16>, number: u64) -> bool {
+/// Whether a channel is made and confirmed with this number.
+pub fn makes(
+    alloc: Global,
+    channels: &mut ChannelHandler,
+    settled: Option<u16>,
+    number: u64,
+) -> bool {
     gives(make(alloc, channels, settled), &ChannelId::new(number))
 }
 

@@ -18,6 +18,7 @@ mod lookups;
 mod losses;
 mod scenes;
 mod scripts;
+mod signals;
 mod starts;
 mod streams;
 mod two_peers;
@@ -55,6 +56,7 @@ impl Examples for Parts {
             "dtls" => dtls::does_agree(alloc, name),
             "ids" => free_ids::does_agree(name),
             "losses" => losses::does_agree(alloc, name),
+            "signals" => signals::does_agree(alloc, name),
             "starts" => starts::does_agree(alloc, name),
             "streams" => scenes::does_agree(alloc, name),
             "work" => is_done(alloc, name),
