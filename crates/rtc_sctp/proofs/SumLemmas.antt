@@ -32,7 +32,7 @@ module _ {S : Type 0} (m : AssociationMeaning S) where
   no_amount a id [] none = refl
   no_amount a id (e ∷ es) none =
       let apart : (e.id == id) ≡ false = ne_eqb e.id id (none 0 e (omega arith)) in
-      rw apart (no_amount a id es (λ i d lt. none (suc i) d (omega (arith, lt))))
+      rw apart (omega (arith, no_amount a id es (λ i d lt. none (suc i) d (omega (arith, lt)))))
 
   pub none_amount : (a : S) (id : ℕ) (es : List StreamEntry) → entry_place id es ≡ None → entry_amount m a id es ≡ 0
   none_amount a id es is = no_amount a id es (λ i d lt. none_missing id es is i d lt)
@@ -48,7 +48,7 @@ module _ {S : Type 0} (m : AssociationMeaning S) where
   own_amount a id low (suc place) (e ∷ es) x order lt own =
       let least = ascend_least (e.id + 1) es place x order.1 (omega (arith, lt)) in
       let apart : (e.id == id) ≡ false = ne_eqb e.id id (λ k. omega (arith, least, own, k)) in
-      rw apart (own_amount a id (e.id + 1) place es x order.1 (omega (arith, lt)) own)
+      rw apart (omega (arith, own_amount a id (e.id + 1) place es x order.1 (omega (arith, lt)) own))
 
   pub one_amount : (a : S) (id place : ℕ) (es : List StreamEntry) (d : StreamEntry) → Ascend es → entry_place id es ≡ Some place
       → entry_amount m a id es ≡ m.buffered a id
@@ -99,7 +99,7 @@ module _ {S : Type 0} (m : AssociationMeaning S) (w : AssociationLaws m) where
                     rw (x, y, z) (none (out e.id (omega (arith, reached)) before))
                 | inr behind ↦
                     let y : nat_lt e.id (id + 1) ≡ false = grind (arith, behind, apart) in
-                    rw (x, y, z) refl
+                    rw (x, y, z) (omega arith)
               ]
         ]
   ]
