@@ -6,7 +6,8 @@ use Rattle.rtc_part_association.specs.AssociationMeaning.{AssociationMeaning}
 use Rattle.rtc_part_association.specs.AssociationLaws.{AssociationLaws}
 use Rattle.rtc_sctp_values.specs.StreamIds.{StreamIds, has_id}
 use Rattle.rtc_sctp_entries.specs.declared.stream_entry.StreamEntry.{StreamEntry}
-use Rattle.rtc_sctp_entries.specs.Entries.{Ascend, AscendFrom, entry_place}
+use Rattle.rtc_sctp_entries.specs.declared.stream_entry_state.StreamEntryState.TheVariants.{AwaitOpen}
+use Rattle.rtc_sctp_entries.specs.Entries.{Ascend, AscendFrom, entry_place, new_entry}
 use Rattle.rtc_sctp_entries.proofs.OrderLemmas.{ascend_least, none_missing}
 use Rattle.rtc_sctp.specs.Calls.{buffered_sum}
 use Rattle.rtc_sctp.specs.Rest.{has_entry, AreCounted, entry_amount}
@@ -50,9 +51,12 @@ module _ {S : Type 0} (m : AssociationMeaning S) where
       let apart : (e.id == id) ≡ false = ne_eqb e.id id (λ k. omega (arith, least, own, k)) in
       rw apart (omega (arith, own_amount a id (e.id + 1) place es x order.1 (omega (arith, lt)) own))
 
-  pub one_amount : (a : S) (id place : ℕ) (es : List StreamEntry) (d : StreamEntry) → Ascend es → entry_place id es ≡ Some place
+  pub one_amount : (a : S) (id place : ℕ) (es : List StreamEntry) → Ascend es → entry_place id es ≡ Some place
       → entry_amount m a id es ≡ m.buffered a id
-  one_amount a id place es d order is = let at = place_is id place es d is in own_amount a id 0 place es d order at.0 at.1
+  one_amount a id place es order is =
+      let d : StreamEntry = new_entry 0 AwaitOpen None in
+      let at = place_is id place es d is in
+      own_amount a id 0 place es d order at.0 at.1
 
 module _ {S : Type 0} (m : AssociationMeaning S) (w : AssociationLaws m) where
   or_right : (a b : Bool) → b ≡ true → (a || b) ≡ true

@@ -1,6 +1,6 @@
 -- What the other calls of streams leave of the use of each stream.
-use Rattle.std.proofs.Common.{◌≡◌, ◌≢◌, ℕ, ◌<◌, ◌≤◌, ◌==◌, ◌&&◌, not, Bool, true, false, true≢false, List, [], ◌∷◌, ◌++◌, append-nil, length, Option, Some, None, Result, Ok, Err, refl, sym, ap, subst, arith}
-use Rattle.std.specs.Prelude.{slice_set}
+use Rattle.std.proofs.Common.{◌≡◌, ◌≢◌, ◌∙◌, inl, inr, ℕ, ◌<◌, ◌≤◌, ◌==◌, ◌&&◌, not, Bool, true, false, true≢false, List, [], ◌∷◌, ◌++◌, append-nil, length, Option, Some, None, Result, Ok, Err, refl, sym, ap, subst, arith}
+use Rattle.std.specs.Prelude.{is_some, slice_set}
 use Rattle.std.specs.declared.alloc.AllocError.{AllocError}
 use Rattle.std.proofs.lemmas.Bool.{eqb-true, eqb-false}
 use Rattle.rtc_ready.specs.Signals.{Signals}
@@ -16,7 +16,7 @@ use Rattle.rtc_sctp_entries.specs.declared.asked.Asked.TheVariants as did
 use Rattle.rtc_sctp_entries.specs.declared.stream_entry_state.StreamEntryState.{StreamEntryState}
 use Rattle.rtc_sctp_entries.specs.declared.stream_entry_state.StreamEntryState.TheVariants.{AwaitOpen, AwaitConfig, AwaitDcepAck, Open, Closed}
 use Rattle.rtc_sctp_entries.specs.declared.stream_entry.StreamEntry.{StreamEntry}
-use Rattle.rtc_sctp_entries.specs.Entries.{entry_place, new_place, new_entry, marked_entry, has_open}
+use Rattle.rtc_sctp_entries.specs.Entries.{entry_place, new_place, new_entry, marked_entry, has_open, is_out_of_band}
 use Rattle.rtc_sctp.specs.declared.rtc_sctp_state.RtcSctpState.{RtcSctpState}
 use Rattle.rtc_sctp.specs.declared.rtc_sctp_state.RtcSctpState.TheVariants.{Uninited, AwaitRemoteAssociation, AwaitAssociationEstablished, Established}
 use Rattle.rtc_sctp_values.specs.declared.proto_error.ProtoError.TheVariants as proto
@@ -26,16 +26,16 @@ use Rattle.rtc_sctp_values.specs.InitHalves.{InitHalves}
 use Rattle.rtc_sctp.specs.Streams.{SctpStreams, is_established}
 use Rattle.rtc_sctp.specs.Calls.{Inits, ShutBy, Shuts, is_ended, WrittenIf, WritesStream, can_write, is_current, written_ppi, is_nil, write_answer, InputIf, TakesInput, TimedBy, TakesTimeout}
 use Rattle.rtc_sctp.specs.StreamCalls.{ConfigBy, TakesConfig, Declined, Answered, OpensAwaiting, OpensOver, OpensAt, OpensStream, ClosesAt, ClosesDataStream, SetsThreshold}
-use Rattle.rtc_sctp_laws.specs.StreamMessages.{StreamMessage, stream_message}
+use Rattle.rtc_sctp_laws.specs.StreamMessages.{StreamMessage, is_dcep, stream_message}
 use Rattle.rtc_sctp_laws.specs.StreamActs.{AssociationDid, CallDid, written_message}
 use Rattle.rtc_sctp_laws.proofs.ActLemmas.{wrote_did}
 use Rattle.rtc_sctp_laws.proofs.CallActs.{inits_did, shuts_did, timeout_did, opens_did, closes_did}
 use Rattle.rtc_sctp_laws.specs.GenerationLaws.{KeepsGeneration, GenerationLaws}
-use Rattle.rtc_sctp_laws.specs.StreamUses.{messages_of, entries_of, IsUsedIn, IsUsedBy, EntryUsed, NoneUsed, AreUsedIn, IsUsed}
+use Rattle.rtc_sctp_laws.specs.StreamUses.{any_dcep, messages_of, entries_of, IsUsedIn, IsDcepInBand, IsWithoutDcep, IsUsedBy, EntryUsed, NoneUsed, AreUsedIn, IsUsed}
 use Rattle.rtc_sctp_laws.specs.UsedCalls.{IsUsedOver}
-use Rattle.rtc_sctp_laws.proofs.GenerationMessages.{messages_other, own_one}
-use Rattle.rtc_sctp_laws.proofs.KnownUses.{write_facts}
-use Rattle.rtc_sctp_laws.proofs.KeptUses.{did_keeps, are_used_kept, risen_used, unclosed_used, reached_kept, reached_wrote}
+use Rattle.rtc_sctp_laws.proofs.GenerationMessages.{messages_other, none_data, own_one}
+use Rattle.rtc_sctp_laws.proofs.KnownUses.{now_more, now_of, open_without, write_facts}
+use Rattle.rtc_sctp_laws.proofs.KeptUses.{did_keeps, are_used_kept, risen_used, spent_kept, unclosed_used, reached_kept, reached_wrote}
 use Rattle.rtc_sctp_laws.proofs.OneEntry.{one_set, one_insert}
 use Rattle.rtc_sctp_laws.proofs.EntriesOf.{used_is, none_placed, open_used}
 use Rattle.rtc_sctp_laws.proofs.UsedTours.{used_beside}
@@ -57,7 +57,7 @@ module _ {S : Type 0} (m : AssociationMeaning S) where
   used_mark_in s a ws hs Closed marked own k = k
 
   used_mark : (s : ℕ) (a : S) (ws hs : List StreamMessage) (e : StreamEntry) → IsUsedBy m e s a ws hs → IsUsedBy m (marked_entry e) s a ws hs
-  used_mark s a ws hs e k = used_mark_in s a _ _ e.state e.marked e.generation k
+  used_mark s a ws hs e k = (used_mark_in s a _ _ e.state e.marked e.generation k.0, k.1)
 
   -- starts and ends
   pub inits_entries : (client : Bool) (now max : ℕ) (snap : Option InitHalves) (p : SctpStreams S) (r : Result (Unit {0}) SctpError) (q : SctpStreams S) → Inits m client now max snap p r q → q.entries ≡ p.entries
@@ -104,39 +104,43 @@ module _ {S : Type 0} (m : AssociationMeaning S) where
     timeout_use now p wake r q wake' s ws hs h k = call_use s ws hs p q (timeout_did m now p wake r q wake' h) (λ u. timed_entries p.state now p wake r q wake' s q.association ws hs h u) k
 
     -- streams that are opened
-    config_used : (o : Asked) (config : ChannelConfig) (e : StreamEntry) (r : Result (Unit {0}) AllocError) (e' : StreamEntry) (s : ℕ) (a : S) (ws hs : List StreamMessage) → ConfigBy o config e r e' → (e'.id ≡ e.id) × (IsUsedBy m e s a ws hs → IsUsedBy m e' s a ws hs)
-    config_used did.Done config e (Ok x) e' s a ws hs h = (ap (λ (y : StreamEntry). y.id) h, λ k. subst (λ (y : StreamEntry). IsUsedBy m y s a ws hs) (sym h) tt)
-    config_used did.Done config e (Err x) e' s a ws hs h = absurd h
-    config_used did.Refused config e (Ok x) e' s a ws hs h = (ap (λ (y : StreamEntry). y.id) h, λ k. subst (λ (y : StreamEntry). IsUsedBy m y s a ws hs) (sym h) (used_mark s a ws hs e k))
-    config_used did.Refused config e (Err x) e' s a ws hs h = absurd h
-    config_used did.OutOfMemory config e (Ok x) e' s a ws hs h = absurd h
-    config_used did.OutOfMemory config e (Err x) e' s a ws hs h = (ap (λ (y : StreamEntry). y.id) h, λ k. subst (λ (y : StreamEntry). IsUsedBy m y s a ws hs) (sym h) k)
+    config_used : (o : Asked) (config : ChannelConfig) (e : StreamEntry) (r : Result (Unit {0}) AllocError) (e' : StreamEntry) (s : ℕ) (a : S) (ws hs : List StreamMessage) → e.state ≡ AwaitConfig → ConfigBy o config e r e' → (e'.id ≡ e.id) × (IsUsedBy m e s a ws hs → IsUsedBy m e' s a ws hs)
+    config_used did.Done config e (Ok x) e' s a ws hs st h =
+        (ap (λ (y : StreamEntry). y.id) h, λ k. subst (λ (y : StreamEntry). IsUsedBy m y s a ws hs) (sym h) (tt, open_without m (is_some config.negotiated) s a _ (waiting k.1).1))
+      where
+        waiting : IsDcepInBand m e.state (is_out_of_band e) s a (messages_of s (m.generation a s) ws) → IsDcepInBand m AwaitConfig (is_out_of_band e) s a (messages_of s (m.generation a s) ws)
+        waiting k = subst (λ (y : StreamEntryState). IsDcepInBand m y (is_out_of_band e) s a (messages_of s (m.generation a s) ws)) st k
+    config_used did.Done config e (Err x) e' s a ws hs st h = absurd h
+    config_used did.Refused config e (Ok x) e' s a ws hs st h = (ap (λ (y : StreamEntry). y.id) h, λ k. subst (λ (y : StreamEntry). IsUsedBy m y s a ws hs) (sym h) (used_mark s a ws hs e k))
+    config_used did.Refused config e (Err x) e' s a ws hs st h = absurd h
+    config_used did.OutOfMemory config e (Ok x) e' s a ws hs st h = absurd h
+    config_used did.OutOfMemory config e (Err x) e' s a ws hs st h = (ap (λ (y : StreamEntry). y.id) h, λ k. subst (λ (y : StreamEntry). IsUsedBy m y s a ws hs) (sym h) k)
 
     mark_used : (e e' : StreamEntry) (s : ℕ) (a : S) (ws hs : List StreamMessage) → e' ≡ marked_entry e → (e'.id ≡ e.id) × (IsUsedBy m e s a ws hs → IsUsedBy m e' s a ws hs)
     mark_used e e' s a ws hs h = (ap (λ (y : StreamEntry). y.id) h, λ k. subst (λ (y : StreamEntry). IsUsedBy m y s a ws hs) (sym h) (used_mark s a ws hs e k))
 
-    takes_used : (config : ChannelConfig) (p : S) (e : StreamEntry) (r : Result (Unit {0}) AllocError) (q : S) (e' : StreamEntry) (s : ℕ) (a : S) (ws hs : List StreamMessage) → TakesConfig m config p e r q e' → (e'.id ≡ e.id) × (IsUsedBy m e s a ws hs → IsUsedBy m e' s a ws hs)
-    takes_used config p e r q e' s a ws hs (Declined c f g h) = mark_used e e' s a ws hs h
-    takes_used config p e r q e' s a ws hs (Answered answer c f h) = config_used answer config e r e' s a ws hs h
+    takes_used : (config : ChannelConfig) (p : S) (e : StreamEntry) (r : Result (Unit {0}) AllocError) (q : S) (e' : StreamEntry) (s : ℕ) (a : S) (ws hs : List StreamMessage) → e.state ≡ AwaitConfig → TakesConfig m config p e r q e' → (e'.id ≡ e.id) × (IsUsedBy m e s a ws hs → IsUsedBy m e' s a ws hs)
+    takes_used config p e r q e' s a ws hs st (Declined c f g h) = mark_used e e' s a ws hs h
+    takes_used config p e r q e' s a ws hs st (Answered answer c f h) = config_used answer config e r e' s a ws hs st h
 
-    awaiting_used : (set : Bool) (config : ChannelConfig) (p : S) (e : StreamEntry) (r : Result (Unit {0}) AllocError) (q : S) (e' : StreamEntry) (s : ℕ) (a : S) (ws hs : List StreamMessage) → OpensAwaiting m set config p e r q e' → (e'.id ≡ e.id) × (IsUsedBy m e s a ws hs → IsUsedBy m e' s a ws hs)
-    awaiting_used true config p e r q e' s a ws hs h = mark_used e e' s a ws hs h.2
-    awaiting_used false config p e r q e' s a ws hs h = takes_used config p e r q e' s a ws hs h
+    awaiting_used : (set : Bool) (config : ChannelConfig) (p : S) (e : StreamEntry) (r : Result (Unit {0}) AllocError) (q : S) (e' : StreamEntry) (s : ℕ) (a : S) (ws hs : List StreamMessage) → e.state ≡ AwaitConfig → OpensAwaiting m set config p e r q e' → (e'.id ≡ e.id) × (IsUsedBy m e s a ws hs → IsUsedBy m e' s a ws hs)
+    awaiting_used true config p e r q e' s a ws hs st h = mark_used e e' s a ws hs h.2
+    awaiting_used false config p e r q e' s a ws hs st h = takes_used config p e r q e' s a ws hs st h
 
-    over_used : (st : StreamEntryState) (config : ChannelConfig) (p : S) (e : StreamEntry) (r : Result (Unit {0}) AllocError) (q : S) (e' : StreamEntry) (s : ℕ) (a : S) (ws hs : List StreamMessage) → OpensOver m st config p e r q e' → (e'.id ≡ e.id) × (IsUsedBy m e s a ws hs → IsUsedBy m e' s a ws hs)
-    over_used AwaitConfig config p e r q e' s a ws hs h = awaiting_used _ config p e r q e' s a ws hs h
-    over_used AwaitOpen config p e r q e' s a ws hs h = mark_used e e' s a ws hs h.2
-    over_used AwaitDcepAck config p e r q e' s a ws hs h = mark_used e e' s a ws hs h.2
-    over_used Open config p e r q e' s a ws hs h = mark_used e e' s a ws hs h.2
-    over_used Closed config p e r q e' s a ws hs h = mark_used e e' s a ws hs h.2
+    over_used : (st : StreamEntryState) (config : ChannelConfig) (p : S) (e : StreamEntry) (r : Result (Unit {0}) AllocError) (q : S) (e' : StreamEntry) (s : ℕ) (a : S) (ws hs : List StreamMessage) → e.state ≡ st → OpensOver m st config p e r q e' → (e'.id ≡ e.id) × (IsUsedBy m e s a ws hs → IsUsedBy m e' s a ws hs)
+    over_used AwaitConfig config p e r q e' s a ws hs is h = awaiting_used _ config p e r q e' s a ws hs is h
+    over_used AwaitOpen config p e r q e' s a ws hs is h = mark_used e e' s a ws hs h.2
+    over_used AwaitDcepAck config p e r q e' s a ws hs is h = mark_used e e' s a ws hs h.2
+    over_used Open config p e r q e' s a ws hs is h = mark_used e e' s a ws hs h.2
+    over_used Closed config p e r q e' s a ws hs is h = mark_used e e' s a ws hs h.2
 
     open_entries : (o : Option ℕ) (id : ℕ) (config : ChannelConfig) (p : S) (es : List StreamEntry) (r : Result (Unit {0}) AllocError) (q : S) (es' : List StreamEntry) (s : ℕ) (a : S) (ws hs : List StreamMessage) → entry_place id es ≡ o → OpensAt m o id config p es r q es'
         → AreUsedIn m (entries_of s es) s a ws hs → AreUsedIn m (entries_of s es') s a ws hs
     open_entries None id config p es (Ok x) q es' s a ws hs e h k =
-        used_is m _ _ s a ws hs (ap (entries_of s) h.1) (one_insert (NoneUsed m s a ws hs) (EntryUsed m s a ws hs) s es (new_place id es) (new_entry id AwaitOpen (Some config)) (none_placed id es e) (λ same u. u) k)
+        used_is m _ _ s a ws hs (ap (entries_of s) h.1) (one_insert (NoneUsed m s a ws hs) (EntryUsed m s a ws hs) s es (new_place id es) (new_entry id AwaitOpen (Some config)) (none_placed id es e) (λ same u. (u, tt)) k)
     open_entries None id config p es (Err x) q es' s a ws hs e h k = used_is m _ _ s a ws hs (ap (entries_of s) h.1) k
     open_entries (Some place) id config p es r q es' s a ws hs e h k =
-        let over = over_used h.0.state config p h.0 r q h.1 s a ws hs h.3 in
+        let over = over_used h.0.state config p h.0 r q h.1 s a ws hs refl h.3 in
         used_is m _ _ s a ws hs (ap (entries_of s) h.4) (one_set (NoneUsed m s a ws hs) (EntryUsed m s a ws hs) s es place h.0 h.1 h.2 over.0 over.1 k)
 
     pub opens_use : (id : ℕ) (config : ChannelConfig) (p : SctpStreams S) (r : Result (Unit {0}) AllocError) (q : SctpStreams S) (s : ℕ) (ws hs : List StreamMessage) → OpensStream m id config p r q → IsUsedOver m s ws hs p → IsUsedOver m s ws hs q
@@ -173,9 +177,9 @@ module _ {S : Type 0} (m : AssociationMeaning S) where
       open_of_write false b c h = absurd (true≢false (sym h))
 
       -- one that the association took
-      took_use : (id : ℕ) (i : Ppi) (bytes : List ℕ) (n : ℕ) (p q : SctpStreams S) (s : ℕ) (ws hs : List StreamMessage) → has_open id p.entries ≡ true → q.entries ≡ p.entries → m.wrote p.association id i bytes (Ok n) q.association → IsUsedOver m s ws hs p
+      took_use : (id : ℕ) (i : Ppi) (bytes : List ℕ) (n : ℕ) (p q : SctpStreams S) (s : ℕ) (ws hs : List StreamMessage) → is_dcep i ≡ false → has_open id p.entries ≡ true → q.entries ≡ p.entries → m.wrote p.association id i bytes (Ok n) q.association → IsUsedOver m s ws hs p
           → IsUsedOver m s (ws ++ stream_message id (m.generation p.association id) i bytes ∷ []) hs q
-      took_use id i bytes n p q s ws hs there e h k = by (id == s) refl
+      took_use id i bytes n p q s ws hs data_is there e h k = by (id == s) refl
         where
           did_is : AssociationDid m [] [] [] (stream_message id (m.generation p.association id) i bytes ∷ []) [] p.association q.association
           did_is = wrote_did m p.association q.association id i bytes (Ok n) h
@@ -183,11 +187,19 @@ module _ {S : Type 0} (m : AssociationMeaning S) where
           keeps : (o : ℕ) → KeepsGeneration m o p.association q.association
           keeps o = did_keeps m v o [] [] (stream_message id (m.generation p.association id) i bytes ∷ []) [] p.association q.association did_is
 
+          without : IsWithoutDcep m id p.association (now_of m p.association id ws)
+              → IsWithoutDcep m id q.association (now_of m q.association id (ws ++ stream_message id (m.generation p.association id) i bytes ∷ []))
+          without (inl u) =
+              inl
+              (ap any_dcep (now_more m id p.association q.association ws i bytes (keeps id))
+              ∙ none_data (now_of m p.association id ws) (stream_message id (m.generation p.association id) i bytes) u data_is)
+          without (inr u) = inr (spent_kept m id p.association q.association (keeps id) u)
+
           own : IsUsedOver m id ws hs p → IsUsedOver m id (ws ++ stream_message id (m.generation p.association id) i bytes ∷ []) hs q
           own u = record {
             reached = reached_wrote m id ws hs p.association q.association i bytes (keeps id) (write_facts m w v id p.association q.association i bytes n h).0 u.reached;
             used = used_is m _ _ id q.association (ws ++ stream_message id (m.generation p.association id) i bytes ∷ []) hs (ap (entries_of id) e)
-                (open_used m id p.association q.association ws hs (ws ++ stream_message id (m.generation p.association id) i bytes ∷ []) hs p.entries there u.used);
+                (open_used m id p.association q.association ws hs (ws ++ stream_message id (m.generation p.association id) i bytes ∷ []) hs p.entries without there u.used);
           }
 
           by : (c : Bool) → (id == s) ≡ c → IsUsedOver m s (ws ++ stream_message id (m.generation p.association id) i bytes ∷ []) hs q
@@ -199,10 +211,16 @@ module _ {S : Type 0} (m : AssociationMeaning S) where
               subst (λ (l : List StreamMessage). IsUsedOver m s (ws ++ stream_message id (m.generation p.association id) i bytes ∷ []) l q) (append-nil hs)
               (subst (λ (l : List StreamEntry). IsUsed m s (ws ++ stream_message id (m.generation p.association id) i bytes ∷ []) (hs ++ []) q.association l) (sym e) left)
 
+      written_data : (binary empty : Bool) → is_dcep (written_ppi binary empty) ≡ false
+      written_data true true = refl
+      written_data true false = refl
+      written_data false true = refl
+      written_data false false = refl
+
       answered_use : (answer : Result ℕ AssocError) (id : ℕ) (binary : Bool) (bytes : List ℕ) (p q : SctpStreams S) (s : ℕ) (ws hs : List StreamMessage) → has_open id p.entries ≡ true → q.entries ≡ p.entries
           → m.wrote p.association id (written_ppi binary (is_nil bytes)) bytes answer q.association → IsUsedOver m s ws hs p
           → IsUsedOver m s (ws ++ written_message id (m.generation p.association id) binary bytes (write_answer id (length bytes) p.remote_max answer)) hs q
-      answered_use (Ok n) id binary bytes p q s ws hs there e h k = took_use id (written_ppi binary (is_nil bytes)) bytes n p q s ws hs there e h k
+      answered_use (Ok n) id binary bytes p q s ws hs there e h k = took_use id (written_ppi binary (is_nil bytes)) bytes n p q s ws hs (written_data binary (is_nil bytes)) there e h k
       answered_use (Err f) id binary bytes p q s ws hs there e h k =
           let d = wrote_did m p.association q.association id (written_ppi binary (is_nil bytes)) bytes (Err f) h in
           with_none s ws hs q (subst (λ (l : List StreamEntry). IsUsed m s ws hs q.association l) (sym e) (kept_use s ws hs p.association q.association p.entries (did_keeps m v s [] [] [] [] p.association q.association d) k))

@@ -7,10 +7,10 @@ use Rattle.rtc_part_association.specs.AssociationMeaning.{AssociationMeaning}
 use Rattle.rtc_sctp_entries.specs.declared.stream_entry_state.StreamEntryState.{StreamEntryState}
 use Rattle.rtc_sctp_entries.specs.declared.stream_entry_state.StreamEntryState.TheVariants.{AwaitOpen, AwaitConfig, AwaitDcepAck, Open, Closed}
 use Rattle.rtc_sctp_entries.specs.declared.stream_entry.StreamEntry.{StreamEntry}
-use Rattle.rtc_sctp_entries.specs.Entries.{entry_place, is_closed_state, is_open_state, unclosed, has_open}
+use Rattle.rtc_sctp_entries.specs.Entries.{entry_place, is_closed_state, is_open_state, is_out_of_band, unclosed, has_open}
 use Rattle.rtc_sctp_entries.proofs.OrderLemmas.{none_missing}
 use Rattle.rtc_sctp_laws.specs.StreamMessages.{StreamMessage}
-use Rattle.rtc_sctp_laws.specs.StreamUses.{entries_of, IsUsedIn, IsUsedBy, AreUsedIn}
+use Rattle.rtc_sctp_laws.specs.StreamUses.{entries_of, messages_of, IsUsedIn, IsWithoutDcep, IsDcepInBand, IsUsedBy, AreUsedIn}
 
 pub no_entries : (e : StreamEntry) (es : List StreamEntry) → e ∷ es ≡ [] → ⊥
 no_entries e es h = cc
@@ -73,7 +73,7 @@ module _ {S : Type 0} (m : AssociationMeaning S) where
   pub used_is : (l l' : List StreamEntry) (s : ℕ) (a : S) (ws hs : List StreamMessage) → l' ≡ l → AreUsedIn m l s a ws hs → AreUsedIn m l' s a ws hs
   used_is l l' s a ws hs e h = subst (λ (x : List StreamEntry). AreUsedIn m x s a ws hs) (sym e) h
 
-  -- of a stream that is open nothing is said
+  -- of a stream that is open it is said alone that such messages are written in-band
   no_open : (s : ℕ) (es : List StreamEntry) → entries_of s es ≡ [] → has_open s es ≡ true → ⊥
   no_open s [] none h = true≢false (sym h)
   no_open s (x ∷ xs) none h = by (x.id == s) (none_head s x xs none).0 h (λ k. no_open s xs (none_head s x xs none).1 k)
@@ -82,9 +82,11 @@ module _ {S : Type 0} (m : AssociationMeaning S) where
       by true c k rest = true≢false c
       by false c k rest = rest k
 
-  pub open_used : (s : ℕ) (a b : S) (ws hs ws' hs' : List StreamMessage) (es : List StreamEntry) → has_open s es ≡ true → AreUsedIn m (entries_of s es) s a ws hs → AreUsedIn m (entries_of s es) s b ws' hs'
-  open_used s a b ws hs ws' hs' [] h k = absurd (true≢false (sym h))
-  open_used s a b ws hs ws' hs' (x ∷ xs) h k = by (x.id == s) refl h (λ f g. open_used s a b ws hs ws' hs' xs f g)
+  pub open_used : (s : ℕ) (a b : S) (ws hs ws' hs' : List StreamMessage) (es : List StreamEntry)
+      → (IsWithoutDcep m s a (messages_of s (m.generation a s) ws) → IsWithoutDcep m s b (messages_of s (m.generation b s) ws')) → has_open s es ≡ true
+      → AreUsedIn m (entries_of s es) s a ws hs → AreUsedIn m (entries_of s es) s b ws' hs'
+  open_used s a b ws hs ws' hs' [] without h k = absurd (true≢false (sym h))
+  open_used s a b ws hs ws' hs' (x ∷ xs) without h k = by (x.id == s) refl h (λ f g. open_used s a b ws hs ws' hs' xs without f g)
     where
       open_in : (st : StreamEntryState) (us vs : List StreamMessage) → (is_open_state st || has_open s xs) ≡ true → entries_of s xs ≡ [] → IsUsedIn m st x.marked x.generation s b us vs
       open_in AwaitOpen us vs f none = absurd (no_open s xs none f)
@@ -93,8 +95,17 @@ module _ {S : Type 0} (m : AssociationMeaning S) where
       open_in Open us vs f none = tt
       open_in Closed us vs f none = absurd (no_open s xs none f)
 
+      in_band : (st : StreamEntryState) (out : Bool) → (is_open_state st || has_open s xs) ≡ true → entries_of s xs ≡ [] → IsDcepInBand m st out s a (messages_of s (m.generation a s) ws)
+          → IsDcepInBand m st out s b (messages_of s (m.generation b s) ws')
+      in_band AwaitOpen out f none g = absurd (no_open s xs none f)
+      in_band AwaitConfig out f none g = absurd (no_open s xs none f)
+      in_band AwaitDcepAck out f none g = absurd (no_open s xs none f)
+      in_band Open true f none g = without g
+      in_band Open false f none g = tt
+      in_band Closed out f none g = absurd (no_open s xs none f)
+
       by : (c : Bool) → (x.id == s) ≡ c → ((c && is_open_state x.state) || has_open s xs) ≡ true → (has_open s xs ≡ true → AreUsedIn m (entries_of s xs) s a ws hs → AreUsedIn m (entries_of s xs) s b ws' hs') → AreUsedIn m (entries_of s (x ∷ xs)) s b ws' hs'
       by true c f rest =
           let one = only_used s a ws hs x (entries_of s xs) (used_is _ _ s a ws hs (sym (entries_own s x xs c)) k) in
-          used_is (x ∷ []) _ s b ws' hs' (entries_own s x xs c ∙ ap (λ (l : List StreamEntry). x ∷ l) one.0) (open_in x.state _ _ f one.0)
+          used_is (x ∷ []) _ s b ws' hs' (entries_own s x xs c ∙ ap (λ (l : List StreamEntry). x ∷ l) one.0) (open_in x.state _ _ f one.0, in_band x.state (is_out_of_band x) f one.0 one.1.1)
       by false c f rest = used_is _ _ s b ws' hs' (entries_other s x xs c) (rest f (used_is _ _ s a ws hs (sym (entries_other s x xs c)) k))

@@ -8,11 +8,11 @@ use Rattle.rtc_part_association.specs.AssociationWords.{given}
 use Rattle.rtc_sctp_entries.specs.declared.stream_entry_state.StreamEntryState.{StreamEntryState}
 use Rattle.rtc_sctp_entries.specs.declared.stream_entry_state.StreamEntryState.TheVariants.{AwaitOpen, AwaitConfig, AwaitDcepAck, Open, Closed}
 use Rattle.rtc_sctp_entries.specs.declared.stream_entry.StreamEntry.{StreamEntry}
-use Rattle.rtc_sctp_entries.specs.Entries.{unclosed, is_closed_state}
+use Rattle.rtc_sctp_entries.specs.Entries.{unclosed, is_closed_state, is_out_of_band}
 use Rattle.rtc_sctp_laws.specs.StreamMessages.{StreamMessage, stream_message}
 use Rattle.rtc_sctp_laws.specs.StreamActs.{AssociationDid}
 use Rattle.rtc_sctp_laws.specs.GenerationLaws.{KeepsGeneration, GenerationLaws}
-use Rattle.rtc_sctp_laws.specs.StreamUses.{messages_of, entries_of, is_spent_stream, IsUnused, IsIdleStream, IsUsedIn, IsUsedBy, EntryUsed, NoneUsed, AreUsedIn, spoken_generation, messages_for, IsReached}
+use Rattle.rtc_sctp_laws.specs.StreamUses.{messages_of, entries_of, is_spent_stream, any_dcep, IsUnused, IsIdleStream, IsUsedIn, IsWithoutDcep, IsDcepInBand, IsUsedBy, EntryUsed, NoneUsed, AreUsedIn, spoken_generation, messages_for, IsReached}
 use Rattle.rtc_sctp_laws.proofs.GenerationMessages.{messages-append, messages_later}
 use Rattle.rtc_sctp_laws.proofs.KnownUses.{unused_blank}
 use Rattle.rtc_sctp_laws.proofs.OneEntry.{one_map, one_unclosed}
@@ -76,11 +76,42 @@ module _ {S : Type 0} (m : AssociationMeaning S) where
   used_in_kept Open marked own s a b ws hs k h = tt
   used_in_kept Closed marked own s a b ws hs k h = idle_kept s a b ws hs k h
 
+  -- what is written in-band alone
+  pub without_kept : (s : ℕ) (a b : S) (ws : List StreamMessage) → KeepsGeneration m s a b → IsWithoutDcep m s a ws → IsWithoutDcep m s b ws
+  without_kept s a b ws k (inl h) = inl h
+  without_kept s a b ws k (inr h) = inr (spent_kept s a b k h)
+
+  pub without_now : (s : ℕ) (a b : S) (ws : List StreamMessage) → KeepsGeneration m s a b → IsWithoutDcep m s a (messages_of s (m.generation a s) ws) → IsWithoutDcep m s b (messages_of s (m.generation b s) ws)
+  without_now s a b ws k h = subst (λ (g : ℕ). IsWithoutDcep m s b (messages_of s g ws)) (sym k.generation_is) (without_kept s a b (messages_of s (m.generation a s) ws) k h)
+
+  in_band_kept : (st : StreamEntryState) (out : Bool) (s : ℕ) (a b : S) (ws : List StreamMessage) → KeepsGeneration m s a b → IsDcepInBand m st out s a ws → IsDcepInBand m st out s b ws
+  in_band_kept AwaitOpen out s a b ws k h = tt
+  in_band_kept AwaitConfig out s a b ws k h = (h.0, without_kept s a b ws k h.1)
+  in_band_kept AwaitDcepAck out s a b ws k h = h
+  in_band_kept Open true s a b ws k h = without_kept s a b ws k h
+  in_band_kept Open false s a b ws k h = tt
+  in_band_kept Closed out s a b ws k h = tt
+
+  pub in_band_now : (st : StreamEntryState) (out : Bool) (s : ℕ) (a b : S) (ws : List StreamMessage) → KeepsGeneration m s a b → IsDcepInBand m st out s a (messages_of s (m.generation a s) ws)
+      → IsDcepInBand m st out s b (messages_of s (m.generation b s) ws)
+  in_band_now st out s a b ws k h =
+      subst (λ (g : ℕ). IsDcepInBand m st out s b (messages_of s g ws)) (sym k.generation_is) (in_band_kept st out s a b (messages_of s (m.generation a s) ws) k h)
+
+  in_band_risen : (st : StreamEntryState) (out : Bool) (s : ℕ) (a b : S) (us ws : List StreamMessage) → ws ≡ [] → IsDcepInBand m st out s a us → IsDcepInBand m st out s b ws
+  in_band_risen AwaitOpen out s a b us ws e h = tt
+  in_band_risen AwaitConfig out s a b us ws e h = (h.0, inl (ap any_dcep e))
+  in_band_risen AwaitDcepAck out s a b us ws e h = h
+  in_band_risen Open true s a b us ws e h = inl (ap any_dcep e)
+  in_band_risen Open false s a b us ws e h = tt
+  in_band_risen Closed out s a b us ws e h = tt
+
   pub used_by_kept : (e : StreamEntry) (s : ℕ) (a b : S) (ws hs : List StreamMessage) → KeepsGeneration m s a b → IsUsedBy m e s a ws hs → IsUsedBy m e s b ws hs
   used_by_kept e s a b ws hs k h =
-      let of : ℕ → List StreamMessage → List StreamMessage = λ g l. messages_of s (spoken_generation e.state e.generation g) l in
-      subst (λ (g : ℕ). IsUsedIn m e.state e.marked e.generation s b (of g ws) (of g hs)) (sym k.generation_is)
-      (used_in_kept e.state e.marked e.generation s a b _ _ k h)
+      let of : ℕ → List StreamMessage → List StreamMessage = λ g l. messages_of s (spoken_generation e.state e.generation g) l in (
+        subst (λ (g : ℕ). IsUsedIn m e.state e.marked e.generation s b (of g ws) (of g hs)) (sym k.generation_is)
+            (used_in_kept e.state e.marked e.generation s a b _ _ k h.0),
+        in_band_now e.state (is_out_of_band e) s a b ws k h.1,
+      )
 
   idle_now : (s : ℕ) (a b : S) (ws hs : List StreamMessage) → KeepsGeneration m s a b → IsIdleStream m s a (messages_of s (m.generation a s) ws) (messages_of s (m.generation a s) hs) → IsIdleStream m s b (messages_of s (m.generation b s) ws) (messages_of s (m.generation b s) hs)
   idle_now s a b ws hs k h =
@@ -135,11 +166,11 @@ module _ {S : Type 0} (m : AssociationMeaning S) where
   risen_in Closed marked own s a b ws hs e f k = inl (e, f)
 
   pub risen_used : (s : ℕ) (a b : S) (ws hs : List StreamMessage) (es : List StreamEntry) → messages_of s (m.generation b s) ws ≡ [] → messages_of s (m.generation b s) hs ≡ [] → AreUsedIn m es s a ws hs → AreUsedIn m es s b ws hs
-  risen_used s a b ws hs es e f k = one_map (NoneUsed m s a ws hs) (NoneUsed m s b ws hs) (EntryUsed m s a ws hs) (EntryUsed m s b ws hs) es (λ h. inl (e, f)) (λ x. risen_in x.state x.marked x.generation s a b ws hs e f) k
+  risen_used s a b ws hs es e f k = one_map (NoneUsed m s a ws hs) (NoneUsed m s b ws hs) (EntryUsed m s a ws hs) (EntryUsed m s b ws hs) es (λ h. inl (e, f)) (λ x h. (risen_in x.state x.marked x.generation s a b ws hs e f h.0, in_band_risen x.state (is_out_of_band x) s a b _ _ e h.1)) k
 
   -- closed entries are dropped
   pub unclosed_used : (s : ℕ) (a : S) (ws hs : List StreamMessage) (es : List StreamEntry) → AreUsedIn m (entries_of s es) s a ws hs → AreUsedIn m (entries_of s (unclosed es)) s a ws hs
-  unclosed_used s a ws hs es k = one_unclosed (NoneUsed m s a ws hs) (EntryUsed m s a ws hs) s es (λ e c h. by e.state e.marked e.generation c h) k
+  unclosed_used s a ws hs es k = one_unclosed (NoneUsed m s a ws hs) (EntryUsed m s a ws hs) s es (λ e c h. by e.state e.marked e.generation c h.0) k
     where
       by : (st : StreamEntryState) (marked : Bool) (own : Option ℕ) → not (is_closed_state st) ≡ false → IsUsedIn m st marked own s a (messages_for m st own s a ws) (messages_for m st own s a hs)
           → IsIdleStream m s a (messages_of s (m.generation a s) ws) (messages_of s (m.generation a s) hs)

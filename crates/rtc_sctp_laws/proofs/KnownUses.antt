@@ -3,7 +3,8 @@ use Rattle.std.proofs.Common.{◌≡◌, ◌⊎◌, inl, inr, ℕ, ◌||◌, not
 use Rattle.std.specs.Prelude.{is_some}
 use Rattle.std.proofs.lemmas.Bool.{eqb-true}
 use Rattle.rtc_sctp_entries.specs.declared.stream_entry.StreamEntry.{StreamEntry}
-use Rattle.rtc_sctp_entries.specs.Entries.{fits_generation, is_out_of_band}
+use Rattle.rtc_wire.specs.declared.channel_config.ChannelConfig.{ChannelConfig}
+use Rattle.rtc_sctp_entries.specs.Entries.{config_or_fresh, fits_generation, given_config, is_out_of_band}
 use Rattle.rtc_part_association.specs.declared.assoc_error.AssocError.{AssocError}
 use Rattle.rtc_part_association.specs.declared.assoc_error.AssocError.TheVariants.{StreamExists, ResetPending, NoStream, TooLong, Closing, Fault, Alloc}
 use Rattle.rtc_part_association.specs.declared.ppi.Ppi.{Ppi}
@@ -19,7 +20,7 @@ use Rattle.rtc_sctp_laws.specs.StreamMessages.{StreamMessage, stream_message, is
 use Rattle.rtc_sctp_laws.specs.StreamRuns.{is_past_opening}
 use Rattle.rtc_sctp_laws.proofs.MessageLemmas.{dcep_join}
 use Rattle.rtc_sctp_laws.specs.GenerationLaws.{KeepsGeneration, GenerationLaws}
-use Rattle.rtc_sctp_laws.specs.StreamUses.{messages_of, any_dcep, IsUnopened, IsAnnounced, IsOpened, IsOpenedIn, is_spent_stream, IsUnused, IsIdleStream, IsUsedIn, spoken_generation, IsReached}
+use Rattle.rtc_sctp_laws.specs.StreamUses.{messages_of, any_dcep, IsUnopened, IsAnnounced, IsOpened, IsOpenedIn, is_spent_stream, IsUnused, IsIdleStream, IsUsedIn, IsWithoutDcep, IsDcepInBand, spoken_generation, IsReached}
 use Rattle.rtc_sctp_laws.proofs.GenerationMessages.{messages-append, messages_one, none_data, begins_dcep}
 
 no_cause : (e : AssocError) → Some e ≡ None → ⊥
@@ -137,7 +138,26 @@ pub open_now : (e : StreamEntry) (g : ℕ) (ws hs : List StreamMessage) → MayO
 open_now e g ws hs (inl h) = inl h
 open_now e g ws hs (inr h) = inr (h.0, (refl, h.1))
 
+-- a config that the other end gave is in-band, and one that was in-band before is kept
+pub given_in_band : (o : Option ChannelConfig) (config : ChannelConfig) → is_some config.negotiated ≡ false → is_some (config_or_fresh o).negotiated ≡ false
+    → is_some (config_or_fresh (given_config o config)).negotiated ≡ false
+given_in_band None config h k = h
+given_in_band (Some own) config h k = k
+
 module _ {S : Type 0} (m : AssociationMeaning S) where
+  -- an entry that is open
+  pub open_without : (out : Bool) (s : ℕ) (a : S) (ws : List StreamMessage) → IsWithoutDcep m s a ws → IsDcepInBand m Open out s a ws
+  open_without true s a ws h = h
+  open_without false s a ws h = tt
+
+  pub open_in_band : (out : Bool) (s : ℕ) (a : S) (ws : List StreamMessage) → out ≡ false → IsDcepInBand m Open out s a ws
+  open_in_band true s a ws h = absurd (true≢false h)
+  open_in_band false s a ws h = tt
+
+  pub idle_without : (s : ℕ) (a : S) (ws hs : List StreamMessage) → IsIdleStream m s a ws hs → IsWithoutDcep m s a ws
+  idle_without s a ws hs (inl h) = inl (ap any_dcep h.0)
+  idle_without s a ws hs (inr h) = inr h
+
   -- the messages of the generation that a stream has
   abbrev pub now_of : S → ℕ → List StreamMessage → List StreamMessage
   now_of a s messages = messages_of s (m.generation a s) messages

@@ -11,6 +11,7 @@ pub mod GenerationMessages
 pub mod OneEntry
 pub mod KeptUses
 pub mod KnownUses
+pub mod VisitedTurns
 pub mod UsedVisits
 pub mod LivingEntries
 pub mod LivingVisits

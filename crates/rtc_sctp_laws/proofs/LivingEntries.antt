@@ -16,7 +16,7 @@ use Rattle.rtc_sctp_entries.specs.Entries.{entry_place, new_place, new_entry, is
 use Rattle.rtc_sctp.specs.Polls.{Book, AfterEvent, FinishesAt, finished_entry, with_expected}
 use Rattle.rtc_sctp_laws.specs.StreamMessages.{StreamMessage}
 use Rattle.rtc_sctp_laws.specs.StreamUses.{messages_of, are_of_stream, are_of_generation, entries_of, IsLiveIn, IsLive, LeavesLive}
-use Rattle.rtc_sctp_laws.proofs.UsedVisits.{OpensOwn}
+use Rattle.rtc_sctp_laws.proofs.VisitedTurns.{OpensOwn}
 use Rattle.rtc_sctp_laws.proofs.EntriesOf.{entries_own, entries_other, same_test, none_placed}
 use Rattle.rtc_sctp_laws.proofs.OneEntry.{one_only, one_is, one_set, one_insert, one_unclosed}
 

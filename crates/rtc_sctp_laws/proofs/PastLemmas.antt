@@ -72,7 +72,7 @@ module _ {S : Type 0} (m : AssociationMeaning S) where
       → IsIdleStream m s a (messages_of s (m.generation a s) ws) (messages_of s (m.generation a s) hs)
   idle_of [] s a ws hs h k = h
   idle_of (e ∷ []) s a ws hs h k =
-      subst (λ (st : StreamEntryState). IsUsedIn m st e.marked e.generation s a (messages_for m st e.generation s a ws) (messages_for m st e.generation s a hs)) k h
+      subst (λ (st : StreamEntryState). IsUsedIn m st e.marked e.generation s a (messages_for m st e.generation s a ws) (messages_for m st e.generation s a hs)) k h.0
   idle_of (e ∷ f ∷ es) s a ws hs h k = absurd h
 
   none_begins : (l : List StreamMessage) → l ≡ [] → begins_with_dcep l ≡ true → ⊥

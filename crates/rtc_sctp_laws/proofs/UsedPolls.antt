@@ -24,7 +24,7 @@ use Rattle.rtc_sctp_laws.proofs.PollActs.{event_sent, met_by}
 use Rattle.rtc_sctp_laws.specs.StreamUses.{entries_of, IsUsedIn, IsUsedBy, EntryUsed, NoneUsed, AreUsedIn, IsUsed, HasOpenInBand, IsLive, LeavesLive, OpensRightly, LeavesUse, TellsStreamOpen}
 use Rattle.rtc_sctp_laws.specs.UsedCalls.{PollUses}
 use Rattle.rtc_sctp_laws.proofs.KeptUses.{did_keeps, unclosed_used}
-use Rattle.rtc_sctp_laws.proofs.KnownUses.{idle_unused}
+use Rattle.rtc_sctp_laws.proofs.KnownUses.{idle_unused, idle_without}
 use Rattle.rtc_sctp_laws.proofs.OneEntry.{one_set, one_insert}
 use Rattle.rtc_sctp_laws.proofs.EntriesOf.{used_is, none_placed}
 use Rattle.rtc_sctp_laws.proofs.LivingEntries.{OpensOther, are_join, live_by, live_is, live_unclosed, live_after}
@@ -66,7 +66,7 @@ module _ {S : Type 0} (m : AssociationMeaning S) where
   used_expected : (s : ℕ) (a : S) (ws hs : List StreamMessage) (o : Option ℕ) (id : ℕ) (es : List StreamEntry) → entry_place id es ≡ o → AreUsedIn m (entries_of s es) s a ws hs
       → AreUsedIn m (entries_of s (if is_some o then es else insert es (new_place id es) (new_entry id AwaitConfig None))) s a ws hs
   used_expected s a ws hs (Some place) id es e h = h
-  used_expected s a ws hs None id es e h = one_insert (NoneUsed m s a ws hs) (EntryUsed m s a ws hs) s es (new_place id es) (new_entry id AwaitConfig None) (none_placed id es e) (λ same k. idle_unused m s a _ _ k) h
+  used_expected s a ws hs None id es e h = one_insert (NoneUsed m s a ws hs) (EntryUsed m s a ws hs) s es (new_place id es) (new_entry id AwaitConfig None) (none_placed id es e) (λ same k. (idle_unused m s a _ _ k, (refl, idle_without m s a _ _ k))) h
 
   -- an entry is marked
   marked_used : (st : StreamEntryState) (marked : Bool) (own : Option ℕ) (s : ℕ) (a : S) (ws hs : List StreamMessage) → IsUsedIn m st marked own s a ws hs → IsUsedIn m st true own s a ws hs
@@ -78,7 +78,7 @@ module _ {S : Type 0} (m : AssociationMeaning S) where
 
   finished_used : (b : Bool) (s : ℕ) (a : S) (ws hs : List StreamMessage) (e : StreamEntry) → IsUsedBy m e s a ws hs → IsUsedBy m (if b then e else record e { marked = true }) s a ws hs
   finished_used true s a ws hs e h = h
-  finished_used false s a ws hs e h = marked_used e.state e.marked e.generation s a _ _ h
+  finished_used false s a ws hs e h = (marked_used e.state e.marked e.generation s a _ _ h.0, h.1)
 
   finished_id : (b : Bool) (e : StreamEntry) → (if b then e else record e { marked = true }).id ≡ e.id
   finished_id true e = refl

@@ -20,18 +20,20 @@ use Rattle.rtc_sctp_entries.specs.declared.sctp_event.SctpEvent.TheVariants as e
 use Rattle.rtc_sctp_entries.specs.declared.met.Met.{Met}
 use Rattle.rtc_sctp_entries.specs.declared.met.Met.TheVariants.{Nothing, Again, Output}
 use Rattle.rtc_sctp_entries.specs.Answers.{heard_of}
+use Rattle.rtc_sctp_entries.specs.Entries.{is_out_of_band}
 use Rattle.rtc_sctp_entries.specs.Visits.{Turn, TakesStreamMessage, ReadBy, MayRead, IsRead, NothingUnread, ReadsEntry, is_entry_there, HandedBy, HandsThreshold, AttendsBy, AttendsIf, VisitsIn, Visits}
 use Rattle.rtc_sctp_laws.specs.StreamMessages.{StreamMessage, stream_message, is_dcep_message, shown_message}
 use Rattle.rtc_sctp_laws.specs.StreamActs.{AssociationDid, VisitDid}
 use Rattle.rtc_sctp_laws.specs.StreamRuns.{is_past_opening}
 use Rattle.rtc_sctp_laws.proofs.ActLemmas.{did_join, threshold_did, read_did}
 use Rattle.rtc_sctp_laws.specs.GenerationLaws.{KeepsGeneration, GenerationLaws}
-use Rattle.rtc_sctp_laws.specs.StreamUses.{messages_of, are_of_stream, IsUsedIn, IsUsedBy}
+use Rattle.rtc_sctp_laws.specs.StreamUses.{messages_of, are_of_stream, IsDcepInBand, IsUsedIn, IsUsedBy}
 use Rattle.rtc_sctp_laws.proofs.GenerationMessages.{own_one}
 use Rattle.rtc_sctp_laws.proofs.KnownUses.{used_data, fits_own, spoken_now, now_of, now_kept, now_more, read_there}
-use Rattle.rtc_sctp_laws.proofs.KeptUses.{did_keeps, used_in_kept, used_by_kept, reached_kept, reached_read}
+use Rattle.rtc_sctp_laws.proofs.KeptUses.{did_keeps, in_band_now, used_in_kept, used_by_kept, reached_kept, reached_read}
 use Rattle.rtc_sctp_laws.proofs.UsedOpenings.{HeardLast, dcep}
-use Rattle.rtc_sctp_laws.proofs.UsedVisits.{OpensOwn, Arm, UsedTurn, TurnLeaves, still, behind, known, plainly, marks, closes, starves, opens}
+use Rattle.rtc_sctp_laws.proofs.VisitedTurns.{OpensOwn, Arm, UsedTurn, TurnLeaves, still, behind, known, plainly}
+use Rattle.rtc_sctp_laws.proofs.UsedVisits.{marks, closes, starves, opens}
 
 -- a message of the generation that an entry keeps
 same_own : (own : Option ℕ) (now g : ℕ) → (is_some own ≡ true → own ≡ Some now) → own ≡ Some g → ((now == g) && true) ≡ true
@@ -62,20 +64,23 @@ module _ {S : Type 0} (m : AssociationMeaning S) where
   module _ (w : AssociationLaws m) where
     -- of an entry whose stream has the generation that it keeps, messages of the one are messages of the other
     by_own : (t : Turn S) (ws hs : List StreamMessage) → (is_some t.entry.generation ≡ true → t.entry.generation ≡ Some (m.generation t.association t.entry.id))
-        → IsUsedIn m t.entry.state t.entry.marked t.entry.generation t.entry.id t.association (now_of m t.association t.entry.id ws) (now_of m t.association t.entry.id hs) → IsUsedBy m t.entry t.entry.id t.association ws hs
-    by_own t ws hs own k =
-        subst (λ (g : ℕ). IsUsedIn m t.entry.state t.entry.marked t.entry.generation t.entry.id t.association (messages_of t.entry.id g ws) (messages_of t.entry.id g hs))
-        (sym (spoken_now t.entry.state t.entry.generation (m.generation t.association t.entry.id) own)) k
+        → IsUsedIn m t.entry.state t.entry.marked t.entry.generation t.entry.id t.association (now_of m t.association t.entry.id ws) (now_of m t.association t.entry.id hs)
+        → IsDcepInBand m t.entry.state (is_out_of_band t.entry) t.entry.id t.association (now_of m t.association t.entry.id ws) → IsUsedBy m t.entry t.entry.id t.association ws hs
+    by_own t ws hs own k band = (
+      subst (λ (g : ℕ). IsUsedIn m t.entry.state t.entry.marked t.entry.generation t.entry.id t.association (messages_of t.entry.id g ws) (messages_of t.entry.id g hs))
+          (sym (spoken_now t.entry.state t.entry.generation (m.generation t.association t.entry.id) own)) k,
+      band,
+    )
 
     of_own : (t : Turn S) (ws hs : List StreamMessage) → (is_some t.entry.generation ≡ true → t.entry.generation ≡ Some (m.generation t.association t.entry.id))
         → IsUsedBy m t.entry t.entry.id t.association ws hs → IsUsedIn m t.entry.state t.entry.marked t.entry.generation t.entry.id t.association (now_of m t.association t.entry.id ws) (now_of m t.association t.entry.id hs)
     of_own t ws hs own k =
         subst (λ (g : ℕ). IsUsedIn m t.entry.state t.entry.marked t.entry.generation t.entry.id t.association (messages_of t.entry.id g ws) (messages_of t.entry.id g hs))
-        (spoken_now t.entry.state t.entry.generation (m.generation t.association t.entry.id) own) k
+        (spoken_now t.entry.state t.entry.generation (m.generation t.association t.entry.id) own) k.0
 
     -- data is answered, and the entry is as it was
     tells : (x : StreamMessage) (e : SctpEvent) (shows : List SctpEvent) (t : Turn S) (met : Met) (t' : Turn S) (binary : Bool) (bytes : List ℕ) → is_past_opening t.entry.state ≡ true → e ≡ event.Data t.entry.id binary bytes → shows ≡ event.Data t.entry.id binary bytes ∷ [] → t.entry.marked ≡ false → is_dcep_message x ≡ false → met ≡ Output e → t' ≡ t
-        → Arm m t.entry.id (HeardLast m t.entry.state t.entry.generation x t.entry.id t.association) shows t.association met t'
+        → Arm m t.entry.id (HeardLast m t.entry.state t.entry.generation (is_out_of_band t.entry) x t.entry.id t.association) shows t.association met t'
     tells x e shows t met t' binary bytes past is shown unmarked c f g =
         still m t.entry.id _ shows (Output (event.Data t.entry.id binary bytes)) t met t' (f ∙ ap (λ (o : SctpEvent). Output o) is) g refl refl (sym shown) (refl, tt)
         (λ ws hs k. record {
@@ -83,12 +88,13 @@ module _ {S : Type 0} (m : AssociationMeaning S) where
           used = by_own t ws hs k.own_is
               (subst (λ (b : Bool). IsUsedIn m t.entry.state b t.entry.generation t.entry.id t.association (now_of m t.association t.entry.id ws) (now_of m t.association t.entry.id hs)) (sym unmarked)
               (subst (λ (l : List StreamMessage). IsUsedIn m t.entry.state false t.entry.generation t.entry.id t.association (now_of m t.association t.entry.id ws) l) (sym k.heard_is)
-              (used_data m t.entry.state t.entry.generation t.entry.id t.association _ k.before x past c k.used)));
+              (used_data m t.entry.state t.entry.generation t.entry.id t.association _ k.before x past c k.used)))
+              k.in_band;
           opens = tt;
         })
 
     message : (x : StreamMessage) (i : Ppi) (bytes : List ℕ) (t : Turn S) (met : Met) (t' : Turn S) → x.ppi ≡ i → is_past_opening t.entry.state ≡ true → t.entry.marked ≡ false → TakesStreamMessage m i bytes t met t'
-        → Arm m t.entry.id (HeardLast m t.entry.state t.entry.generation x t.entry.id t.association) (shown_message t.entry.id i bytes) t.association met t'
+        → Arm m t.entry.id (HeardLast m t.entry.state t.entry.generation (is_out_of_band t.entry) x t.entry.id t.association) (shown_message t.entry.id i bytes) t.association met t'
     message x ppi.Dcep bytes t met t' i past unmarked h = dcep m w x t.entry.state bytes t met t' refl past (dcep_is i) h
       where
         dcep_is : x.ppi ≡ ppi.Dcep → is_dcep_message x ≡ true
@@ -97,7 +103,7 @@ module _ {S : Type 0} (m : AssociationMeaning S) where
     message x ppi.Binary bytes t met t' i past unmarked h = tells x _ _ t met t' true bytes past refl refl unmarked (rw i refl) h.0 h.1
     message x ppi.EmptyText bytes t met t' i past unmarked h = tells x _ _ t met t' false [] past refl refl unmarked (rw i refl) h.0 h.1
     message x ppi.EmptyBinary bytes t met t' i past unmarked h = tells x _ _ t met t' true [] past refl refl unmarked (rw i refl) h.0 h.1
-    message x (ppi.Other n) bytes t met t' i past unmarked h = known m t.entry.id _ _ [] t.association met t' (λ ws hs k. k.reached) (marks m w t met t' past h.0 h.1)
+    message x (ppi.Other n) bytes t met t' i past unmarked h = known m t.entry.id _ _ [] t.association met t' (λ ws hs k. (k.reached, k.in_band)) (marks m w t met t' past h.0 h.1)
 
     -- nothing is read
     unheard : (t : Turn S) (met : Met) (t' : Turn S) → Arm m t.entry.id (UsedTurn m t.entry.id t) [] t.association met t' → VisitUses t met t'
@@ -113,7 +119,7 @@ module _ {S : Type 0} (m : AssociationMeaning S) where
 
     -- a message is read, and what is done with it
     hears : (t : Turn S) (q : S) (i : Ppi) (bytes : List ℕ) (met : Met) (t' : Turn S) → (is_some t.entry.generation ≡ true → t.entry.generation ≡ Some (m.generation t.association t.entry.id)) → t.entry.marked ≡ false → m.read t.association t.entry.id (Ok (Some (i, bytes))) q
-        → Arm m t.entry.id (HeardLast m t.entry.state t.entry.generation (stream_message t.entry.id (m.generation t.association t.entry.id) i bytes) t.entry.id q) (shown_message t.entry.id i bytes) q met t' → VisitUses t met t'
+        → Arm m t.entry.id (HeardLast m t.entry.state t.entry.generation (is_out_of_band t.entry) (stream_message t.entry.id (m.generation t.association t.entry.id) i bytes) t.entry.id q) (shown_message t.entry.id i bytes) q met t' → VisitUses t met t'
     hears t q i bytes met t' own unmarked h z =
         let x = stream_message t.entry.id (m.generation t.association t.entry.id) i bytes in
         let d = read_did m w t.association q t.entry.id (Ok (Some (i, bytes))) h in
@@ -142,6 +148,7 @@ module _ {S : Type 0} (m : AssociationMeaning S) where
                 (used_in_kept m t.entry.state false t.entry.generation t.entry.id t.association q _ _ (kept v)
                 (subst (λ (b : Bool). IsUsedIn m t.entry.state b t.entry.generation t.entry.id t.association (now_of m t.association t.entry.id ws) (now_of m t.association t.entry.id hs)) unmarked (of_own t ws hs own k.1)));
             heard_is = now_more m t.entry.id t.association q hs i bytes (kept v);
+            in_band = in_band_now m t.entry.state (is_out_of_band t.entry) t.entry.id t.association q ws (kept v) k.1.1;
           });
         }
 
@@ -159,7 +166,7 @@ module _ {S : Type 0} (m : AssociationMeaning S) where
     stays t u r met t' e f = still m t.entry.id _ [] Nothing t met t' e f refl refl refl (refl, tt) (λ ws hs k. record { reached = k.0; used = k.1; opens = tt })
 
     marks_turn : (t : Turn S) (met : Met) (t' : Turn S) → is_past_opening t.entry.state ≡ true → (met ≡ Again) → (t' ≡ record t { entry = record t.entry { marked = true } }) → Arm m t.entry.id (UsedTurn m t.entry.id t) [] t.association met t'
-    marks_turn t met t' past e f = known m t.entry.id _ _ [] t.association met t' (λ ws hs k. k.0) (marks m w t met t' past e f)
+    marks_turn t met t' past e f = known m t.entry.id _ _ [] t.association met t' (λ ws hs k. (k.0, k.1.1)) (marks m w t met t' past e f)
 
     read_by : (r : Result (Option (Ppi × List ℕ)) AssocError) (t : Turn S) (q : S) (met : Met) (t' : Turn S) → (is_some t.entry.generation ≡ true → t.entry.generation ≡ Some (m.generation t.association t.entry.id)) → is_past_opening t.entry.state ≡ true → t.entry.marked ≡ false → m.read t.association t.entry.id r q → ReadBy m (heard_of r) (record t { association = q }) met t' → VisitUses t met t'
     read_by (Ok None) t q met t' own past un k h = silent t q (Ok None) met t' (read_did m w t.association q t.entry.id (Ok None) k) (stays (record t { association = q }) t Nothing met t' h.0 h.1)
@@ -204,7 +211,7 @@ module _ {S : Type 0} (m : AssociationMeaning S) where
         attends_by t.entry.threshold t met t' (fits_own t.entry.generation (m.generation t.association t.entry.id) (and_right (m.has_stream t.association t.entry.id) _ there)) past un h
 
     visits_in : (st : StreamEntryState) (now : ℕ) (t : Turn S) (met : Met) (t' : Turn S) → t.entry.state ≡ st → VisitsIn m st now t met t' → VisitUses t met t'
-    visits_in AwaitOpen now t met t' st h = unheard t met t' (opens m w now t met t' h)
+    visits_in AwaitOpen now t met t' st h = unheard t met t' (opens m w now t met t' st h)
     visits_in AwaitConfig now t met t' st h = attends_if t.entry.marked (is_entry_there m t.association t.entry) t met t' (ap is_past_opening st) refl refl h
     visits_in AwaitDcepAck now t met t' st h = attends_if t.entry.marked (is_entry_there m t.association t.entry) t met t' (ap is_past_opening st) refl refl h
     visits_in Open now t met t' st h = attends_if t.entry.marked (is_entry_there m t.association t.entry) t met t' (ap is_past_opening st) refl refl h

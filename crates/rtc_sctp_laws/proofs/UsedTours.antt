@@ -7,6 +7,7 @@ use Rattle.rtc_sctp_entries.specs.declared.stream_entry.StreamEntry.{StreamEntry
 use Rattle.rtc_sctp_entries.specs.declared.sctp_event.SctpEvent.TheVariants as event
 use Rattle.rtc_sctp_entries.specs.declared.met.Met.{Met}
 use Rattle.rtc_sctp_entries.specs.declared.met.Met.TheVariants.{Nothing, Again, Output, OutOfMemory}
+use Rattle.rtc_sctp_entries.specs.Entries.{is_out_of_band}
 use Rattle.rtc_sctp_entries.specs.Visits.{Turn, turn}
 use Rattle.rtc_sctp.specs.Polls.{VisitedThen, VisitsAll}
 use Rattle.rtc_sctp_laws.specs.StreamMessages.{StreamMessage, shown_messages}
@@ -14,7 +15,7 @@ use Rattle.rtc_sctp_laws.specs.StreamActs.{VisitDid}
 use Rattle.rtc_sctp_laws.proofs.ActLemmas.{did_none, did_join}
 use Rattle.rtc_sctp_laws.proofs.MessageLemmas.{dcep_join, shown-append}
 use Rattle.rtc_sctp_laws.specs.GenerationLaws.{KeepsGeneration, GenerationLaws}
-use Rattle.rtc_sctp_laws.specs.StreamUses.{messages_of, entries_of, are_of_generation, spoken_generation, IsIdleStream, IsUsedIn, IsUsedBy, EntryUsed, NoneUsed, AreUsedIn, IsReached, IsUsed, HasOpenInBand, IsLive, LeavesLive, TellsStreamOpen, WereOpened, OpensRightly, LeavesUse}
+use Rattle.rtc_sctp_laws.specs.StreamUses.{messages_of, entries_of, are_of_generation, spoken_generation, IsIdleStream, IsUsedIn, IsDcepInBand, IsUsedBy, EntryUsed, NoneUsed, AreUsedIn, IsReached, IsUsed, HasOpenInBand, IsLive, LeavesLive, TellsStreamOpen, WereOpened, OpensRightly, LeavesUse}
 use Rattle.rtc_sctp_laws.proofs.GenerationMessages.{messages-append, messages_other}
 use Rattle.rtc_sctp_laws.proofs.KnownUses.{now_of}
 use Rattle.rtc_sctp_laws.proofs.KeptUses.{did_keeps, are_used_kept, reached_kept}
@@ -24,7 +25,7 @@ use Rattle.rtc_sctp_laws.proofs.LivingVisits.{visit_lives}
 use Rattle.rtc_sctp_laws.proofs.OpeningEntries.{first_opens, next_opens}
 use Rattle.rtc_sctp_laws.proofs.OpeningVisits.{OpensTold, visit_opens}
 use Rattle.rtc_sctp_laws.proofs.EntriesOf.{entries_own, entries_other, same_test, none_head, none_more, only_used, used_is}
-use Rattle.rtc_sctp_laws.proofs.UsedVisits.{TurnOpens, TurnLeaves, UsedTurn}
+use Rattle.rtc_sctp_laws.proofs.VisitedTurns.{TurnOpens, TurnLeaves, UsedTurn}
 use Rattle.rtc_sctp_laws.proofs.UsedReadings.{VisitUses, visit_uses}
 
 module _ {S : Type 0} (m : AssociationMeaning S) where
@@ -98,9 +99,11 @@ module _ {S : Type 0} (m : AssociationMeaning S) where
 
   used_by_beside : (e : StreamEntry) (s : ℕ) (b : S) (ws hs ws' hs' : List StreamMessage) → ((g : ℕ) → messages_of s g ws' ≡ messages_of s g ws) → ((g : ℕ) → messages_of s g hs' ≡ messages_of s g hs) → IsUsedBy m e s b ws hs → IsUsedBy m e s b ws' hs'
   used_by_beside e s b ws hs ws' hs' f g h =
-      let n = spoken_generation e.state e.generation (m.generation b s) in
-      subst (λ (l : List StreamMessage). IsUsedIn m e.state e.marked e.generation s b l (messages_of s n hs')) (sym (f n))
-      (subst (λ (l : List StreamMessage). IsUsedIn m e.state e.marked e.generation s b (messages_of s n ws) l) (sym (g n)) h)
+      let n = spoken_generation e.state e.generation (m.generation b s) in (
+        subst (λ (l : List StreamMessage). IsUsedIn m e.state e.marked e.generation s b l (messages_of s n hs')) (sym (f n))
+            (subst (λ (l : List StreamMessage). IsUsedIn m e.state e.marked e.generation s b (messages_of s n ws) l) (sym (g n)) h.0),
+        subst (λ (l : List StreamMessage). IsDcepInBand m e.state (is_out_of_band e) s b l) (sym (f (m.generation b s))) h.1,
+      )
 
   idle_beside : (s : ℕ) (b : S) (ws hs ws' hs' : List StreamMessage) → ((g : ℕ) → messages_of s g ws' ≡ messages_of s g ws) → ((g : ℕ) → messages_of s g hs' ≡ messages_of s g hs) → IsIdleStream m s b (now_of m b s ws) (now_of m b s hs) → IsIdleStream m s b (now_of m b s ws') (now_of m b s hs')
   idle_beside s b ws hs ws' hs' f g h =

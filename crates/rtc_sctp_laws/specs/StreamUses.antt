@@ -144,6 +144,20 @@ module _ {S : Type 0} (m : AssociationMeaning S) where
   IsUsedIn Open marked own s a written heard = Unit {0}
   IsUsedIn Closed marked own s a written heard = IsIdleStream s a written heard
 
+  -- no message that opens a channel or acknowledges that was written, or the stream is spent
+  abbrev pub IsWithoutDcep : ℕ → S → (written : List StreamMessage) → Type 0
+  IsWithoutDcep s a written = (any_dcep written ≡ false) ⊎ (is_spent_stream s a ≡ true)
+
+  -- Such messages are written in-band alone: an entry that is open out-of-band wrote none, nor did one that waits for its config. This one,
+  -- and one that waits for an acknowledgement, is not out-of-band.
+  abbrev pub IsDcepInBand : StreamEntryState → (out_of_band : Bool) → ℕ → S → (written : List StreamMessage) → Type 0
+  IsDcepInBand AwaitOpen out s a written = Unit {0}
+  IsDcepInBand AwaitConfig out s a written = (out ≡ false) × IsWithoutDcep s a written
+  IsDcepInBand AwaitDcepAck out s a written = out ≡ false
+  IsDcepInBand Open true s a written = IsWithoutDcep s a written
+  IsDcepInBand Open false s a written = Unit {0}
+  IsDcepInBand Closed out s a written = Unit {0}
+
   -- that of the messages of the generation that an entry speaks of
   abbrev pub messages_for : StreamEntryState → (own : Option ℕ) → ℕ → S → List StreamMessage → List StreamMessage
   messages_for state own s a messages = messages_of s (spoken_generation state own (m.generation a s)) messages
@@ -152,6 +166,7 @@ module _ {S : Type 0} (m : AssociationMeaning S) where
   IsUsedBy entry s a written heard =
       IsUsedIn entry.state entry.marked entry.generation s a (messages_for entry.state entry.generation s a written)
       (messages_for entry.state entry.generation s a heard)
+      × IsDcepInBand entry.state (is_out_of_band entry) s a (messages_of s (m.generation a s) written)
 
   abbrev pub EntryUsed : ℕ → S → (written heard : List StreamMessage) → StreamEntry → Type 0
   EntryUsed s a written heard entry = IsUsedBy entry s a written heard

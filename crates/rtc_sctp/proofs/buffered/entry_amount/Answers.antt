@@ -8,4 +8,4 @@ returns-in-None g c = sym (none_amount g.S.Association.association c.args.associ
 pub returns-in-Some : goal.returns-in-Some
 returns-in-Some g c =
     c.buffered_amount.ensures
-    ∙ sym (one_amount g.S.Association.association c.args.association.now c.args.id _ c.args.entries.now _ c.requires (sym c.place_of.ensures ∙ c.in-Some.is))
+    ∙ sym (one_amount g.S.Association.association c.args.association.now c.args.id _ c.args.entries.now c.requires (sym c.place_of.ensures ∙ c.in-Some.is))
