@@ -119,7 +119,7 @@ def items_of(path):
             owner, inside = block[1], "trait" if line.startswith("pub trait") else ("impl" if " for " not in line else "other")
         elif line.startswith("}"):
             owner = inside = None if not re.match(r"\}\s*$", line) else None
-        item = re.match(rf"( *)(pub )?(?:const )?({KINDS}) (\w+)", line)
+        item = re.match(rf"( *)(pub )?(?:final )?(?:const )?({KINDS}) (\w+)", line)
         if not item or (item[1] and not owner):
             continue
         if not item[2] and not (inside == "trait" and item[3] == "fn"):
