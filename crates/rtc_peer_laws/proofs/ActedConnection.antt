@@ -241,7 +241,7 @@ module _ {I D S M E X T W N : Type 0} (m : Meanings I D S M E X T W N) (laws : P
       (ap (λ (y : DtlsState D). y.active) kept.1 ∙ ap (λ (y : DtlsState D). y.active) h.1)
       (input_did m.association p.core.greatest bytes.now p.core.sctp (Ok tt) q.core.sctp taken.0) kept.0 kept.2)
       refl kept.3 (ap (λ (y : PolledPeer I D S M N). y.core.channels.rows) taken.1)
-      (input_entries m.association (m.association.started p.core.sctp.association) p.core.greatest bytes.now p.core.sctp (Ok tt) q.core.sctp taken.0, ap (λ (y : PolledPeer I D S M N). y.core.channels) taken.1, input_states m.association (m.association.started p.core.sctp.association) p.core.greatest bytes.now p.core.sctp (Ok tt) q.core.sctp taken.0) tt
+      (input_entries m.association (m.association.started p.core.sctp.association) p.core.greatest bytes.now p.core.sctp (Ok tt) q.core.sctp taken.0, ap (λ (y : PolledPeer I D S M N). y.core.channels) taken.1, input_states m.association (m.association.started p.core.sctp.association) p.core.greatest bytes.now p.core.sctp (Ok tt) q.core.sctp refl taken.0) tt
   data_acts bytes (Some active) d p (Error Alloc) q h taken =
       let x = h.0 in
       let kept = beside BesideStreams (with_dtls d p) _ q taken.1 (refl, refl, refl, refl) in
@@ -250,7 +250,7 @@ module _ {I D S M E X T W N : Type 0} (m : Meanings I D S M E X T W N) (laws : P
       (ap (λ (y : DtlsState D). y.instance) kept.1) (ap (λ (y : DtlsState D). y.packets) kept.1 ∙ x.1.1.2)
       (ap (λ (y : DtlsState D). y.active) kept.1 ∙ ap (λ (y : DtlsState D). y.active) h.1)
       (input_did m.association p.core.greatest bytes.now p.core.sctp (Err alloc_error) q.core.sctp taken.0) kept.0 kept.2)
-      refl kept.3 tt (input_entries m.association (m.association.started p.core.sctp.association) p.core.greatest bytes.now p.core.sctp (Err alloc_error) q.core.sctp taken.0, ap (λ (y : PolledPeer I D S M N). y.core.channels) taken.1, input_states m.association (m.association.started p.core.sctp.association) p.core.greatest bytes.now p.core.sctp (Err alloc_error) q.core.sctp taken.0) tt
+      refl kept.3 tt (input_entries m.association (m.association.started p.core.sctp.association) p.core.greatest bytes.now p.core.sctp (Err alloc_error) q.core.sctp taken.0, ap (λ (y : PolledPeer I D S M N). y.core.channels) taken.1, input_states m.association (m.association.started p.core.sctp.association) p.core.greatest bytes.now p.core.sctp (Err alloc_error) q.core.sctp refl taken.0) tt
   data_acts bytes (Some active) d p _ q h taken = absurd taken
 
   -- an output that was taken

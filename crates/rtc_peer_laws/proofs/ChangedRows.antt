@@ -1,16 +1,18 @@
 -- Changes of channels and of the entries of their streams, one after the other.
-use Rattle.std.proofs.Common.{◌≡◌, ◌⊎◌, ◌++◌, inl, inr, ℕ, zero, suc, Bool, true, [], Option, refl, sym, ap, subst, ◌∙◌}
-use Rattle.rtc_part_association.specs.AssociationActs.{moved-append}
+use Rattle.std.proofs.Common.{◌≡◌, ◌⊎◌, ◌++◌, inl, inr, ℕ, zero, suc, Bool, true, false, true≢false, List, [], Option, refl, sym, ap, subst, ◌∙◌}
+use Rattle.rtc_part_association.specs.AssociationActs.{AssociationAct, Moved, moved-append}
 use Rattle.rtc_part_association.specs.AssociationLaws.{AssociationLaws}
 use Rattle.rtc_part_association.specs.AssociationMeaning.{AssociationMeaning}
-use Rattle.rtc_part_association.specs.AssociationWords.{told}
-use Rattle.rtc_part_association.proofs.AssociationLemmas.{told-append}
+use Rattle.rtc_part_association.specs.AssociationWords.{given, told}
+use Rattle.rtc_part_association.proofs.AssociationLemmas.{given-append, told-append}
 use Rattle.rtc_sctp.specs.declared.rtc_sctp_state.RtcSctpState.{RtcSctpState}
 use Rattle.rtc_sctp.specs.Streams.{SctpStreams, is_established}
 use Rattle.rtc_sctp_laws.proofs.ClosingPolls.{started_moved}
+use Rattle.rtc_sctp_laws.specs.StreamActs.{CallDid}
+use Rattle.rtc_sctp_laws.specs.StreamMessages.{StreamMessage}
 use Rattle.rtc_sctp_laws.proofs.AsideActs.{AsideDid, aside-append}
 use Rattle.rtc_channels.specs.Channels.{Channels}
-use Rattle.rtc_peer_laws.specs.RowsChanged.{ChangeRows, ClosesRow, OnlyActs, RowsChange, RowsChanged, SameRows, Stayed, begun_as}
+use Rattle.rtc_peer_laws.specs.RowsChanged.{ChangeRows, ClosesRow, MovedUngiven, OnlyActs, RowsChange, RowsChanged, SameRows, Stayed, begun_as}
 
 pub same_rows : (held held' : Channels) → held' ≡ held → SameRows held held'
 same_rows held held' is = (ap (λ (x : Channels). x.rows) is, ap (λ (x : Channels). x.given) is)
@@ -28,6 +30,11 @@ client_of : {S : Type 0} (a b : SctpStreams S) → begun_as b ≡ begun_as a →
 client_of a b is = ap (λ (x : RtcSctpState × Bool). x.1) is
 
 module _ {S : Type 0} (m : AssociationMeaning S) where
+  -- a call that gave no packet
+  pub moved_ungiven : (ins : List (List ℕ)) (wrote : List StreamMessage) (p q : SctpStreams S) → ins ≡ [] → CallDid m ins wrote p q
+      → MovedUngiven m p.association q.association
+  moved_ungiven ins wrote p q none d = record { acts = d.did.acts; went = d.did.went; none = d.did.given_is ∙ none }
+
   pub none_changed : (held : Channels) (a : SctpStreams S) → RowsChanged m held a held a
   none_changed held a = record { changes = zero; changed = (refl, refl) }
 
@@ -50,12 +57,13 @@ module _ {S : Type 0} (m : AssociationMeaning S) where
     begun = λ e. sym (state_of a b (ap begun_as is ∙ begun)) ∙ e;
     lasts = λ e. inl (ap is_established (sym (state_of a b (ap begun_as is ∙ begun))) ∙ e);
     side = λ e. client_of a b (ap begun_as is ∙ begun);
+    ungiven = λ e. inr (record { acts = []; went = ap (λ (x : SctpStreams S). x.association) is ∙ association; none = refl });
   }
 
-  -- such acts that leave entries and state
-  pub only_called : (a b : SctpStreams S) → AsideDid m a.association b.association → b.entries ≡ a.entries
-      → begun_as b ≡ begun_as a → OnlyActs m a b
-  only_called a b d entries begun = record {
+  -- such acts that leave entries and state, and give no packet
+  pub only_called : (a b : SctpStreams S) → AsideDid m a.association b.association → MovedUngiven m a.association b.association
+      → b.entries ≡ a.entries → begun_as b ≡ begun_as a → OnlyActs m a b
+  only_called a b d moved entries begun = record {
     acts = d.acts;
     went = d.went;
     untold = d.untold;
@@ -64,7 +72,16 @@ module _ {S : Type 0} (m : AssociationMeaning S) where
     begun = λ e. sym (state_of a b begun) ∙ e;
     lasts = λ e. inl (ap is_established (sym (state_of a b begun)) ∙ e);
     side = λ e. client_of a b begun;
+    ungiven = λ e. inr moved;
   }
+
+  -- what is not started was not started before
+  pub unstarted_before : AssociationLaws m → (acts : List AssociationAct) (a b : S) → Moved m a acts b → m.started b ≡ false → m.started a ≡ false
+  unstarted_before w acts a b went e = by (m.started a) refl
+    where
+      by : (x : Bool) → m.started a ≡ x → x ≡ false
+      by true s = absurd (true≢false (sym (started_moved m w acts a b s went) ∙ e))
+      by false s = refl
 
   -- acts behind others
   pub only_on : AssociationLaws m → (a b c : SctpStreams S) → OnlyActs m a b → OnlyActs m b c → OnlyActs m a c
@@ -75,17 +92,40 @@ module _ {S : Type 0} (m : AssociationMeaning S) where
     aside = aside-append h.acts k.acts h.aside k.aside;
     entries = k.entries ∙ h.entries;
     begun = λ e. h.begun (k.begun e);
-    lasts = λ e. by (k.lasts e);
+    lasts = λ e. last (k.lasts e);
     side = λ e. k.side (started_moved m w h.acts a.association b.association e h.went) ∙ h.side e;
+    ungiven = λ e. unstarted (h.ungiven e) (m.started b.association) refl;
   }
     where
-      of_first : (is_established a.state ≡ true) ⊎ (m.started b.association ≡ true) → (is_established a.state ≡ true) ⊎ (m.started c.association ≡ true)
-      of_first (inl e) = inl e
-      of_first (inr s) = inr (started_moved m w k.acts b.association c.association s k.went)
+      still_started : m.started b.association ≡ true → m.started c.association ≡ true
+      still_started s = started_moved m w k.acts b.association c.association s k.went
 
-      by : (is_established b.state ≡ true) ⊎ (m.started c.association ≡ true) → (is_established a.state ≡ true) ⊎ (m.started c.association ≡ true)
-      by (inl e) = of_first (h.lasts e)
-      by (inr s) = inr s
+      first : (is_established a.state ≡ true) ⊎ ((m.started a.association ≡ false) × (m.started b.association ≡ true))
+          → (is_established a.state ≡ true) ⊎ ((m.started a.association ≡ false) × (m.started c.association ≡ true))
+      first (inl e) = inl e
+      first (inr s) = inr (s.0, still_started s.1)
+
+      last : (is_established b.state ≡ true) ⊎ ((m.started b.association ≡ false) × (m.started c.association ≡ true))
+          → (is_established a.state ≡ true) ⊎ ((m.started a.association ≡ false) × (m.started c.association ≡ true))
+      last (inl e) = first (h.lasts e)
+      last (inr s) = inr (unstarted_before w h.acts a.association b.association h.went s.0, s.1)
+
+      joined : MovedUngiven m a.association b.association → (m.started c.association ≡ true) ⊎ MovedUngiven m b.association c.association
+          → (m.started c.association ≡ true) ⊎ MovedUngiven m a.association c.association
+      joined x (inl s) = inl s
+      joined x (inr y) =
+          inr
+          (record {
+            acts = x.acts ++ y.acts;
+            went = moved-append m a.association b.association c.association x.acts y.acts x.went y.went;
+            none = given-append x.acts y.acts ∙ ap (λ l. l ++ given y.acts) x.none ∙ y.none;
+          })
+
+      unstarted : (m.started b.association ≡ true) ⊎ MovedUngiven m a.association b.association → (x : Bool) → m.started b.association ≡ x
+          → (m.started c.association ≡ true) ⊎ MovedUngiven m a.association c.association
+      unstarted (inl s) x is = inl (still_started s)
+      unstarted (inr moved) true is = inl (still_started is)
+      unstarted (inr moved) false is = joined moved (k.ungiven is)
 
   pub rows_same : (held : Channels) (a : SctpStreams S) (held' : Channels) (b : SctpStreams S) → held' ≡ held → b ≡ a
       → RowsChanged m held a held' b

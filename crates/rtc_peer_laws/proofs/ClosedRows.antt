@@ -1,5 +1,5 @@
 -- Closing leaves the greatest moment, the channels, and the entries and the state of streams.
-use Rattle.std.proofs.Common.{◌≡◌, Bool, true, false, Result, Ok, Err, refl, ap, ◌∙◌}
+use Rattle.std.proofs.Common.{◌≡◌, Bool, true, false, [], Result, Ok, Err, refl, ap, ◌∙◌}
 use Rattle.rtc_peer_core.specs.declared.phase.Phase.{Phase}
 use Rattle.rtc_peer_core.specs.declared.phase.Phase.TheVariants.{Alive, Closing, Closed}
 use Rattle.rtc_peer_core.specs.declared.rtc_error.RtcError.{RtcError}
@@ -17,8 +17,9 @@ use Rattle.rtc_sctp_laws.proofs.CallUses.{shut_entries}
 use Rattle.rtc_part_association.specs.AssociationLaws.{AssociationLaws}
 use Rattle.rtc_sctp.specs.declared.rtc_sctp_state.RtcSctpState.{RtcSctpState}
 use Rattle.rtc_sctp_laws.proofs.AsideActs.{shuts_aside}
+use Rattle.rtc_sctp_laws.proofs.CallActs.{shuts_did}
 use Rattle.rtc_peer_laws.proofs.ActedClosing.{beside}
-use Rattle.rtc_peer_laws.proofs.ChangedRows.{no_acts, only_called, only_on}
+use Rattle.rtc_peer_laws.proofs.ChangedRows.{moved_ungiven, no_acts, only_called, only_on}
 use Rattle.rtc_peer_laws.specs.RowsChanged.{OnlyActs, begun_as}
 
 abbrev pub KeepsChannels : {I D S M N : Type 0} → PolledPeer I D S M N → PolledPeer I D S M N → Type 0
@@ -107,7 +108,8 @@ module _ {I D S M E X T W N : Type 0} (m : Meanings I D S M E X T W N) where
 
   shuts_only : (p : SctpStreams S) (r : Result (Unit {0}) SctpError) (q : SctpStreams S) → Shuts m.association p r q → OnlyActs m.association p q
   shuts_only p r q h =
-      only_called m.association p q (shuts_aside m.association p r q h) (shuts_keep p r q h)
+      only_called m.association p q (shuts_aside m.association p r q h)
+      (moved_ungiven m.association [] [] p q refl (shuts_did m.association p r q h)) (shuts_keep p r q h)
       (shuts_begun (is_ended m.association p.association) p r q h)
 
   streams_only : CallOnlyActs (ShutsStreams m)

@@ -12,6 +12,7 @@ use Rattle.rtc_sctp.specs.Streams.{SctpStreams}
 use Rattle.rtc_sctp.specs.Calls.{WritesStream, WrittenIf, can_write, is_current, is_open_stream}
 use Rattle.rtc_sctp_laws.specs.StreamActs.{written_message}
 use Rattle.rtc_sctp_laws.proofs.AsideActs.{writes_aside}
+use Rattle.rtc_sctp_laws.proofs.CallActs.{writes_did}
 use Rattle.rtc_sctp_laws.specs.StreamMessages.{StreamMessage}
 use Rattle.rtc_channels.specs.Channels.{Channels}
 use Rattle.rtc_channels.specs.Openings.{ClosesChannel}
@@ -26,7 +27,7 @@ use Rattle.rtc_peer_transport.specs.Stages.{Call, InTurn, Failed, Passed}
 use Rattle.rtc_peer_polling.specs.StreamStages.{channel_over}
 use Rattle.rtc_peer_laws.specs.Acts.{message_of_write}
 use Rattle.rtc_peer_laws.specs.RowsChanged.{OnlyActs, RowsChange, RowsChanged, ThresholdSet, StreamClosed, begun_as}
-use Rattle.rtc_peer_laws.proofs.ChangedRows.{changed_on, one_changed, only_called, rows_same, rows_stay}
+use Rattle.rtc_peer_laws.proofs.ChangedRows.{changed_on, moved_ungiven, one_changed, only_called, rows_same, rows_stay}
 use Rattle.rtc_peer_laws.specs.ChannelStreams.{AreNumberedChannels, IsGone, IsUsedStream}
 use Rattle.rtc_peer_laws.specs.PeerActs.{nothing_came}
 use Rattle.rtc_peer_laws.proofs.ActedClosing.{beside, close_acts}
@@ -198,7 +199,9 @@ module _ {I D S M E X T W N : Type 0} (m : Meanings I D S M E X T W N) where
         let same = written_same m.association (can_write m.association stream p.core.sctp) (is_current m.association stream p.core.sctp) stream binary
         bytes p.core.sctp h.0 q.core.sctp h.1 in
         let did = writes_aside m.association stream binary bytes p.core.sctp h.0 q.core.sctp h.1 in
-        changes_none p q is (only_called m.association p.core.sctp q.core.sctp did same.0 same.1)))
+        let moved =
+        moved_ungiven m.association [] _ p.core.sctp q.core.sctp refl (writes_did m.association stream binary bytes p.core.sctp h.0 q.core.sctp h.1) in
+        changes_none p q is (only_called m.association p.core.sctp q.core.sctp did moved same.0 same.1)))
 
     pub channel_write_keeps : (stream : ℕ) (binary : Bool) (bytes : List ℕ) (p : PolledPeer I D S M N) (r : Result Bool RtcError)
         (q : PolledPeer I D S M N) → WritesChannel m stream binary bytes p r q

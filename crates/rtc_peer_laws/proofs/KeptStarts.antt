@@ -1,5 +1,5 @@
 -- A start of the association leaves the entries of streams, and is beside them.
-use Rattle.std.proofs.Common.{◌≡◌, inl, inr, ℕ, Bool, true, false, true≢false, Option, Some, None, Result, Ok, Err, refl, sym, ap, ◌∙◌}
+use Rattle.std.proofs.Common.{◌≡◌, inl, inr, ℕ, Bool, true, false, true≢false, [], Option, Some, None, Result, Ok, Err, refl, sym, ap, ◌∙◌}
 use Rattle.rtc_part_association.specs.AssociationLaws.{AssociationLaws}
 use Rattle.rtc_sctp_values.specs.InitHalves.{InitHalves}
 use Rattle.rtc_sctp_values.specs.declared.proto_error.ProtoError.TheVariants.{Fault as AssociationFault, Started, SnapHalf}
@@ -10,11 +10,12 @@ use Rattle.rtc_sctp.specs.declared.rtc_sctp_state.RtcSctpState.TheVariants.{Unin
 use Rattle.rtc_sctp.specs.Calls.{Inits, begun_state}
 use Rattle.rtc_sctp.proofs.BegunLemmas.{inits_started}
 use Rattle.rtc_sctp_laws.proofs.AsideActs.{inits_aside}
+use Rattle.rtc_sctp_laws.proofs.CallActs.{inits_did}
 use Rattle.rtc_sctp_laws.proofs.CallUses.{inits_entries}
 use Rattle.rtc_peer_core.specs.Meanings.{Meanings}
 use Rattle.rtc_peer_core.specs.PartMoves.{dropped_halves, StartsWhere}
 use Rattle.rtc_peer_laws.specs.RowsChanged.{KeepsBegun, KeepsSide, OnlyActs, StartsEstablished}
-use Rattle.rtc_peer_laws.proofs.ChangedRows.{no_acts}
+use Rattle.rtc_peer_laws.proofs.ChangedRows.{moved_ungiven, no_acts}
 
 module _ {I D S M E X T W N : Type 0} (m : Meanings I D S M E X T W N) where
   -- the streams are started where they are to be; their entries stay
@@ -43,7 +44,7 @@ module _ {I D S M E X T W N : Type 0} (m : Meanings I D S M E X T W N) where
   -- one that is established by it is started
   inits_last : AssociationLaws m.association → (client : Bool) (now max : ℕ) (halves : Option InitHalves) (p : SctpStreams S)
       (r : Result (Unit {0}) SctpError) (q : SctpStreams S) → Inits m.association client now max halves p r q → StartsEstablished m.association p q
-  inits_last w client now max halves p (Ok done) q h = (λ e. inr (inits_started m.association w client now max halves p q h))
+  inits_last w client now max halves p (Ok done) q h = (λ e. inr (h.0, inits_started m.association w client now max halves p q h))
   inits_last w client now max halves p (Err (Proto Started)) q h = (λ e. inl (ap is_established (sym (ap (λ (s : SctpStreams S). s.state) h.1)) ∙ e))
   inits_last w client now max halves p (Err (Proto SnapHalf)) q h = (λ e. inl (ap is_established (sym (ap (λ (s : SctpStreams S). s.state) h.2)) ∙ e))
   inits_last w client now max halves p (Err (Proto AssociationFault)) q h = (λ e. inl (ap is_established (sym (ap (λ (s : SctpStreams S). s.state) h.2)) ∙ e))
@@ -76,4 +77,5 @@ module _ {I D S M E X T W N : Type 0} (m : Meanings I D S M E X T W N) where
         begun = inits_begun client now max halves p r q h;
         lasts = inits_last w client now max halves p r q h;
         side = inits_side client now max halves p r q h;
+        ungiven = λ e. inr (moved_ungiven m.association [] [] p q refl (inits_did m.association client now max halves p r q h));
       }

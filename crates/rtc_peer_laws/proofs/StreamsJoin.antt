@@ -1,5 +1,5 @@
 -- What stages of a poll leave of streams and live channels, one after the other.
-use Rattle.std.proofs.Common.{◌≡◌, ◌≤◌, ◌-◌, ◌^◌, ◌++◌, ◌∷◌, inl, ℕ, Bool, true, false, Option, List, [], append-nil, append_assoc, Result, Ok, Err, refl, sym, ap, subst, ◌∙◌, arith}
+use Rattle.std.proofs.Common.{◌≡◌, ◌≤◌, ◌-◌, ◌^◌, ◌++◌, ◌∷◌, inl, ℕ, Bool, true, false, true≢false, Option, List, [], append-nil, append_assoc, Result, Ok, Err, refl, sym, ap, subst, ◌∙◌, arith}
 use Rattle.std.specs.declared.alloc.AllocError.{AllocError}
 use Rattle.rtc_part_association.specs.AssociationActs.{AssociationAct, Given, Moved}
 use Rattle.rtc_part_association.specs.AssociationLaws.{AssociationLaws}
@@ -82,9 +82,9 @@ input_established AwaitAssociationEstablished e = e
 input_established Established e = e
 
 pub input_states : {S : Type 0} (m : AssociationMeaning S) (started : Bool) (now : ℕ) (bytes : List ℕ) (p : SctpStreams S)
-    (r : Result (Unit {0}) AllocError) (q : SctpStreams S) → InputIf m started now bytes p r q → StatesStay m p q
-input_states m false now bytes p r q h = states_same m p q h.1
-input_states {S} m true now bytes p r q h =
+    (r : Result (Unit {0}) AllocError) (q : SctpStreams S) → m.started p.association ≡ started → InputIf m started now bytes p r q → StatesStay m p q
+input_states m false now bytes p r q is h = states_same m p q h.1
+input_states {S} m true now bytes p r q is h =
     let state : q.state ≡ state_on_input p.state = ap (λ (x : SctpStreams S). x.state) h.1 in
     let did : AsideDid m p.association q.association = aside_act m (Given bytes) p.association q.association (now, (r, h.0)) refl refl in
     record {
@@ -98,6 +98,7 @@ input_states {S} m true now bytes p r q h =
         begun = λ e. input_uninited p.state (sym state ∙ e);
         lasts = λ e. inl (input_established p.state (ap is_established (sym state) ∙ e));
         side = λ e. ap (λ (x : SctpStreams S). x.client) h.1;
+        ungiven = λ e. absurd (true≢false (sym is ∙ e));
       };
     }
 

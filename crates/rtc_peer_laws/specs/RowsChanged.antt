@@ -1,11 +1,11 @@
 -- How calls and polls change the channels of a peer and the entries of their streams, one change after the other.
-use Rattle.std.specs.Prelude.{ℕ, zero, suc, ◌≡◌, ◌⊎◌, Bool, true, List, [], Option, Some, None, Result, Ok, Err}
+use Rattle.std.specs.Prelude.{ℕ, zero, suc, ◌≡◌, ◌⊎◌, Bool, true, false, List, [], Option, Some, None, Result, Ok, Err}
 use Rattle.std.specs.declared.alloc.AllocError.{AllocError}
 use Rattle.rtc_ready.specs.Signals.{Signals}
 use Rattle.rtc_wire.specs.declared.channel_config.ChannelConfig.{ChannelConfig}
 use Rattle.rtc_part_association.specs.AssociationActs.{AssociationAct, Moved}
 use Rattle.rtc_part_association.specs.AssociationMeaning.{AssociationMeaning}
-use Rattle.rtc_part_association.specs.AssociationWords.{told}
+use Rattle.rtc_part_association.specs.AssociationWords.{given, told}
 use Rattle.rtc_sctp.specs.declared.rtc_sctp_state.RtcSctpState.{RtcSctpState}
 use Rattle.rtc_sctp.specs.declared.rtc_sctp_state.RtcSctpState.TheVariants.{Uninited}
 use Rattle.rtc_sctp_entries.specs.declared.sctp_event.SctpEvent.{SctpEvent}
@@ -50,9 +50,22 @@ abbrev pub KeepsBegun : {S : Type 0} → SctpStreams S → SctpStreams S → Typ
 KeepsBegun a b = b.state ≡ Uninited → a.state ≡ Uninited
 
 module _ {S : Type 0} (m : AssociationMeaning S) where
-  -- one that is established was so before, or is started
+  -- one that is established was so before, or it is started by this
   abbrev pub StartsEstablished : SctpStreams S → SctpStreams S → Type 0
-  StartsEstablished a b = is_established b.state ≡ true → (is_established a.state ≡ true) ⊎ (m.started b.association ≡ true)
+  StartsEstablished a b =
+      is_established b.state ≡ true
+      → (is_established a.state ≡ true) ⊎ ((m.started a.association ≡ false) × (m.started b.association ≡ true))
+
+  -- acts that give no packet lead from one to the other
+  pub record MovedUngiven (a b : S) : Type 0 where
+    pub acts : List AssociationAct
+    pub went : Moved m a acts b
+    pub none : given acts ≡ []
+
+  -- one that is not started is started, or is given no packet
+  abbrev pub StartsUngiven : SctpStreams S → SctpStreams S → Type 0
+  StartsUngiven a b =
+      m.started a.association ≡ false → (m.started b.association ≡ true) ⊎ MovedUngiven a.association b.association
 
   -- one that is started keeps its side
   abbrev pub KeepsSide : SctpStreams S → SctpStreams S → Type 0
@@ -68,6 +81,7 @@ module _ {S : Type 0} (m : AssociationMeaning S) where
     pub begun : KeepsBegun a b
     pub lasts : StartsEstablished a b
     pub side : KeepsSide a b
+    pub ungiven : StartsUngiven a b
 
   -- One change of channels and of the entries of their streams: none; a poll of the streams, with what becomes of their channels; a moment
   -- that the streams take, and one that the channels take after them; a threshold that is set; a stream that is closed from here; channels

@@ -1,5 +1,5 @@
 -- Each stream of which a message stands unread has an entry, or is to be told of: by each change of channels and of their entries.
-use Rattle.std.proofs.Common.{◌≡◌, ◌∙◌, inl, ℕ, zero, suc, Bool, true, false, List, [], ◌∷◌, Option, Some, None, Result, Ok, Err, refl, sym, ap, subst}
+use Rattle.std.proofs.Common.{◌≡◌, ◌∙◌, ◌⊎◌, inl, inr, ℕ, zero, suc, Bool, true, false, List, [], ◌∷◌, Option, Some, None, Result, Ok, Err, refl, sym, ap, subst}
 use Rattle.std.specs.declared.alloc.AllocError.{AllocError}
 use Rattle.rtc_ready.specs.Signals.{Signals}
 use Rattle.rtc_wire.specs.declared.channel_config.ChannelConfig.{ChannelConfig}
@@ -51,7 +51,12 @@ module _ {S : Type 0} (m : AssociationMeaning S) (sound : S → Type 0) (w : Ass
   -- ---- changes
 
   only_known : (a b : SctpStreams S) → OnlyActs m a b → AreKnown m sound a → AreKnown m sound b
-  only_known a b h k = acts_known m sound w v u h.acts a b h.went h.untold h.entries h.lasts k
+  only_known a b h k = acts_known m sound w v u h.acts a b h.went h.untold h.entries (λ e. started (h.lasts e)) k
+    where
+      started : (is_established a.state ≡ true) ⊎ ((m.started a.association ≡ false) × (m.started b.association ≡ true))
+          → (is_established a.state ≡ true) ⊎ (m.started b.association ≡ true)
+      started (inl e) = inl e
+      started (inr now) = inr now.1
 
   change_known : (held : Channels) (a : SctpStreams S) (held' : Channels) (b : SctpStreams S) → RowsChange m held a held' b → AreKnown m sound a
       → AreKnown m sound b
