@@ -4,7 +4,6 @@ use crate::layers::Layers;
 use crate::signals::Signals;
 use crate::texts::Texts;
 use rtc_examples_cases::is_true;
-use rtc_wire::Text;
 use std::alloc::{AllocError, Global};
 
 // The offer of a peer whose numbers count up from 1, with the certificate "abc" (its hash is in FIPS 180-2, appendix
@@ -29,7 +28,7 @@ const CHANNEL_OFFER: &str = "v=0\r\n\
     a=max-message-size:262144\r\n";
 
 // Whether a text has a line once, and carries so many SSRCs with their RTX SSRCs.
-fn tells(alloc: Global, text: Result<Text, AllocError>, wanted: &str, sources: usize) -> bool {
+fn tells(alloc: Global, text: Result<String, AllocError>, wanted: &str, sources: usize) -> bool {
     match text {
         Ok(text) => {
             let once = is_true(has_lines(alloc, text.as_str(), wanted, 1));
@@ -58,7 +57,7 @@ fn leaves_role(alloc: Global, text: &str, count: usize) -> bool {
 }
 
 // Whether the offer of one more line leaves the role open again (RFC 8842, section 5.5).
-fn leaves_later_role(alloc: Global, text: Result<Text, AllocError>) -> bool {
+fn leaves_later_role(alloc: Global, text: Result<String, AllocError>) -> bool {
     match text {
         Ok(text) => leaves_role(alloc, text.as_str(), 2),
         Err(_) => false,

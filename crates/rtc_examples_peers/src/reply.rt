@@ -1,6 +1,5 @@
 //! What becomes of an offer.
 use rtc_peer::RtcError;
-use rtc_wire::Text;
 use rtc_wire_drops::release;
 use std::alloc::{AllocError, Global};
 
@@ -8,7 +7,7 @@ use std::alloc::{AllocError, Global};
 #[derive(Drop)]
 pub enum Reply {
     /// The text of its answer.
-    Answer(Text),
+    Answer(String),
     /// Why it refuses the offer, as the error prints it.
     Refusal(String),
     /// There was too little memory.
@@ -24,7 +23,7 @@ fn refusal(alloc: Global, error: &RtcError) -> Result<String, AllocError> {
 
 impl Reply {
     /// The reply by what the calls of a peer returned.
-    pub fn new(alloc: Global, answered: Result<Text, RtcError>) -> Reply {
+    pub fn new(alloc: Global, answered: Result<String, RtcError>) -> Reply {
         match answered {
             Ok(text) => Reply::Answer(text),
             Err(error) => {

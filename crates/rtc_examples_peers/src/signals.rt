@@ -2,7 +2,6 @@
 use crate::layers::Layers;
 use crate::reply::Reply;
 use crate::texts::Texts;
-use rtc_wire::Text;
 use std::alloc::{AllocError, Global};
 
 /// What programs ask of a peer as signalling sees it (RFC 8829, section 3). A function over it is checked without what a peer or a
@@ -19,5 +18,5 @@ pub trait Signals {
     fn agree(&mut self, other: &mut Self, alloc: Global, channels: u32, texts: &mut Texts) -> bool;
 
     /// The text of the offer of a line of video that sends layers; no answer is awaited.
-    fn offer_line(&mut self, alloc: Global, layers: Layers) -> Result<Text, AllocError>;
+    fn offer_line(&mut self, alloc: Global, layers: Layers) -> Result<String, AllocError>;
 }

@@ -9,7 +9,6 @@ use rtc_peer::{
     Association, Candidate, Direction, DtlsInstance, IceAgent, Ids, MediaKind, MediaSession, Rtc,
     RtcError, SdpOffer, SdpPendingOffer,
 };
-use rtc_wire::Text;
 use rtc_wire_drops::release;
 use std::alloc::{AllocError, Global};
 
@@ -37,7 +36,7 @@ fn answer<I: IceAgent, D: DtlsInstance, S: Association, M: MediaSession, N: Ids>
     right: &mut Rtc<I, D, S, M, N>,
     alloc: Global,
     offer: &str,
-) -> Result<Text, RtcError> {
+) -> Result<String, RtcError> {
     let offer = SdpOffer::from_sdp_string(alloc, offer)?;
     let answer = right.sdp_api().accept_offer(offer)?;
     let text = answer.to_sdp_string();
@@ -82,7 +81,7 @@ impl<I: IceAgent, D: DtlsInstance, S: Association, M: MediaSession, N: Ids> Sign
         is_true(negotiate(self, other, alloc, channels, texts))
     }
 
-    fn offer_line(&mut self, alloc: Global, layers: Layers) -> Result<Text, AllocError> {
+    fn offer_line(&mut self, alloc: Global, layers: Layers) -> Result<String, AllocError> {
         let layers = simulcast(alloc, layers)?;
         let mut api = self.sdp_api();
         api.add_media(

@@ -70,7 +70,7 @@ impl Texts {
     pub fn read_answer(
         &mut self,
         alloc: Global,
-        answered: Result<Text, RtcError>,
+        answered: Result<String, RtcError>,
     ) -> Result<SdpAnswer, RtcError> {
         let text = answered?;
         self.push_lines(alloc, text.as_str())?;
