@@ -49,7 +49,7 @@ pub fn drive<P: Parts, K: Sink<P::MediaEvent>>(
     ensures { Drives (meanings P.Ice.ice P.Dtls.dtls P.Sctp.association P.Media.media P.Ids.ids) K.sink
         now (polled_of peer.old) sink.old result (polled_of peer.new) sink.new }
 {
-    match peer.handle_input(Input::Timeout(now)) {
+    match peer.handle_input(&Input::Timeout(now)) {
         Ok(()) => drain::<P, K>(peer, now, sink),
         Err(error) => Err(error),
     }

@@ -20,7 +20,7 @@ pub fn receive<P: Parts>(
         (kind_by P.Ice.stun datagram.now.contents) datagram.now now (polled_of peer.old) result (polled_of peer.new) }
 {
     match Receive::from_transmit::<P::Ice>(datagram) {
-        Ok(received) => peer.handle_input(Input::Receive(now, received)),
+        Ok(received) => peer.handle_input(&Input::Receive(now, received)),
         Err(why) => Err(RtcError::Net(why)),
     }
 }

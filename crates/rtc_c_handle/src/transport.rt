@@ -25,7 +25,7 @@ fn give_moment<P: Parts>(peer: &mut Peer<P>, now: Moment) -> Result<(), RtcError
     ensures { HandlesInput (meanings P.Ice.ice P.Dtls.dtls P.Sctp.association P.Media.media P.Ids.ids)
         (given.Timeout now) (polled_of peer.old) result (polled_of peer.new) }
 {
-    peer.handle_input(Input::Timeout(now))
+    peer.handle_input(&Input::Timeout(now))
 }
 
 // Gives a peer a datagram that was sent by UDP.
@@ -40,7 +40,7 @@ fn receive(
         (udp_datagram source.now destination.now bytes.now) now (polled_of rtc.old) result (polled_of rtc.new) }
 {
     match Receive::new::<PlainIce>(Protocol::Udp, source.addr(), destination.addr(), bytes) {
-        Ok(received) => rtc.handle_input(Input::Receive(Moment::from_nanos(now), received)),
+        Ok(received) => rtc.handle_input(&Input::Receive(Moment::from_nanos(now), received)),
         Err(why) => Err(RtcError::Net(why)),
     }
 }

@@ -19,11 +19,11 @@ impl<
         match came {
             Some(transmit) => match Receive::from_transmit::<I>(transmit) {
                 Ok(received) => {
-                    outputs.note_input(self.handle_input(Input::Receive(now, received)))
+                    outputs.note_input(self.handle_input(&Input::Receive(now, received)))
                 }
                 Err(error) => outputs.note_input(Err(RtcError::from(error))),
             },
-            None => outputs.note_input(self.handle_input(Input::Timeout(now))),
+            None => outputs.note_input(self.handle_input(&Input::Timeout(now))),
         }
     }
 

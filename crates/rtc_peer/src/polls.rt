@@ -147,12 +147,12 @@ impl<I: IceAgent, D: DtlsInstance, S: Association, M: MediaSession, N: Ids> Rtc<
 
     /// Gives the peer a moment, or a datagram that was received at one. A moment before the greatest that it was given
     /// changes nothing; a datagram is given to the part of its kind. A closed peer ignores both.
-    pub fn handle_input(&mut self, input: Input<'_>) -> Result<(), RtcError>
-        ensures { HandlesInput (meanings I.ice D.dtls S.association M.media N.ids) input (polled_of self.old) result
+    pub fn handle_input(&mut self, input: &Input<'_>) -> Result<(), RtcError>
+        ensures { HandlesInput (meanings I.ice D.dtls S.association M.media N.ids) input.now (polled_of self.old) result
             (polled_of self.new) }
     {
         wake_all(&mut self.readiness);
-        rtc_peer_polling::handle_input(&mut self.polled, &input)
+        rtc_peer_polling::handle_input(&mut self.polled, input)
     }
 
     /// Begins to close the peer, and polls end it. Media says goodbye (RFC 3550, section 6.6), the association is shut

@@ -41,7 +41,7 @@ pub fn take_moment<I: IceAgent, D: DtlsInstance, S: Association, M: MediaSession
     let Ok(room) = room_for(alloc, rtc, 0, 0) else {
         return reply_no_memory();
     };
-    let answer = rtc.handle_input(Input::Timeout(now));
+    let answer = rtc.handle_input(&Input::Timeout(now));
     reply_with(outcome_of(answer), room, rtc)
 }
 
@@ -74,7 +74,7 @@ fn give_datagram<I: IceAgent, D: DtlsInstance, S: Association, M: MediaSession, 
     ensures channels { length rtc.new.core.channels.rows ≤ length rtc.old.core.channels.rows }
 {
     match Receive::from_transmit::<I>(transmit) {
-        Ok(datagram) => rtc.handle_input(Input::Receive(now, datagram)),
+        Ok(datagram) => rtc.handle_input(&Input::Receive(now, datagram)),
         Err(why) => Err(RtcError::Net(why)),
     }
 }
@@ -116,7 +116,7 @@ fn give_raw<I: IceAgent, D: DtlsInstance, S: Association, M: MediaSession, N: Id
     ensures channels { length rtc.new.core.channels.rows ≤ length rtc.old.core.channels.rows }
 {
     match Receive::new::<I>(Protocol::Udp, other, own, bytes) {
-        Ok(datagram) => rtc.handle_input(Input::Receive(now, datagram)),
+        Ok(datagram) => rtc.handle_input(&Input::Receive(now, datagram)),
         Err(why) => Err(RtcError::Net(why)),
     }
 }
