@@ -180,8 +180,12 @@ module _ {S : Type 0} (m : AssociationMeaning S) where
       → AreUsedIn m es s a [] []
   used_anew [] s g a (inl h) = absurd h
   used_anew [] s g a (inr h) = inl (refl, refl)
-  used_anew (e ∷ []) s g a (inl h) = subst (λ (st : StreamEntryState). IsUsedIn m st e.marked e.generation s a [] []) (sym h.0) tt
-  used_anew (e ∷ []) s g a (inr h) = subst (λ (st : StreamEntryState). IsUsedIn m st e.marked e.generation s a [] []) (sym h) (inl (refl, refl))
+  used_anew (e ∷ []) s g a (inl h) =
+      subst (λ (st : StreamEntryState). IsUsedIn m st e.marked e.generation s a [] [] × IsDcepInBand m st (is_out_of_band e) s a []) (sym h.0)
+      (tt, open_without m (is_out_of_band e) s a [] (inl refl))
+  used_anew (e ∷ []) s g a (inr h) =
+      subst (λ (st : StreamEntryState). IsUsedIn m st e.marked e.generation s a [] [] × IsDcepInBand m st (is_out_of_band e) s a []) (sym h)
+      (inl (refl, refl), tt)
   used_anew (e ∷ f ∷ es) s g a (inl h) = absurd h
   used_anew (e ∷ f ∷ es) s g a (inr h) = absurd h
 
