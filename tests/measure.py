@@ -1,8 +1,8 @@
 #!/usr/bin/env python3
 """Counts instructions of the proved programs by valgrind --tool=callgrind, so that growth is seen. It is no part of the gate.
 
-usage: tests/measure.py [PART..]     PART is descriptions, rounds, orderly, associations, streams, channels, boundary, forged, lookups,
-frames, polls, connecting, demos, room or forwarding; without one all are counted
+usage: tests/measure.py [PART..]     PART is descriptions, rounds, orderly, associations, streams, channels, datagrams, boundary, forged,
+lookups, frames, polls, connecting, demos, room or forwarding; without one all are counted
 
 The programs are those that the gate left in crates/*/out/. Each figure is a difference of two runs, so that the start of the
 program is not in it. docs/PERFORMANCE.md has the tables.
@@ -219,6 +219,15 @@ def channels():
         print(f"| {open_channels:,} | {more:,} | {more // open_channels:,} |")
 
 
+# Fifty messages by the last of so many open channels, one after another: of each a datagram there, and one back that acknowledges it. Each
+# of the hundred is handed in, and its peer drained. The writes are in the figures.
+def datagrams():
+    print("| Open channels | A datagram that is handed in and drained |\n|---|---|")
+    for open_channels in (1, 100):
+        more = count_peers("one", open_channels, 50, 1_024) - count_peers("one", open_channels, 0, 1_024)
+        print(f"| {open_channels:,} | {more // 100:,} |")
+
+
 # A message through two peers over one channel: in Rattle, and the same over libgondyru, which tools/build-c built, from C and from Python.
 # The C library is not to copy by an instruction that valgrind counts once for each byte.
 def boundary():
@@ -420,8 +429,8 @@ def forwarding():
 def main():
     parts = {
         "descriptions": descriptions, "rounds": rounds, "orderly": orderly, "associations": associations,
-        "streams": streams, "channels": channels, "boundary": boundary, "forged": forged, "lookups": lookups, "frames": frames, "polls": polls,
-        "connecting": connecting, "demos": demos, "room": room, "forwarding": forwarding,
+        "streams": streams, "channels": channels, "datagrams": datagrams, "boundary": boundary, "forged": forged, "lookups": lookups,
+        "frames": frames, "polls": polls, "connecting": connecting, "demos": demos, "room": room, "forwarding": forwarding,
     }
     wanted = sys.argv[1:] or list(parts)
     if any(name not in parts for name in wanted):
