@@ -111,8 +111,9 @@ impl Case<'_> {
         is_fault_of(error, self.part) & (after.faults.of(self.part) > before.faults.of(self.part))
     }
 
-    // A refusal at a place: whether it has its cause, leaves the lines if an acceptance was refused, and is followed by
-    // what may follow. Also whether a timer of DTLS failed in a poll, which closes the peer.
+    // A refusal at a place: whether it has its cause, leaves the lines if an acceptance was refused, wakes a peer that it
+    // does not close, and is followed by what may follow. Also whether a timer of DTLS failed in a poll, which closes the
+    // peer.
     fn judge_refusal(
         &self,
         alloc: Global,
@@ -143,7 +144,7 @@ impl Case<'_> {
         let follows = after.is_alive | rests(steps, replies, place.saturating_add(1));
         let timed = is_poll(step) & (after.faults.dtls_timers > before.faults.dtls_timers);
         Ok(Judged {
-            holds: own & caused & leaves & follows & (!timed | !after.is_alive),
+            holds: own & caused & leaves & follows & (!after.is_alive | (after.is_awake & !timed)),
             refusals: 1,
             timers: if timed { 1 } else { 0 },
         })

@@ -49,8 +49,9 @@ fn settings(polite: Option<bool>) -> PeerSettings {
 
 // What is seen of a run with these replies.
 fn see(
-    replies: Result<Seq<Reply<PlainMediaEvent>>, AllocError>,
+    replies: Result<Vec<Reply<PlainMediaEvent>>, AllocError>,
     is_alive: bool,
+    is_awake: bool,
     left: &PartWatches,
     right: &PartWatches,
 ) -> Result<Ran, AllocError> {
@@ -58,6 +59,7 @@ fn see(
     Ok(Ran {
         replies,
         is_alive,
+        is_awake,
         faults: Faults::seen(left),
         others: Faults::seen(right),
     })
@@ -83,5 +85,6 @@ pub fn perform(
     let mut pair = make_faulty_pair(alloc, own, other, failing, none, &left, &right)?;
     let replies = run_faulty_pair(alloc, &mut pair, steps);
     let is_alive = pair.left().is_alive();
-    release(pair, see(replies, is_alive, &left, &right))
+    let is_awake = pair.left().kept_timeout().is_none();
+    release(pair, see(replies, is_alive, is_awake, &left, &right))
 }

@@ -4,7 +4,6 @@ use rtc_faulty::CallKind;
 use rtc_plain::PlainMediaEvent;
 use rtc_run_faulty::PartWatches;
 use rtc_run_history::Reply;
-use rtc_wire::Seq;
 
 /// How many calls failed.
 #[derive(Clone, Copy)]
@@ -54,9 +53,11 @@ impl Faults {
 /// What a run over parts that fail shows.
 #[derive(Drop)]
 pub struct Ran {
-    pub replies: Seq<Reply<PlainMediaEvent>>,
+    pub replies: Vec<Reply<PlainMediaEvent>>,
     /// Whether the left peer is not closed at the end.
     pub is_alive: bool,
+    /// Whether the left peer keeps no timeout at the end.
+    pub is_awake: bool,
     /// Of the left peer.
     pub faults: Faults,
     /// Of the right peer, whose parts list no call.
