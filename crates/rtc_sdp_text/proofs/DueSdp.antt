@@ -1,12 +1,13 @@
 -- The text that was due where the sink failed.
-use Rattle.std.proofs.Common.{◌≡◌, ◌≤◌, ◌^◌, ◌∙◌, inl, inr, ℕ, List, length, Option, Ok, refl, arith, sym, subst}
+use Rattle.std.proofs.Common.{◌≡◌, ◌≤◌, ◌^◌, ◌∙◌, inl, inr, ℕ, Bool, List, length, Option, Ok, refl, arith, sym, subst}
+use Rattle.std.specs.Prelude.{is_err}
 use Rattle.std.specs.Io.KnownBytes.{Consumes, IsAtEnd}
 use Rattle.rtc_io.specs.Saying.{Says, BreaksOff}
 use Rattle.rtc_io.specs.Programs.{IsDue}
 use Rattle.rtc_io.proofs.Told.{reads_input}
 use Rattle.rtc_sdp_values.specs.declared.sdp.Sdp.{Sdp}
 use Rattle.rtc_sdp_writer.specs.SessionRows.{written_sdp}
-use Rattle.rtc_sdp_text.specs.Answers.{text_program, explaining_program}
+use Rattle.rtc_sdp_text.specs.Answers.{text_program, explaining_program, WritesRows}
 use Rattle.rtc_sdp_text.specs.Explanation.{bytes_explanation}
 use Rattle.rtc_sdp_text.specs.Repair.{bytes_reading}
 
@@ -35,3 +36,11 @@ rows_due a b written written' faults faults' broken broken' told status bytes sl
       front = off.2;
       rose = off.1;
     }
+
+-- the rows of the input were written, with the status that says so
+pub rows_written : (refused : Bool) (a b written written' : Option (List ℕ)) (broken broken' told status : ℕ) (bytes slice sent : List ℕ) → Consumes a b bytes → IsAtEnd b → length bytes ≤ 2 ^ 20 → slice ≡ bytes → is_err (bytes_reading slice) ≡ refused → sent ≡ bytes_explanation slice → (told ≡ 5 → ⊥) → Says told sent written written' broken broken' status → status ≡ told → WritesRows refused a b written written'
+rows_written refused a b written written' broken broken' told status bytes slice sent taken ended short same judged is other (inl whole) done =
+    let Holds : List ℕ → Type 0 = λ (text : List ℕ). (is_err (bytes_reading text) ≡ refused) × (sent ≡ bytes_explanation text) in
+    record { rows = sent; read = reads_input a b bytes Holds taken ended short (subst Holds same (judged, is)); told = whole.1 }
+rows_written refused a b written written' broken broken' told status bytes slice sent taken ended short same judged is other (inr off) done =
+    absurd (other (sym done ∙ off.0))
