@@ -103,8 +103,8 @@ def compare(offer, answer, ours, theirs, engine_text):
     return None
 
 
-# A random session: rounds of changes, each with the side of these that offers. The lines are added by one side.
-def random_session(seed, can, sides=("ours", "theirs")):
+# A random session: rounds of changes, each with the side of these that offers. The lines are added by one side, or by both.
+def random_session(seed, can, sides=("ours", "theirs"), both=False):
     chance = random.Random(seed)
     allowed = [direction for direction in DIRECTIONS if direction in can or direction.startswith("send")]
     adder, rounds, lines, channel = chance.choice(sides), [], 0, False
@@ -113,7 +113,7 @@ def random_session(seed, can, sides=("ours", "theirs")):
         changes, known = [], lines
         for _ in range(chance.randint(1, 2)):
             what = chance.random()
-            if side == adder and (what < 0.5 or lines == 0):
+            if (both or side == adder) and (what < 0.5 or lines == 0):
                 changes.append((chance.choice(("audio", "video")), chance.choice(allowed if side == "theirs" else DIRECTIONS)))
                 lines += 1
             elif what < 0.6 and not channel:
