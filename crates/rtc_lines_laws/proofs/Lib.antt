@@ -1,2 +1,3 @@
 mod LeftLines
 mod LeftCodecs
+mod OfferedLines
