@@ -23,7 +23,7 @@ module _ {I D S M E X T W N : Type 0} (m : Meanings I D S M E X T W N) (p : Peer
   nothing_left none = NothingLeft (left_known None none) refl refl
 
   pub left_answered : (o : SdpOffer) (answer : SdpAnswer) (r : Result (Option (List ℕ)) RtcError) (q : Peer I D S M N) → left ≡ Some o
-      → AcceptsOffer m (record p { staged = []; undo = [] }) o.0 (Ok answer.0) q → WritesFilled answer.0 r → AnswersLeft m offer p r q
+      → AcceptsOffer m (record p { staged = []; undo = [] }) o.0 (Ok answer.0) q → WritesFilled offer answer.0 r → AnswersLeft m offer p r q
   left_answered o answer r q some accepts writes = LeftAnswered o.0 answer.0 (left_known (Some o) some) accepts writes
 
   pub left_refused : (o : SdpOffer) (error : RtcError) (q : Peer I D S M N) → left ≡ Some o

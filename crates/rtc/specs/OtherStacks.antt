@@ -4,6 +4,7 @@ use Rattle.rtc_sdp_values.specs.declared.payload_row.PayloadRow.{PayloadRow}
 use Rattle.rtc_sdp_values.specs.declared.sdp.Sdp.{Sdp}
 use Rattle.rtc_sdp_reader.specs.Reading.{ReadsSdp}
 use Rattle.rtc_sdp_writer.specs.Placeholders.{filled_sdp}
+use Rattle.rtc_lines.specs.OfferedFormats.{answer_with_offered}
 use Rattle.rtc_lines.specs.Rejecting.{mids_without_codec, offer_rejecting, sdp_of_rejecting}
 use Rattle.rtc_lines.specs.declared.sdp_offer.SdpOffer.{SdpOffer}
 use Rattle.rtc_peer_core.specs.Acceptances.{AcceptsOffer}
@@ -25,11 +26,12 @@ abbrev pub LeavesOf : List PayloadRow → Sdp → Result (Option SdpOffer) RtcEr
 LeavesOf rows offer (Ok left) = sdp_of_rejecting left ≡ left_by rows offer
 LeavesOf rows offer (Err error) = error ≡ Alloc
 
--- the text of an answer, in which each m-line has a format (RFC 8866, section 5.14), or no memory for it
-abbrev pub WritesFilled : Sdp → Result (Option (List ℕ)) RtcError → Type 0
-WritesFilled answer (Ok None) = ⊥
-WritesFilled answer (Ok (Some text)) = text ≡ filled_sdp answer
-WritesFilled answer (Err error) = error ≡ Alloc
+-- The text of the answer to an offer, or no memory for it. Each m-line has a format (RFC 8866, section 5.14): a rejected one has those
+-- that were offered.
+abbrev pub WritesFilled : (offer answer : Sdp) → Result (Option (List ℕ)) RtcError → Type 0
+WritesFilled offer answer (Ok None) = ⊥
+WritesFilled offer answer (Ok (Some text)) = text ≡ filled_sdp (answer_with_offered answer offer)
+WritesFilled offer answer (Err error) = error ≡ Alloc
 
 module _ {I D S M E X T W N : Type 0} (m : Meanings I D S M E X T W N) where
   -- What is left of the offer is accepted as by a handle on which nothing is staged, and answered; or it is refused. The peer is
@@ -40,7 +42,7 @@ module _ {I D S M E X T W N : Type 0} (m : Meanings I D S M E X T W N) where
     LeftRefused : (left : Sdp) (error : RtcError) → left_of_offer p offer ≡ Some left
         → AcceptsOffer m (record p { staged = []; undo = [] }) left (Err error) q → r ≡ Err error → AnswersLeft offer p r q
     LeftAnswered : (left answer : Sdp) → left_of_offer p offer ≡ Some left
-        → AcceptsOffer m (record p { staged = []; undo = [] }) left (Ok answer) q → WritesFilled answer r → AnswersLeft offer p r q
+        → AcceptsOffer m (record p { staged = []; undo = [] }) left (Ok answer) q → WritesFilled offer answer r → AnswersLeft offer p r q
 
   -- The offer that was read of a text is answered so.
   pub data AcceptsForeignText (read : Result Sdp ℕ) (p : Peer I D S M N) (r : Result (Option (List ℕ)) RtcError) (q : Peer I D S M N)

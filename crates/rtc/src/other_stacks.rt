@@ -1,7 +1,9 @@
 //! Offers of stacks that refuse m-lines without a format.
-ghost use Rattle.std.specs.Prelude.{◌≡◌, []};
+ghost use Rattle.std.specs.Prelude.{◌≡◌, [], IfOk};
+ghost use Rattle.rtc_lines.specs.OfferedFormats.{answer_with_offered};
 ghost use Rattle.rtc_lines.specs.Rejecting.{sdp_of_rejecting};
 ghost use Rattle.rtc_sdp_reader.specs.Reading.{reading};
+ghost use Rattle.rtc_sdp_writer.specs.Placeholders.{filled_sdp};
 ghost use Rattle.rtc_peer_core.specs.Meanings.{meanings};
 ghost use Rattle.rtc.specs.OtherStacks.{AcceptsForeignText, AnswersLeft, LeavesOf, WritesFilled};
 
@@ -10,7 +12,7 @@ use crate::{Parts, Peer};
 use rtc_peer::{CodecConfig, RtcError, SdpAnswer, SdpOffer};
 use rtc_wire::Text;
 use rtc_wire_drops::release;
-use std::alloc::Global;
+use std::alloc::{AllocError, Global};
 
 // What is left of an offer once the live lines are rejected that share no codec with these.
 fn reject_lines(
@@ -25,12 +27,20 @@ fn reject_lines(
     Ok(left)
 }
 
-// The text of an answer, with a format on each m-line.
-fn write_filled(answer: SdpAnswer) -> Result<Option<Text>, RtcError>
-    ensures { WritesFilled answer.0 result }
+fn fill_text(answer: &SdpAnswer, offer: &SdpOffer) -> Result<Text, AllocError>
+    ensures { IfOk result (λ text. text ≡ filled_sdp (answer_with_offered answer.now.0 offer.now.0)) }
 {
-    match answer.to_sdp_string_with_formats() {
-        Ok(text) => release(answer, Ok(Some(Text::new(text)))),
+    let filled = answer.with_offered_formats(offer)?;
+    let text = filled.to_sdp_string_with_formats()?;
+    Ok(Text::new(text))
+}
+
+// The text of the answer to an offer, with a format on each m-line.
+fn write_filled(offer: &SdpOffer, answer: SdpAnswer) -> Result<Option<Text>, RtcError>
+    ensures { WritesFilled offer.now.0 answer.0 result }
+{
+    match fill_text(&answer, offer) {
+        Ok(text) => release(answer, Ok(Some(text))),
         Err(_) => release(answer, Err(RtcError::Alloc)),
     }
 }
@@ -49,14 +59,14 @@ fn answer_left<P: Parts>(
         return Ok(None);
     };
     match accept_offer::<P>(peer, left) {
-        Ok(answer) => write_filled(answer),
+        Ok(answer) => write_filled(offer, answer),
         Err(error) => Err(error),
     }
 }
 
 /// Accepts the offer in a text of another stack, and returns the text of the answer, as `accept_offer_text` does but for
-/// m-lines without a format, which browsers refuse. Each live line that shares no codec with the peer is rejected (RFC 3264,
-/// section 6), and a line with port 0 has a format (RFC 8866, section 5.14).
+/// m-lines without a format, which browsers refuse. Each live line that shares no codec with the peer is rejected, and a line
+/// with port 0 has the formats that were offered, whose meaning is ignored (RFC 3264, section 6).
 ///
 /// If no live line would be left, it returns None, and the peer is unchanged. `Alloc` may be returned after the offer was
 /// accepted.

@@ -16,7 +16,6 @@ use Rattle.rtc_sdp_writer.specs.Plain.{
   IsMediumLine,
   SuitsKind,
   IsLegibleLine,
-  AreBare,
   StandFirst,
   IsLegible,
   IsPlain,
