@@ -9,7 +9,7 @@ import time
 
 HERE = os.path.dirname(os.path.abspath(__file__))
 PAGE = "file://" + os.path.join(HERE, "page.html")
-SECONDS = 120
+SECONDS = 600
 
 
 class Refused(Exception):
