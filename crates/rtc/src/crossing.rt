@@ -7,11 +7,17 @@ ghost use Rattle.rtc_peer_core.specs.Meanings.{meanings};
 ghost use Rattle.rtc_peer_core.specs.declared.rtc_error.RtcError.TheVariants.{Glare};
 ghost use Rattle.rtc.specs.Crossing.{pending_behind, MeetsCrossed, MeetsOffer, TakesBack};
 
-use crate::{Parts, Peer};
-use rtc_peer::{RtcError, SdpAnswer, SdpOffer, SdpPendingOffer};
+use rtc_peer::{
+    Association, DtlsInstance, IceAgent, Ids, MediaSession, Rtc, RtcError, SdpAnswer, SdpOffer,
+    SdpPendingOffer,
+};
 
 // A polite peer rolls its pending offer back.
-fn withdraw<P: Parts>(peer: &mut Peer<P>, polite: bool, pending: &mut Option<SdpPendingOffer>)
+fn withdraw<I: IceAgent, D: DtlsInstance, S: Association, M: MediaSession, N: Ids>(
+    peer: &mut Rtc<I, D, S, M, N>,
+    polite: bool,
+    pending: &mut Option<SdpPendingOffer>,
+)
     ensures withdraws { TakesBack polite pending.old peer.old.core peer.new.core }
     ensures pending { pending.new ≡ pending_behind polite pending.old }
     ensures connection { peer.new.transport ≡ peer.old.transport }
@@ -34,8 +40,11 @@ fn is_glare(error: &RtcError) -> bool
 }
 
 // An impolite peer refuses an offer that crosses its own.
-fn meet<P: Parts>(peer: &mut Peer<P>, offer: SdpOffer) -> Result<Option<SdpAnswer>, RtcError>
-    ensures meets { MeetsOffer (meanings P.Ice.ice P.Dtls.dtls P.Sctp.association P.Media.media P.Ids.ids)
+fn meet<I: IceAgent, D: DtlsInstance, S: Association, M: MediaSession, N: Ids>(
+    peer: &mut Rtc<I, D, S, M, N>,
+    offer: SdpOffer,
+) -> Result<Option<SdpAnswer>, RtcError>
+    ensures meets { MeetsOffer (meanings I.ice D.dtls S.association M.media N.ids)
         offer.0 peer.old.core result peer.new.core }
     ensures connection { peer.new.transport ≡ peer.old.transport }
 {
@@ -51,17 +60,17 @@ fn meet<P: Parts>(peer: &mut Peer<P>, offer: SdpOffer) -> Result<Option<SdpAnswe
 ///
 /// Returns the answer, or None on glare at an impolite peer: then the other side takes its offer back and answers. A
 /// polite peer's own offer is rolled back; offer again.
-pub fn accept_crossed_offer<P: Parts>(
-    peer: &mut Peer<P>,
+pub fn accept_crossed_offer<I: IceAgent, D: DtlsInstance, S: Association, M: MediaSession, N: Ids>(
+    peer: &mut Rtc<I, D, S, M, N>,
     polite: bool,
     pending: &mut Option<SdpPendingOffer>,
     offer: SdpOffer,
 ) -> Result<Option<SdpAnswer>, RtcError>
-    ensures meets { MeetsCrossed (meanings P.Ice.ice P.Dtls.dtls P.Sctp.association P.Media.media P.Ids.ids)
+    ensures meets { MeetsCrossed (meanings I.ice D.dtls S.association M.media N.ids)
         polite pending.old offer.0 peer.old.core result peer.new.core }
     ensures pending { pending.new ≡ pending_behind polite pending.old }
     ensures connection { peer.new.transport ≡ peer.old.transport }
 {
-    withdraw::<P>(peer, polite, pending);
-    meet::<P>(peer, offer)
+    withdraw(peer, polite, pending);
+    meet(peer, offer)
 }

@@ -8,8 +8,10 @@ ghost use Rattle.rtc_peer_core.specs.Meanings.{meanings};
 ghost use Rattle.rtc.specs.OtherStacks.{AcceptsForeignText, AnswersLeft, LeavesOf, WritesFilled};
 
 use crate::signalling::accept_offer;
-use crate::{Parts, Peer};
-use rtc_peer::{CodecConfig, RtcError, SdpAnswer, SdpOffer};
+use rtc_peer::{
+    Association, CodecConfig, DtlsInstance, IceAgent, Ids, MediaSession, Rtc, RtcError, SdpAnswer,
+    SdpOffer,
+};
 use rtc_wire::Text;
 use rtc_wire_drops::release;
 use std::alloc::{AllocError, Global};
@@ -45,12 +47,12 @@ fn write_filled(offer: &SdpOffer, answer: SdpAnswer) -> Result<Option<Text>, Rtc
     }
 }
 
-fn answer_left<P: Parts>(
+fn answer_left<I: IceAgent, D: DtlsInstance, S: Association, M: MediaSession, N: Ids>(
     alloc: Global,
-    peer: &mut Peer<P>,
+    peer: &mut Rtc<I, D, S, M, N>,
     offer: &SdpOffer,
 ) -> Result<Option<Text>, RtcError>
-    ensures answers { AnswersLeft (meanings P.Ice.ice P.Dtls.dtls P.Sctp.association P.Media.media P.Ids.ids)
+    ensures answers { AnswersLeft (meanings I.ice D.dtls S.association M.media N.ids)
         offer.now.0 peer.old.core result peer.new.core }
     ensures connection { peer.new.transport ≡ peer.old.transport }
 {
@@ -58,7 +60,7 @@ fn answer_left<P: Parts>(
     let Some(left) = left else {
         return Ok(None);
     };
-    match accept_offer::<P>(peer, left) {
+    match accept_offer(peer, left) {
         Ok(answer) => write_filled(offer, answer),
         Err(error) => Err(error),
     }
@@ -70,18 +72,20 @@ fn answer_left<P: Parts>(
 ///
 /// If no live line would be left, it returns None, and the peer is unchanged. `Alloc` may be returned after the offer was
 /// accepted.
-pub fn accept_foreign_offer_text<P: Parts>(
-    alloc: Global,
-    peer: &mut Peer<P>,
-    text: &str,
-) -> Result<Option<Text>, RtcError>
-    ensures accepts { AcceptsForeignText (meanings P.Ice.ice P.Dtls.dtls P.Sctp.association P.Media.media P.Ids.ids)
+pub fn accept_foreign_offer_text<
+    I: IceAgent,
+    D: DtlsInstance,
+    S: Association,
+    M: MediaSession,
+    N: Ids,
+>(alloc: Global, peer: &mut Rtc<I, D, S, M, N>, text: &str) -> Result<Option<Text>, RtcError>
+    ensures accepts { AcceptsForeignText (meanings I.ice D.dtls S.association M.media N.ids)
         (reading text.now) peer.old.core result peer.new.core }
     ensures connection { peer.new.transport ≡ peer.old.transport }
 {
     match SdpOffer::from_sdp_string(alloc, text) {
         Ok(offer) => {
-            let answered = answer_left::<P>(alloc, peer, &offer);
+            let answered = answer_left(alloc, peer, &offer);
             release(offer, answered)
         }
         Err(error) => Err(RtcError::from(error)),

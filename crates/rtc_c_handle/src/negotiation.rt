@@ -8,7 +8,7 @@ ghost use Rattle.rtc_c_handle.specs.Negotiation.{TakesOffer, Offers, SpendsToken
 
 use crate::staging::make_offer;
 use crate::{Held, Made, Status};
-use rtc::{Plain, PlainRtc, RtcError, SdpAnswer, SdpOffer, SdpPendingOffer, accept_offer_text};
+use rtc::{PlainRtc, RtcError, SdpAnswer, SdpOffer, SdpPendingOffer, accept_offer_text};
 use rtc_wire::Text;
 use rtc_wire_drops::release;
 use std::alloc::Global;
@@ -44,7 +44,7 @@ impl Held {
         ensures output { self.new.output ≡ self.old.output }
         ensures connection { self.new.rtc.transport ≡ self.old.rtc.transport }
     {
-        match accept_offer_text::<Plain>(alloc, &mut self.rtc, text) {
+        match accept_offer_text(alloc, &mut self.rtc, text) {
             Ok(answer) => {
                 self.text = answer;
                 Ok(())

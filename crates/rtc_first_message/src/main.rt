@@ -7,7 +7,7 @@ mod outbox;
 use network::{address, exchange};
 use outbox::Outbox;
 use rtc::{
-    Direction, MediaKind, Moment, Plain, RtcError, accept_answer_text, accept_offer_text, drive,
+    Direction, MediaKind, Moment, RtcError, accept_answer_text, accept_offer_text, drive,
     plain_peer,
 };
 use std::alloc::Global;
@@ -21,10 +21,10 @@ fn call(alloc: Global, l: &mut Outbox, r: &mut Outbox) -> Result<(), RtcError> {
     let chat = api.add_channel(String::from_str(alloc, "chat")?)?;
     if let Some((offer, token)) = api.apply()? {
         let offer = offer.to_sdp_string()?;
-        drive::<Plain, Outbox>(&mut left, Moment::FAR_PAST, l)?;
-        let answer = accept_offer_text::<Plain>(alloc, &mut right, offer.as_str())?;
-        drive::<Plain, Outbox>(&mut right, Moment::FAR_PAST, r)?;
-        accept_answer_text::<Plain>(alloc, &mut left, token, answer.as_str())?;
+        drive(&mut left, Moment::FAR_PAST, l)?;
+        let answer = accept_offer_text(alloc, &mut right, offer.as_str())?;
+        drive(&mut right, Moment::FAR_PAST, r)?;
+        accept_answer_text(alloc, &mut left, token, answer.as_str())?;
     }
     l.describe(left.lines())?;
     r.describe(right.lines())?;

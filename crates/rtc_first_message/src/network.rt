@@ -1,6 +1,6 @@
 //! A network and a clock in memory.
 use crate::outbox::Outbox;
-use rtc::{Addr, Moment, Plain, PlainRtc, RtcError, Span, drive, receive};
+use rtc::{Addr, Moment, PlainRtc, RtcError, Span, drive, receive};
 
 /// An address on the network.
 pub fn address(host: u8, port: u16) -> Addr {
@@ -17,10 +17,10 @@ fn run_peer(
     out: &mut Outbox,
     other: &mut Outbox,
 ) -> Result<(), RtcError> {
-    drive::<Plain, Outbox>(peer, now, out)?;
+    drive(peer, now, out)?;
     for datagram in other.sent.as_slice() {
-        receive::<Plain>(peer, now, datagram)?;
-        drive::<Plain, Outbox>(peer, now, out)?;
+        receive(peer, now, datagram)?;
+        drive(peer, now, out)?;
     }
     other.sent.clear();
     Ok(())

@@ -1,6 +1,6 @@
 //! Descriptions of the other side.
 use rtc::{
-    Plain, PlainRtc, RtcError, SdpAnswer, SdpOffer, SdpPendingOffer, accept_answer_text,
+    PlainRtc, RtcError, SdpAnswer, SdpOffer, SdpPendingOffer, accept_answer_text,
     accept_crossed_offer, accept_foreign_offer_text, accept_offer_text,
 };
 use std::alloc::{AllocError, Global};
@@ -11,13 +11,13 @@ fn print_answer(alloc: Global, text: &str) -> Result<String, AllocError> {
 
 /// Answers an offer as it is.
 pub fn accept(alloc: Global, peer: &mut PlainRtc, text: &str) -> Result<String, RtcError> {
-    let answer = accept_offer_text::<Plain>(alloc, peer, text)?;
+    let answer = accept_offer_text(alloc, peer, text)?;
     Ok(print_answer(alloc, answer.as_str())?)
 }
 
 /// Answers an offer without the lines that share no codec.
 pub fn accept_foreign(alloc: Global, peer: &mut PlainRtc, text: &str) -> Result<String, RtcError> {
-    match accept_foreign_offer_text::<Plain>(alloc, peer, text)? {
+    match accept_foreign_offer_text(alloc, peer, text)? {
         Some(answer) => Ok(print_answer(alloc, answer.as_str())?),
         None => Ok(String::from_str(alloc, "no line left")?),
     }
@@ -42,7 +42,7 @@ pub fn accept_crossed(
     text: &str,
 ) -> Result<String, RtcError> {
     let offer = SdpOffer::from_sdp_string(alloc, text)?;
-    let answer = accept_crossed_offer::<Plain>(peer, polite, pending, offer)?;
+    let answer = accept_crossed_offer(peer, polite, pending, offer)?;
     Ok(print_crossed(alloc, answer)?)
 }
 
@@ -56,6 +56,6 @@ pub fn take(
     let Some(token) = pending.take() else {
         return Ok(String::from_str(alloc, "no offer is pending")?);
     };
-    accept_answer_text::<Plain>(alloc, peer, token, text)?;
+    accept_answer_text(alloc, peer, token, text)?;
     Ok(String::from_str(alloc, "finished")?)
 }

@@ -4,7 +4,7 @@ use crate::offering::stage_all;
 use crate::quiet::Quiet;
 use crate::rows::print_rows;
 use hex::decode;
-use rtc::{Moment, Plain, PlainRtc, RtcError, SdpPendingOffer, drive};
+use rtc::{Moment, PlainRtc, RtcError, SdpPendingOffer, drive};
 use std::alloc::{AllocError, Global};
 
 // The text that digits in hex encode; nothing if they encode none.
@@ -92,6 +92,6 @@ pub fn perform(
 ) -> Result<String, RtcError> {
     let told = ask(alloc, peer, pending, word, rest);
     let mut quiet = Quiet { events: 0 };
-    drive::<Plain, Quiet>(peer, Moment::FAR_PAST, &mut quiet)?;
+    drive(peer, Moment::FAR_PAST, &mut quiet)?;
     told
 }

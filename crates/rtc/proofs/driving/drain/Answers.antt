@@ -5,16 +5,16 @@ use Rattle.rtc.proofs.Driven.{hands_none, hands_more, drain_waits, drain_fails, 
 use Rattle.rtc.proofs.driving.drain.Goals as goal
 
 pub loop-turn-init : goal.loop-turn-init
-loop-turn-init g c = hands_none (meanings g.P.Ice.IceAgent.ice g.P.Dtls.DtlsInstance.dtls g.P.Sctp.Association.association g.P.Media.MediaSession.media g.P.Ids.Ids.ids) g.K.Sink.sink (polled_of c.args.peer.now) c.args.sink.now
+loop-turn-init g c = hands_none (meanings g.I.IceAgent.ice g.D.DtlsInstance.dtls g.S.Association.association g.M.MediaSession.media g.N.Ids.ids) g.K.Sink.sink (polled_of c.args.peer.now) c.args.sink.now
 
 pub loop-turn-preserved : goal.loop-turn-preserved
-loop-turn-preserved g c = hands_more (meanings g.P.Ice.IceAgent.ice g.P.Dtls.DtlsInstance.dtls g.P.Sctp.Association.association g.P.Media.MediaSession.media g.P.Ids.Ids.ids) g.K.Sink.sink c.loop-turn.turn (polled_of c.args.peer.now) c.args.sink.now (polled_of c.loop-turn.peer) c.loop-turn.sink (polled_of c.hand_next.new.peer) c.hand_next.new.sink c.loop-turn.invariant c.in-More.ensures
+loop-turn-preserved g c = hands_more (meanings g.I.IceAgent.ice g.D.DtlsInstance.dtls g.S.Association.association g.M.MediaSession.media g.N.Ids.ids) g.K.Sink.sink c.loop-turn.turn (polled_of c.args.peer.now) c.args.sink.now (polled_of c.loop-turn.peer) c.loop-turn.sink (polled_of c.hand_next.new.peer) c.hand_next.new.sink c.loop-turn.invariant c.in-More.ensures
 
 pub returns-in-Until : goal.returns-in-Until
-returns-in-Until g c = drain_waits (meanings g.P.Ice.IceAgent.ice g.P.Dtls.DtlsInstance.dtls g.P.Sctp.Association.association g.P.Media.MediaSession.media g.P.Ids.Ids.ids) g.K.Sink.sink c.args.now c.loop-turn.turn c.in-Until.moment (polled_of c.args.peer.now) c.args.sink.now (polled_of c.loop-turn.peer) c.loop-turn.sink (polled_of c.hand_next.new.peer) c.hand_next.new.sink c.loop-turn.invariant c.in-Until.ensures
+returns-in-Until g c = drain_waits (meanings g.I.IceAgent.ice g.D.DtlsInstance.dtls g.S.Association.association g.M.MediaSession.media g.N.Ids.ids) g.K.Sink.sink c.args.now c.loop-turn.turn c.in-Until.moment (polled_of c.args.peer.now) c.args.sink.now (polled_of c.loop-turn.peer) c.loop-turn.sink (polled_of c.hand_next.new.peer) c.hand_next.new.sink c.loop-turn.invariant c.in-Until.ensures
 
 pub returns-in-Failed : goal.returns-in-Failed
-returns-in-Failed g c = drain_fails (meanings g.P.Ice.IceAgent.ice g.P.Dtls.DtlsInstance.dtls g.P.Sctp.Association.association g.P.Media.MediaSession.media g.P.Ids.Ids.ids) g.K.Sink.sink c.args.now c.loop-turn.turn c.in-Failed.error (polled_of c.args.peer.now) c.args.sink.now (polled_of c.loop-turn.peer) c.loop-turn.sink (polled_of c.hand_next.new.peer) c.hand_next.new.sink c.loop-turn.invariant c.in-Failed.ensures
+returns-in-Failed g c = drain_fails (meanings g.I.IceAgent.ice g.D.DtlsInstance.dtls g.S.Association.association g.M.MediaSession.media g.N.Ids.ids) g.K.Sink.sink c.args.now c.loop-turn.turn c.in-Failed.error (polled_of c.args.peer.now) c.args.sink.now (polled_of c.loop-turn.peer) c.loop-turn.sink (polled_of c.hand_next.new.peer) c.hand_next.new.sink c.loop-turn.invariant c.in-Failed.ensures
 
 pub returns : goal.returns
-returns g c = drain_goes_on (meanings g.P.Ice.IceAgent.ice g.P.Dtls.DtlsInstance.dtls g.P.Sctp.Association.association g.P.Media.MediaSession.media g.P.Ids.Ids.ids) g.K.Sink.sink c.args.now c.loop-turn.turn (polled_of c.args.peer.now) c.args.sink.now (polled_of c.loop-turn.peer) c.loop-turn.sink c.loop-turn.invariant (omega (arith, c.loop-turn-test.false))
+returns g c = drain_goes_on (meanings g.I.IceAgent.ice g.D.DtlsInstance.dtls g.S.Association.association g.M.MediaSession.media g.N.Ids.ids) g.K.Sink.sink c.args.now c.loop-turn.turn (polled_of c.args.peer.now) c.args.sink.now (polled_of c.loop-turn.peer) c.loop-turn.sink c.loop-turn.invariant (omega (arith, c.loop-turn-test.false))

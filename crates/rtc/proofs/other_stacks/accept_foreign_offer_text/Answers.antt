@@ -5,6 +5,6 @@ use Rattle.rtc.proofs.other_stacks.accept_foreign_offer_text.Goals as goal
 
 pub returns-in-Ok-clause-accepts : goal.returns-in-Ok-clause-accepts
 returns-in-Ok-clause-accepts g c =
-    foreign_read (meanings g.P.Ice.IceAgent.ice g.P.Dtls.DtlsInstance.dtls g.P.Sctp.Association.association g.P.Media.MediaSession.media g.P.Ids.Ids.ids)
+    foreign_read (meanings g.I.IceAgent.ice g.D.DtlsInstance.dtls g.S.Association.association g.M.MediaSession.media g.N.Ids.ids)
     (reading c.args.text.now) c.args.peer.now.core c.answer_left-answered.new.peer.core c.in-Ok.offer.0 c.answer_left-answered.result c.release.result
     c.in-Ok.ensures c.answer_left-answered.ensures.answers c.release.ensures

@@ -5,4 +5,4 @@ use Rattle.rtc.proofs.Signalled.{offer_by_handle}
 use Rattle.rtc.proofs.signalling.accept_offer.Goals as goal
 
 pub returns-clause-accepts : goal.returns-clause-accepts
-returns-clause-accepts g c = offer_by_handle (meanings g.P.Ice.IceAgent.ice g.P.Dtls.DtlsInstance.dtls g.P.Sctp.Association.association g.P.Media.MediaSession.media g.P.Ids.Ids.ids) c.args.peer.now.core c.sdp_api.result.rtc.now.core c.accept_offer.new.self.0.core _ c.args.offer.0 (sdp_of_answer c.accept_offer.result) c.sdp_api.ensures.peer c.accept_offer.ensures.accepts (search rules)
+returns-clause-accepts g c = offer_by_handle (meanings g.I.IceAgent.ice g.D.DtlsInstance.dtls g.S.Association.association g.M.MediaSession.media g.N.Ids.ids) c.args.peer.now.core c.sdp_api.result.rtc.now.core c.accept_offer.new.self.0.core _ c.args.offer.0 (sdp_of_answer c.accept_offer.result) c.sdp_api.ensures.peer c.accept_offer.ensures.accepts (search rules)
