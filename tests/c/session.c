@@ -1,6 +1,6 @@
-/* A whole session of two peers from C, with each of its allocations refused in turn: a status reports it, or nothing is lost, since the
- * session goes on to its end with the same outputs and texts, byte for byte. In either case every block is freed. Linked with
- * --wrap=malloc,realloc,free. */
+/* A whole session of two peers from C, with each of its allocations refused in turn, alone and then with all that follow it: a status
+ * reports it, or nothing is lost, since the session goes on to its end with the same outputs and texts, byte for byte. In either case
+ * every block is freed. Linked with --wrap=malloc,realloc,free. */
 #include "gondyru.h"
 
 #include <stdio.h>
@@ -14,22 +14,28 @@ struct side { gondyru_peer peer; bool is_open; uint64_t channel; size_t messages
 
 /* What the peers hand out, in one number. */
 static uint64_t digest;
-static size_t asked, refused, live;
+static size_t asked, refused, last_refused, live;
 static struct side left, right;
 
 void *__real_malloc(size_t size);
 void *__real_realloc(void *at, size_t size);
 void __real_free(void *at);
 
+/* Whether the next allocation is refused. */
+static bool is_refused(void) {
+    asked++;
+    return refused <= asked && asked <= last_refused;
+}
+
 void *__wrap_malloc(size_t size) {
-    void *at = ++asked == refused ? NULL : __real_malloc(size);
+    void *at = is_refused() ? NULL : __real_malloc(size);
     live += at != NULL;
     return at;
 }
 
 void *__wrap_realloc(void *at, size_t size) {
     if (!at) return __wrap_malloc(size);
-    return ++asked == refused ? NULL : __real_realloc(at, size);
+    return is_refused() ? NULL : __real_realloc(at, size);
 }
 
 void __wrap_free(void *at) {
@@ -154,33 +160,40 @@ static uint32_t session(void) {
     return left.messages == 1 && right.messages == 1 && left.closes == 1 && right.closes == 1 ? GONDYRU_DONE : GONDYRU_NO_ROW;
 }
 
-/* The session with one allocation refused, from an empty slot to an empty slot. */
-static uint32_t refuse(size_t number) {
+/* The session with the allocations from one to another refused, from an empty slot to an empty slot. */
+static uint32_t refuse(size_t first, size_t last) {
     memset(&left, 0, sizeof left);
     memset(&right, 0, sizeof right);
     asked = 0;
     digest = 14695981039346656037u;
-    refused = number;
+    refused = first;
+    last_refused = last;
     uint32_t status = session();
     gondyru_free_peer(&left.peer);
     gondyru_free_peer(&right.peer);
     return status;
 }
 
+/* Refuses each of so many allocations in turn, alone or with all that follow, and counts those that a status reports. */
+static bool refuse_each(size_t whole, bool alone, uint64_t given, size_t *reported) {
+    for (size_t number = 1; number <= whole; number++) {
+        uint32_t status = refuse(number, alone ? number : SIZE_MAX);
+        if (live) return printf("allocation %zu: %zu blocks are not freed\n", number, live), false;
+        if (status != GONDYRU_NO_MEMORY && status != GONDYRU_DONE) return printf("allocation %zu: status %u\n", number, status), false;
+        if (status == GONDYRU_DONE && digest != given) return printf("allocation %zu: no status, and outputs differ\n", number), false;
+        *reported += status == GONDYRU_NO_MEMORY;
+    }
+    return true;
+}
+
 int main(void) {
-    size_t reported = 0, quiet = 0;
-    uint32_t status = refuse(0);
+    size_t alone = 0, lasting = 0;
+    uint32_t status = refuse(1, 0);
     size_t whole = asked;
     uint64_t given = digest;
     if (status != GONDYRU_DONE || live) return printf("the session ends with status %u, and %zu blocks\n", status, live), 1;
-    for (size_t number = 1; number <= whole; number++) {
-        status = refuse(number);
-        if (live) return printf("allocation %zu: %zu blocks are not freed\n", number, live), 1;
-        if (status != GONDYRU_NO_MEMORY && status != GONDYRU_DONE) return printf("allocation %zu: status %u\n", number, status), 1;
-        if (status == GONDYRU_DONE && digest != given) return printf("allocation %zu: no status reports it, and outputs differ\n", number), 1;
-        reported += status == GONDYRU_NO_MEMORY;
-        quiet += status == GONDYRU_DONE;
-    }
-    printf("%zu allocations refused: a status reports %zu, and of %zu nothing is lost\n", whole, reported, quiet);
+    if (!refuse_each(whole, true, given, &alone) || !refuse_each(whole, false, given, &lasting)) return 1;
+    printf("%zu allocations refused: a status reports %zu, and of %zu nothing is lost\n", whole, alone, whole - alone);
+    printf("each with all that follow: a status reports %zu, and of %zu nothing is lost\n", lasting, whole - lasting);
     return 0;
 }
