@@ -1,6 +1,6 @@
 -- Behind runs, a buffered amount of 0 says that nothing that a side sent over a channel is unacknowledged, if its last message is not empty:
 -- so a reader that was drained has all of it.
-use Rattle.std.proofs.Common.{◌≡◌, ◌∙◌, ◌++◌, ℕ, cond, Bool, true, false, List, sym, ap}
+use Rattle.std.proofs.Common.{◌≡◌, ◌∙◌, ◌++◌, ℕ, cond, Bool, true, false, List, Some, sym, ap}
 use Rattle.rtc_part_association.specs.AssociationWords.{ended, read, written}
 use Rattle.rtc_assoc.specs.Unread.{IsPrefix, unread}
 use Rattle.rtc_assoc_state.specs.Contents.{buffered_of, fresh_contents, generation_of, has_unread}
@@ -11,7 +11,7 @@ use Rattle.rtc_plain_media.specs.declared.plain_media_event.PlainMediaEvent.{Pla
 use Rattle.rtc_sctp_laws.specs.Contents.{contents_by}
 use Rattle.rtc_sctp_laws.specs.RunningStreams.{AreRunning}
 use Rattle.rtc_sctp_laws.proofs.ContentLemmas.{written_contents}
-use Rattle.rtc_peer_transport.specs.ChannelCalls.{bytes_buffered}
+use Rattle.rtc_peer_transport.specs.ChannelCalls.{bytes_buffered, open_stream_under}
 use Rattle.rtc_peer_laws.specs.PeerActs.{PeerActs}
 use Rattle.rtc_run_history.specs.declared.reply.Reply.{Reply}
 use Rattle.rtc_run_history.specs.declared.side.Side.{Side}
@@ -25,7 +25,7 @@ use Rattle.rtc_run_history.specs.Sides.{other_side}
 use Rattle.rtc_run_laws.specs.AcknowledgedData.{AcknowledgesData, AreAcknowledged, AreDeliveredByAmount, ends_with_bytes, has_unacknowledged_data}
 use Rattle.rtc_run_laws.specs.ChannelUses.{ChannelUse}
 use Rattle.rtc_run_laws.specs.Delivered.{AreDelivering}
-use Rattle.rtc_run_laws.specs.DrainedSides.{IsDrained}
+use Rattle.rtc_run_laws.specs.SideDrains.{IsSideDrained}
 use Rattle.rtc_run_laws.specs.NewPairs.{IsNewPair}
 use Rattle.rtc_run_laws.specs.PlainPairs.{PlainPair, PlainPolled, plain_over}
 use Rattle.rtc_run_laws.specs.SentMessages.{sent_over}
@@ -33,9 +33,8 @@ use Rattle.rtc_run_laws.specs.ToldMessages.{MessagesTold, told_over}
 use Rattle.rtc_run_laws.specs.UsesOfRuns.{reached_by, uses_of}
 use Rattle.rtc_run_laws.proofs.AcknowledgedPairs.{side_data}
 use Rattle.rtc_run_laws.proofs.Delivered.{delivered, stream_same, wrote_sent}
-use Rattle.rtc_run_laws.proofs.DrainedRuns.{heard_reached, new_unused}
-use Rattle.rtc_run_laws.proofs.HeardSides.{HeardSide, heard_open}
 use Rattle.rtc_run_laws.proofs.LastMessagesHeld.{amount_zero}
+use Rattle.rtc_run_laws.proofs.RestedRuns.{run_heard}
 use Rattle.rtc_run_laws.proofs.RunsExchange.{side_reads}
 use Rattle.rtc_run_laws.proofs.RunsTold.{PairTold, new_pair_told, reached_told}
 use Rattle.rtc_run_laws.proofs.StandingSides.{Sent, SideSent, SideStood}
@@ -92,29 +91,32 @@ module _ {N : Type 0} (draws : Draws N) where
       (ap (λ (n : ℕ). bytes_buffered (plain_over draws) n q) (sym same) ∙ amount) in
       delivered draws a b us vs p q x y.side k l h mine theirs reads (all none) heard
 
-  pair_delivered : (pair : PlainPair N) (uses : Side → List ChannelUse) (sent : Side → Sent) (told : Side → MessagesTold) (at : Side) (drained : ℕ → Type 0)
-      → PairTold draws pair uses sent told → ((channel : ℕ) → drained channel → HeardSide channel (uses at) (rtc_at at pair))
+  pair_delivered : (pair : PlainPair N) (uses : Side → List ChannelUse) (sent : Side → Sent) (told : Side → MessagesTold) (at : Side) (drained : Type 0)
+      → PairTold draws pair uses sent told
+      → ((x : ChannelUse) → Member x (uses at) → drained → x.in_band ≡ true → (stream : ℕ) → x.stream ≡ Some stream
+      → open_stream_under x.channel (rtc_at at pair) ≡ Some stream → generation_of (rtc_at at pair).core.sctp.association stream ≡ x.generation
+      → has_unread (rtc_at at pair).core.sctp.association stream x.generation ≡ false)
       → AreDeliveredByAmount draws drained (uses at) (rtc_at at pair) (uses (other_side at)) (rtc_at (other_side at) pair)
   pair_delivered pair uses sent told Left drained h heard = λ x y mine theirs rested d.
       amount_delivered h.acts.left h.acts.right (uses Left) (uses Right) pair.left pair.right (sent Right) (told Right) h.left.side h.right x y d mine theirs
       (side_reads h.acts pair Right d.reader.stream x.generation h.exchange)
       (side_data h.acts pair Right d.reader.stream x.generation h.exchange)
-      (heard_open draws (uses Left) pair.left x (heard x.channel rested) mine d.reader_in_band d.reader.stream d.reader.of d.there d.reader.generation)
+      (heard x mine rested d.reader_in_band d.reader.stream d.reader.of d.there d.reader.generation)
   pair_delivered pair uses sent told Right drained h heard = λ x y mine theirs rested d.
       amount_delivered h.acts.right h.acts.left (uses Right) (uses Left) pair.right pair.left (sent Left) (told Left) h.right.side h.left x y d mine theirs
       (side_reads h.acts pair Left d.reader.stream x.generation h.exchange)
       (side_data h.acts pair Left d.reader.stream x.generation h.exchange)
-      (heard_open draws (uses Right) pair.right x (heard x.channel rested) mine d.reader_in_band d.reader.stream d.reader.of d.there d.reader.generation)
+      (heard x mine rested d.reader_in_band d.reader.stream d.reader.of d.there d.reader.generation)
 
   pub run_amounts : (stun : List ℕ → Bool) (start : PlainPair N) → IsNewPair draws start → (past : List (Entry PlainMediaEvent)) (pair : PlainPair N)
       → are_native (steps_of past) ≡ true → (ran : Reached (plain_over draws) stun start past pair) → (at : Side)
-      → AreDeliveredByAmount draws (λ channel. IsDrained at channel past) (uses_of (plain_over draws) stun start at past pair ran) (rtc_at at pair)
+      → AreDeliveredByAmount draws (IsSideDrained at past) (uses_of (plain_over draws) stun start at past pair ran) (rtc_at at pair)
       (uses_of (plain_over draws) stun start (other_side at) past pair ran) (rtc_at (other_side at) pair)
   run_amounts stun start new past pair go ran at =
       pair_delivered pair (λ z. uses_of (plain_over draws) stun start z past pair ran) (λ z. sent_over (plain_over draws) stun start z past pair ran)
-      (λ z. told_over (plain_over draws) stun start z past pair ran) at (λ channel. IsDrained at channel past)
+      (λ z. told_over (plain_over draws) stun start z past pair ran) at (IsSideDrained at past)
       (reached_told draws stun start past pair go ran (new_pair_told draws start new))
-      (λ channel drained. heard_reached draws stun start past pair go ran (new_pair_told draws start new) (new_unused draws start new) at channel drained)
+      (λ x mine drained band stream of there own. run_heard draws stun start new past pair go ran at x mine drained band stream of there own)
 
   pub run_acknowledges : (stun : List ℕ → Bool) (start pair : PlainPair N) (steps : List Step) (replies : List (Reply PlainMediaEvent)) → IsNewPair draws start
       → are_native steps ≡ true → (run : Runs (plain_over draws) stun start steps replies pair) → AcknowledgesData draws stun start steps replies pair run

@@ -15,9 +15,10 @@ use Rattle.rtc_assoc.proofs.CoreLemmas.{Causes}
 use Rattle.rtc_assoc.proofs.StepLemmas.{step_of}
 use Rattle.rtc_sctp_laws.specs.GenerationLaws.{gives_packet}
 use Rattle.rtc_sctp_laws.proofs.PlainGenerations.{plain_generations}
+use Rattle.rtc_run_laws.proofs.EndReports.{no_packet}
 use Rattle.rtc_run_laws.proofs.QuietActs.{given_none}
 use Rattle.rtc_run_laws.proofs.ShutPolls.{IsCalm, ShutLaws}
-use Rattle.rtc_run_laws.proofs.SilentEnds.{IsSilentEnd, no_packet, silent_act, silent_given, silent_rest}
+use Rattle.rtc_run_laws.proofs.SilentEnds.{IsSilentEnd, silent_act, silent_given, silent_rest}
 
 exists_no : (has : Bool) (next : Option AssocError) → need has StreamExists next ≡ None → has ≡ true → ⊥
 exists_no true next h e = cc

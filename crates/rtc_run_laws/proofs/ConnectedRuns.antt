@@ -5,7 +5,6 @@ use Rattle.rtc_wire.specs.declared.addr.Addr.{Addr}
 use Rattle.rtc_assoc_state.proofs.PlainLaws.{plain_laws}
 use Rattle.rtc_part_values.specs.Draws.{Draws}
 use Rattle.rtc_part_dtls.specs.DtlsActs.{DtlsMoved}
-use Rattle.rtc_part_dtls.specs.DtlsState.{can_send}
 use Rattle.rtc_part_dtls.specs.DtlsWords.{dtls_given}
 use Rattle.rtc_part_ice.specs.IceConnectionState.{state_is_connected}
 use Rattle.rtc_plain_ice.specs.PlainMeaning.{plain_ice}
@@ -184,13 +183,19 @@ module _ {N : Type 0} (draws : Draws N) where
   second_of_three true false c h = absurd (true≢false (sym h))
   second_of_three false b c h = absurd (true≢false (sym h))
 
-  finished_sends : (acts other : PeerActs) (p : PlainPolled N) → DtlsMoved plain_dtls fresh_dtls acts.dtls p.core.dtls.instance → ShookHands acts p other
-      → phase_is_finished p.core.dtls.instance.phase ≡ true → can_send plain_dtls p.core.dtls ≡ true
-  finished_sends acts other p moved hands finished =
-      both_are (is_some p.core.dtls.active) (phase_is_finished p.core.dtls.instance.phase)
-      (ap is_some (hands.role ∙ sym (moved_role (dtls_given acts.dtls) acts.dtls fresh_dtls p.core.dtls.instance moved (λ x m. m)))
-      ∙ role_finished p.core.dtls.instance.phase finished)
-      finished
+  finished_active : (acts other : PeerActs) (p : PlainPolled N) → DtlsMoved plain_dtls fresh_dtls acts.dtls p.core.dtls.instance → ShookHands acts p other
+      → phase_is_finished p.core.dtls.instance.phase ≡ true → is_some p.core.dtls.active ≡ true
+  finished_active acts other p moved hands finished =
+      ap is_some (hands.role ∙ sym (moved_role (dtls_given acts.dtls) acts.dtls fresh_dtls p.core.dtls.instance moved (λ x m. m)))
+      ∙ role_finished p.core.dtls.instance.phase finished
+
+  -- at either side
+  pub exchanged_active : (pair : PlainPair N) → HasExchanged pair → (at : Side) → phase_is_finished (rtc_at at pair).core.dtls.instance.phase ≡ true
+      → is_some (rtc_at at pair).core.dtls.active ≡ true
+  exchanged_active pair exchanged Left finished =
+      finished_active exchanged.acts.left exchanged.acts.right pair.left exchanged.exchange.joined.left_dtls exchanged.hands.left finished
+  exchanged_active pair exchanged Right finished =
+      finished_active exchanged.acts.right exchanged.acts.left pair.right exchanged.exchange.joined.right_dtls exchanged.hands.right finished
 
   handshake_of_connected : (p : PlainPolled N) → is_peer_connected (plain_over draws) p ≡ true → is_handshake_finished p.transport.handshake ≡ true
   handshake_of_connected p h =
@@ -200,15 +205,9 @@ module _ {N : Type 0} (draws : Draws N) where
   pub connected_sends : (stun : List ℕ → Bool) (start : PlainPair N) (past : List (Entry PlainMediaEvent)) (pair : PlainPair N) → IsNewPair draws start
       → are_native (steps_of past) ≡ true → Reached (plain_over draws) stun start past pair → ConnectedCanSend draws pair
   connected_sends stun start past pair new native ran at h =
-      by at (reached_exchanged draws stun start past pair native ran (new_exchanged draws start new))
-      ((run_fit stun start past pair native ran (new_fit start new) at).finished (handshake_of_connected (rtc_at at pair) h))
-    where
-      by : (x : Side) → HasExchanged pair → phase_is_finished (rtc_at x pair).core.dtls.instance.phase ≡ true
-          → can_send plain_dtls (rtc_at x pair).core.dtls ≡ true
-      by Left exchanged f =
-          finished_sends exchanged.acts.left exchanged.acts.right pair.left exchanged.exchange.joined.left_dtls exchanged.hands.left f
-      by Right exchanged f =
-          finished_sends exchanged.acts.right exchanged.acts.left pair.right exchanged.exchange.joined.right_dtls exchanged.hands.right f
+      let finished = (run_fit stun start past pair native ran (new_fit start new) at).finished (handshake_of_connected (rtc_at at pair) h) in
+      both_are (is_some (rtc_at at pair).core.dtls.active) (phase_is_finished (rtc_at at pair).core.dtls.instance.phase)
+      (exchanged_active pair (reached_exchanged draws stun start past pair native ran (new_exchanged draws start new)) at finished) finished
 
   -- so it is of a run by steps with replies
   pub run_connected : (stun : List ℕ → Bool) (start pair : PlainPair N) (steps : List Step) (replies : List (Reply PlainMediaEvent)) → IsNewPair draws start

@@ -13,7 +13,6 @@ use Rattle.rtc_assoc_state.proofs.PlainLaws.{plain_laws}
 use Rattle.rtc_assoc_state.specs.Contents.{closed_here, fresh_contents, generation_of, has_unread}
 use Rattle.rtc_assoc_state.specs.Outbox.{has_unacknowledged}
 use Rattle.rtc_assoc_state.specs.PlainMeaning.{plain_meaning}
-use Rattle.rtc_plain_media.specs.declared.plain_media_event.PlainMediaEvent.{PlainMediaEvent}
 use Rattle.rtc_sctp_laws.specs.Contents.{contents_by, contents_of}
 use Rattle.rtc_sctp_laws.specs.GenerationLaws.{GenerationLaws, KeepsGeneration}
 use Rattle.rtc_sctp_laws.specs.StreamMessages.{StreamMessage}
@@ -21,28 +20,19 @@ use Rattle.rtc_sctp_laws.proofs.PlainGenerations.{plain_generations}
 use Rattle.rtc_peer_transport.specs.ChannelCalls.{open_stream_under}
 use Rattle.rtc_peer_laws.specs.PeerActs.{PeerActs}
 use Rattle.rtc_peer_laws.proofs.ChannelsOver.{none_under}
-use Rattle.rtc_run_history.specs.Native.{are_native}
 use Rattle.rtc_run_history.specs.PairState.{rtc_at}
-use Rattle.rtc_run_history.specs.Past.{Entry, steps_of}
-use Rattle.rtc_run_history.specs.Runs.{Reached}
 use Rattle.rtc_run_history.specs.Sides.{other_side}
 use Rattle.rtc_run_history.specs.declared.side.Side.{Side}
 use Rattle.rtc_run_history.specs.declared.side.Side.TheVariants.{Left, Right}
 use Rattle.rtc_run_laws.specs.ChannelUses.{ChannelUse}
 use Rattle.rtc_run_laws.specs.Delivered.{AreAllDelivered, AreDelivering}
-use Rattle.rtc_run_laws.specs.DrainedSides.{IsDrained}
-use Rattle.rtc_run_laws.specs.NewPairs.{IsNewPair}
 use Rattle.rtc_run_laws.specs.PlainPairs.{PlainPair, PlainPolled, plain_over}
-use Rattle.rtc_run_laws.specs.SentMessages.{sent_over}
-use Rattle.rtc_run_laws.specs.ToldMessages.{MessagesTold, told_over}
-use Rattle.rtc_run_laws.specs.UsesOfRuns.{uses_of}
+use Rattle.rtc_run_laws.specs.ToldMessages.{MessagesTold}
 use Rattle.rtc_run_laws.proofs.AllHanded.{none_unread, open_told}
-use Rattle.rtc_run_laws.proofs.DrainedRuns.{heard_reached, new_unused}
 use Rattle.rtc_run_laws.proofs.GotAndSent.{both_carry}
-use Rattle.rtc_run_laws.proofs.HeardSides.{heard_open}
 use Rattle.rtc_run_laws.proofs.OpenStreams.{open_free, open_placed}
 use Rattle.rtc_run_laws.proofs.RunsExchange.{side_all, side_reads}
-use Rattle.rtc_run_laws.proofs.RunsTold.{PairTold, new_pair_told, reached_told}
+use Rattle.rtc_run_laws.proofs.RunsTold.{PairTold}
 use Rattle.rtc_run_laws.proofs.StandingSides.{Sent, SideStood}
 use Rattle.rtc_run_laws.proofs.UseLists.{all_member}
 use Rattle.rtc_run_laws.proofs.UsesTold.{HasGone, InBandTold, IsOver, Lives, StandsSo, UseTold, opened_of}
@@ -189,8 +179,8 @@ module _ {N : Type 0} (draws : Draws N) where
 
   module _ (pair : PlainPair N) (uses : Side → List ChannelUse) (sent : Side → Sent) (told : Side → MessagesTold) (h : PairTold draws pair uses sent told) where
     -- by what tells of an open channel that nothing of its generation stands unread
-    pub pair_delivered : (at : Side) (drained : ℕ → Type 0)
-        → ((x : ChannelUse) → Member x (uses at) → drained x.channel → x.in_band ≡ true → (stream : ℕ) → x.stream ≡ Some stream
+    pub pair_delivered : (at : Side) (drained : Type 0)
+        → ((x : ChannelUse) → Member x (uses at) → drained → x.in_band ≡ true → (stream : ℕ) → x.stream ≡ Some stream
         → open_stream_under x.channel (rtc_at at pair) ≡ Some stream → generation_of (rtc_at at pair).core.sctp.association stream ≡ x.generation
         → has_unread (rtc_at at pair).core.sctp.association stream x.generation ≡ false)
         → AreAllDelivered drained (uses at) (rtc_at at pair) (uses (other_side at)) (rtc_at (other_side at) pair)
@@ -206,16 +196,3 @@ module _ {N : Type 0} (draws : Draws N) where
         (λ there here. ap contents_by (side_all h.acts pair Left d.reader.stream x.generation h.exchange there here
         (none_of x y pair.right pair.left d acknowledged)))
         (heard x mine rested d.reader_in_band d.reader.stream d.reader.of d.there d.reader.generation)
-
-  pub run_delivered : (stun : List ℕ → Bool) (start : PlainPair N) → IsNewPair draws start → (past : List (Entry PlainMediaEvent)) (pair : PlainPair N)
-      → are_native (steps_of past) ≡ true → (ran : Reached (plain_over draws) stun start past pair) → (at : Side)
-      → AreAllDelivered (λ channel. IsDrained at channel past) (uses_of (plain_over draws) stun start at past pair ran) (rtc_at at pair)
-      (uses_of (plain_over draws) stun start (other_side at) past pair ran) (rtc_at (other_side at) pair)
-  run_delivered stun start new past pair go ran at =
-      pair_delivered pair (λ x. uses_of (plain_over draws) stun start x past pair ran) (λ x. sent_over (plain_over draws) stun start x past pair ran)
-      (λ x. told_over (plain_over draws) stun start x past pair ran)
-      (reached_told draws stun start past pair go ran (new_pair_told draws start new)) at (λ channel. IsDrained at channel past)
-      (λ x mine drained band stream of there own.
-      heard_open draws (uses_of (plain_over draws) stun start at past pair ran) (rtc_at at pair) x
-      (heard_reached draws stun start past pair go ran (new_pair_told draws start new) (new_unused draws start new) at x.channel drained) mine band stream of
-      there own)

@@ -270,9 +270,16 @@ pub mod ShutVisits
 pub mod ShutPolls
 pub mod ShutCalls
 pub mod CountedItems
+pub mod EndReports
+pub mod EventEnds
 pub mod SilentEnds
 pub mod CalmActs
 pub mod ShutRows
+pub mod UnestablishedPolls
+pub mod ConnectedActs
+pub mod UnestablishedRows
+pub mod UnfinishedActs
+pub mod FreshSides
 pub mod RestedSides
 pub mod RestedTimeouts
 pub mod OpenedRests

@@ -32,10 +32,11 @@ use Rattle.rtc_run_laws.specs.PlainPairs.{PlainPolled, plain_over}
 use Rattle.rtc_run_laws.proofs.StepsExchange.{plain_over_laws}
 use Rattle.rtc_run_laws.specs.ChannelUses.{ChannelUse, announced_use, uses_told}
 use Rattle.rtc_run_laws.specs.UsesOfRuns.{uses_written}
-use Rattle.rtc_run_laws.proofs.RestedSides.{RestsSide, rests_got, rests_kept, rests_more, rests_same, rests_sent}
+use Rattle.rtc_run_laws.proofs.RestedSides.{GoesOn, RestsSide, rests_got, rests_kept, rests_more, rests_same, rests_sent}
 use Rattle.rtc_run_laws.proofs.RowLemmas.{closed_stays}
 use Rattle.rtc_run_laws.proofs.OpenedRests.{opened_rests}
-use Rattle.rtc_run_laws.proofs.ShutRows.{ShutGoes, rows_shut}
+use Rattle.rtc_run_laws.proofs.ShutRows.{rows_shut}
+use Rattle.rtc_run_laws.proofs.UnestablishedRows.{rows_unestablish}
 use Rattle.rtc_run_laws.proofs.SidesTold.{SideTold}
 use Rattle.rtc_run_laws.proofs.StepRows.{poll_rows}
 
@@ -48,9 +49,13 @@ module _ {N : Type 0} (draws : Draws N) where
   -- by the changes of channels and of their entries
   pub goes_by : (p next : PlainPolled N)
       → (next.core.phase ≡ Closed) ⊎ RowsChanged plain_meaning p.core.channels p.core.sctp next.core.channels next.core.sctp
-      → (next.core.phase ≡ Closed) ⊎ ((s : ℕ) → ShutGoes s p.core.sctp next.core.sctp)
+      → (next.core.phase ≡ Closed) ⊎ GoesOn p next
   goes_by p next (inl closed) = inl closed
-  goes_by p next (inr changed) = inr (λ s. rows_shut s p.core.channels p.core.sctp next.core.channels next.core.sctp changed)
+  goes_by p next (inr changed) =
+      inr (
+        (λ s. rows_shut s p.core.channels p.core.sctp next.core.channels next.core.sctp changed),
+        rows_unestablish p.core.channels p.core.sctp next.core.channels next.core.sctp changed,
+      )
 
   -- a poll that is not known to have ended in a timeout
   pub poll_rests : (p : PlainPolled N) (answer : Result (Output PlainMediaEvent) RtcError) (next : PlainPolled N) (uses : List ChannelUse)

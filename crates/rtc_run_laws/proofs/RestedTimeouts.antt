@@ -1,4 +1,4 @@
--- A side of which a poll ended in a timeout, with its association established, rests: what stands unread is of streams that are shut.
+-- A side of which a poll ended in a timeout rests: what stands unread is of streams that are shut, or no channel is announced in-band.
 use Rattle.std.proofs.Common.{◌≡◌, ◌∙◌, ◌+◌, ◌&&◌, ◌∷◌, ℕ, Bool, true, false, true≢false, List, [], length, Option, Some, None, Ok, inl, inr, refl, sym, ap, subst, arith}
 use Rattle.std.specs.Prelude.{is_some}
 use Rattle.rtc_part_association.specs.AssociationActs.{AssociationAct, Moved}
@@ -10,13 +10,12 @@ use Rattle.rtc_plain_dtls.specs.declared.output.Output.{Output}
 use Rattle.rtc_plain_dtls.specs.Contents.{DtlsContents, fresh_dtls, phase_is_finished}
 use Rattle.rtc_plain_dtls.specs.PlainLaws.{plain_dtls_laws}
 use Rattle.rtc_plain_dtls.specs.PlainMeaning.{plain_dtls}
-use Rattle.rtc_assoc_state.specs.Contents.{Contents, fresh_contents, generation_of, has_stream, has_unread}
+use Rattle.rtc_assoc_state.specs.Contents.{Contents, fresh_contents, generation_of, has_stream, has_unread, is_started}
 use Rattle.rtc_assoc_state.specs.PlainMeaning.{plain_meaning}
 use Rattle.rtc_assoc_state.proofs.PlainLaws.{plain_laws}
 use Rattle.rtc_part_values.specs.Draws.{Draws}
 use Rattle.rtc_sctp_entries.specs.declared.stream_entry.StreamEntry.{StreamEntry}
 use Rattle.rtc_sctp.specs.Streams.{is_established}
-use Rattle.rtc_sctp_laws.specs.RunningStreams.{AreRunning}
 use Rattle.rtc_sctp_laws.proofs.BackedRows.{plain_sound, plain_unread}
 use Rattle.rtc_sctp_laws.proofs.KnownStreams.{IsBackedBy, moved_backed}
 use Rattle.rtc_sctp_laws.proofs.PlainGenerations.{plain_generations}
@@ -37,19 +36,20 @@ use Rattle.rtc_run_history.specs.declared.side.Side.{Side}
 use Rattle.rtc_run_history.specs.declared.side.Side.TheVariants.{Left, Right}
 use Rattle.rtc_run_laws.specs.ChannelUses.{ChannelUse}
 use Rattle.rtc_run_laws.specs.PlainPairs.{PlainPolled, plain_over}
-use Rattle.rtc_run_laws.proofs.SilentEnds.{AreSilent}
+use Rattle.rtc_run_laws.proofs.EventEnds.{AreEvents}
+use Rattle.rtc_run_laws.proofs.FreshSides.{IsFresh, IsReady, SideFresh}
 use Rattle.rtc_run_laws.proofs.ClosingLevels.{Level}
 use Rattle.rtc_run_laws.proofs.ClosingMoves.{level_run}
 use Rattle.rtc_run_laws.proofs.FinishedSides.{none_among}
 use Rattle.rtc_run_laws.proofs.QuietActs.{HoldsNoOutput, quiet_moved}
-use Rattle.rtc_run_laws.proofs.RestedSides.{RestsSide, RestsStream, RestsUse, RestsUses}
-use Rattle.rtc_run_laws.proofs.ShutEntries.{AreShut, IsShutEntry}
+use Rattle.rtc_run_laws.proofs.RestedSides.{IsWaiting, RestsSide, RestsStream, RestsUse, RestsUses}
+use Rattle.rtc_run_laws.proofs.ShutEntries.{AreShut, IsShutEntry, ReadsNothing}
 use Rattle.rtc_run_laws.proofs.StandingExchange.{ExchangeBy}
 use Rattle.rtc_run_laws.proofs.StandingSides.{SideStood}
 use Rattle.rtc_run_laws.proofs.StepsExchange.{plain_over_laws}
 use Rattle.rtc_run_laws.proofs.TimeoutSides.{use_heard, waits_none}
+use Rattle.rtc_run_laws.proofs.UnestablishedPolls.{TellsOther}
 use Rattle.rtc_run_laws.proofs.UnfinishedParts.{unfinished_got}
-use Rattle.rtc_run_laws.proofs.UnusedStreams.{IsUnused}
 use Rattle.rtc_run_laws.proofs.UseLists.{all_kept}
 use Rattle.rtc_run_laws.proofs.UsesTold.{InBandTold}
 
@@ -85,9 +85,9 @@ shut_entries a s (x ∷ es) h e = ((λ own. by own h.0), shut_entries a s es h.1
     by own (inr heard) =
         absurd (true≢false (sym e ∙ ap (λ (n : ℕ). has_unread a n (generation_of a n)) (sym own) ∙ heard.2))
 
-no_events : (events : List AssocEvent) (n : ℕ) → length events + n ≡ 0 → AreSilent events
-no_events [] n h = tt
-no_events (e ∷ events) n h = absurd (omega (arith, h))
+no_events : (ok : AssocEvent → Type 0) (events : List AssocEvent) (n : ℕ) → length events + n ≡ 0 → AreEvents ok events
+no_events ok [] n h = tt
+no_events ok (e ∷ events) n h = absurd (omega (arith, h))
 
 -- ---- the connection
 
@@ -117,13 +117,19 @@ exchange_sound Right a b sent others p q x =
 -- ---- sides
 
 module _ {N : Type 0} (draws : Draws N) where
-  module _ (p q : PlainPolled N) (moment : ℕ) (acts : PeerActs) (uses : List ChannelUse)
-      (polled : PollsPeer (plain_over draws) p (Ok (Timeout moment)) q) (unused : IsUnused (plain_over draws) (plain_over_laws draws) q.core)
-      (side : SideStood draws acts uses q) (running : AreRunning plain_meaning q.core.sctp) (ok : plain_sound q.core.sctp.association)
-      (live : q.core.phase ≡ Closed → ⊥) where
-    active : is_some q.core.dtls.active ≡ true
-    active = unused.role running.0
+  -- over a connection of which the handshake is not finished nothing came
+  pub unfinished_unread : (acts : PeerActs) (uses : List ChannelUse) (q : PlainPolled N) → SideStood draws acts uses q
+      → phase_is_finished q.core.dtls.instance.phase ≡ false → (s g : ℕ) → has_unread q.core.sctp.association s g ≡ false
+  unfinished_unread acts uses q side unfinished s g =
+      no_unread acts.association q.core.sctp.association side.went
+      (none_among (given acts.association) (dtls_got acts.dtls) side.handed
+      ((unfinished_got acts.dtls fresh_dtls q.core.dtls.instance side.dtls unfinished).1 tt))
+      s g
 
+  module _ (p q : PlainPolled N) (moment : ℕ) (acts : PeerActs) (uses : List ChannelUse)
+      (polled : PollsPeer (plain_over draws) p (Ok (Timeout moment)) q) (side : SideStood draws acts uses q)
+      (ok : plain_sound q.core.sctp.association) (live : q.core.phase ≡ Closed → ⊥)
+      (finished : phase_is_finished q.core.dtls.instance.phase ≡ true) (active : is_some q.core.dtls.active ≡ true) (fresh : IsFresh q.core.sctp) where
     quiet_by : Ends (plain_over draws) moment q → HoldsNoOutput q.core.dtls.instance
     quiet_by (AtRest closed is reason) = absurd (live closed)
     quiet_by (Waiting last v visit alive unclosed is same) =
@@ -145,22 +151,31 @@ module _ {N : Type 0} (draws : Draws N) where
     ends : Ends (plain_over draws) moment q
     ends = poll_ends (plain_over draws) p.core.phase moment p q refl polled
 
-    -- over a connection by which application data can go
-    over_finished : phase_is_finished q.core.dtls.instance.phase ≡ true → RestsUses uses q
-    over_finished finished =
+    all : AllHeard plain_meaning q.core.sctp
+    all =
+        timeout_heard (plain_over draws) (plain_over_laws draws) p q moment polled live
+        (none_by ends (both_are (is_some q.core.dtls.active) (phase_is_finished q.core.dtls.instance.phase) active finished))
+
+    -- before a start nothing came
+    unstarted_rests : is_started q.core.sctp.association ≡ false → RestsUses uses q
+    unstarted_rests unstarted = record {
+      quiet = quiet_by ends;
+      streams = λ s. inl (fresh unstarted s (generation_of q.core.sctp.association s));
+      each = all_kept (InBandTold (plain_over draws) side.written side.read q) (RestsUse q) uses
+          (λ x t. λ band s of. inr (fresh unstarted s (generation_of q.core.sctp.association s))) side.told.each;
+    }
+
+    -- over an association that is established
+    established_rests : is_started q.core.sctp.association ≡ true → is_established q.core.sctp.state ≡ true → RestsUses uses q
+    established_rests started established =
         record {
           quiet = quiet_by ends;
           streams = λ s. on s (has_unread q.core.sctp.association s (generation_of q.core.sctp.association s)) refl;
           each = all_kept (InBandTold (plain_over draws) side.written side.read q) (RestsUse q) uses told side.told.each;
         }
       where
-        all : AllHeard plain_meaning q.core.sctp
-        all =
-            timeout_heard (plain_over draws) (plain_over_laws draws) p q moment polled live
-            (none_by ends (both_are (is_some q.core.dtls.active) (phase_is_finished q.core.dtls.instance.phase) active finished))
-
         are : AreHeard plain_meaning q.core.sctp.association q.core.sctp.entries
-        are = all.streams (both_are (is_established q.core.sctp.state) (plain_meaning.started q.core.sctp.association) running.1 running.0)
+        are = all.streams (both_are (is_established q.core.sctp.state) (plain_meaning.started q.core.sctp.association) established started)
 
         on : (s : ℕ) (b : Bool) → has_unread q.core.sctp.association s (generation_of q.core.sctp.association s) ≡ b → RestsStream s q
         on s false e = inl e
@@ -168,7 +183,7 @@ module _ {N : Type 0} (draws : Draws N) where
             inr (
               (
                 unread_there acts.association q.core.sctp.association side.went ok s e,
-                no_events q.core.sctp.association.events (length q.core.sctp.association.packets) (all.quiet running.0),
+                no_events ReadsNothing q.core.sctp.association.events (length q.core.sctp.association.packets) (all.quiet started),
               ),
               shut_entries q.core.sctp.association s q.core.sctp.entries are e,
             )
@@ -176,36 +191,34 @@ module _ {N : Type 0} (draws : Draws N) where
         told : (x : ChannelUse) → InBandTold (plain_over draws) side.written side.read q x → RestsUse q x
         told x t = λ band s of. use_heard draws side.written side.read q x s of are live (t band)
 
-    -- over another one nothing came
-    over_unfinished : phase_is_finished q.core.dtls.instance.phase ≡ false → RestsUses uses q
-    over_unfinished unfinished =
-        record {
-          quiet = quiet_by ends;
-          streams = λ s. inl (nothing s (generation_of q.core.sctp.association s));
-          each = all_kept (InBandTold (plain_over draws) side.written side.read q) (RestsUse q) uses (λ x t. λ band s of. inr (nothing s (generation_of q.core.sctp.association s)))
-              side.told.each;
-        }
+    -- by whether the association is started, and established
+    finished_rests : IsWaiting q ⊎ RestsUses uses q
+    finished_rests = by (is_started q.core.sctp.association) refl (is_established q.core.sctp.state) refl
       where
-        nothing : (s g : ℕ) → has_unread q.core.sctp.association s g ≡ false
-        nothing s g =
-            no_unread acts.association q.core.sctp.association side.went
-            (none_among (given acts.association) (dtls_got acts.dtls) side.handed
-            ((unfinished_got acts.dtls fresh_dtls q.core.dtls.instance side.dtls unfinished).1 tt))
-            s g
-
-    waited : RestsUses uses q
-    waited = by (phase_is_finished q.core.dtls.instance.phase) refl
-      where
-        by : (b : Bool) → phase_is_finished q.core.dtls.instance.phase ≡ b → RestsUses uses q
-        by true e = over_finished e
-        by false e = over_unfinished e
+        by : (started : Bool) → is_started q.core.sctp.association ≡ started → (established : Bool) → is_established q.core.sctp.state ≡ established
+            → IsWaiting q ⊎ RestsUses uses q
+        by false e established k = inr (unstarted_rests e)
+        by true e true k = inr (established_rests e k)
+        by true e false k =
+            inl
+            (inr
+            (record {
+              quiet = quiet_by ends;
+              started = e;
+              waits = (k, no_events TellsOther q.core.sctp.association.events (length q.core.sctp.association.packets) (all.quiet e));
+            }))
 
   pub rests_timeout : (p q : PlainPolled N) (moment : ℕ) (acts : PeerActs) (uses : List ChannelUse)
-      → PollsPeer (plain_over draws) p (Ok (Timeout moment)) q → IsUnused (plain_over draws) (plain_over_laws draws) q.core → SideStood draws acts uses q
-      → AreRunning plain_meaning q.core.sctp → plain_sound q.core.sctp.association → RestsSide uses q
-  rests_timeout p q moment acts uses polled unused side running ok = by q.core.phase refl
+      → PollsPeer (plain_over draws) p (Ok (Timeout moment)) q → IsReady q → SideStood draws acts uses q → plain_sound q.core.sctp.association
+      → RestsSide uses q
+  rests_timeout p q moment acts uses polled ready side ok = by q.core.phase refl
     where
+      waited : (live : q.core.phase ≡ Closed → ⊥) → SideFresh q → (b : Bool) → phase_is_finished q.core.dtls.instance.phase ≡ b → RestsSide uses q
+      waited live (inl closed) b e = inl closed
+      waited live (inr fresh) true e = inr (finished_rests p q moment acts uses polled side ok live e (ready.active e) fresh)
+      waited live (inr fresh) false e = inr (inl (inl e))
+
       by : (phase : Phase) → q.core.phase ≡ phase → RestsSide uses q
       by Closed e = inl e
-      by Alive e = inr (waited p q moment acts uses polled unused side running ok (λ closed. let clash : Alive ≡ Closed = sym e ∙ closed in cc))
-      by Closing e = inr (waited p q moment acts uses polled unused side running ok (λ closed. let clash : Closing ≡ Closed = sym e ∙ closed in cc))
+      by Alive e = waited (λ closed. let clash : Alive ≡ Closed = sym e ∙ closed in cc) ready.fresh (phase_is_finished q.core.dtls.instance.phase) refl
+      by Closing e = waited (λ closed. let clash : Closing ≡ Closed = sym e ∙ closed in cc) ready.fresh (phase_is_finished q.core.dtls.instance.phase) refl

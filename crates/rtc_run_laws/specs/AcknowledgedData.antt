@@ -59,13 +59,13 @@ AreAcknowledged draws uses sent p =
 
 -- If both sides announced a channel over the same generation and neither closed it, the reader's channel is open and was drained, and the
 -- last message that the writer sent over its own is not empty, then a buffered amount of 0 says that the reader got all that was sent.
-abbrev pub AreDeliveredByAmount : {N : Type 0} → Draws N → (drained : ℕ → Type 0) → (readers : List ChannelUse) → PlainPolled N
+abbrev pub AreDeliveredByAmount : {N : Type 0} → Draws N → (drained : Type 0) → (readers : List ChannelUse) → PlainPolled N
     → (writers : List ChannelUse) → PlainPolled N → Type 0
 AreDeliveredByAmount draws drained readers p writers q =
     (x y : ChannelUse)
     → Member x readers
     → Member y writers
-    → drained x.channel
+    → drained
     → (h : AreDelivering x p y q)
     → ends_with_bytes y.sent ≡ true
     → bytes_buffered (plain_over draws) h.writer.stream q ≡ 0

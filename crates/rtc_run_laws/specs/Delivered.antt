@@ -26,14 +26,14 @@ pub record AreDelivering {N : Type 0} (x : ChannelUse) (p : PlainPolled N) (y : 
   pub stream_is : x.stream ≡ y.stream
   pub generation_is : x.generation ≡ y.generation
 
--- if, besides, the reader was drained for its channel, and the writer has no unacknowledged item of the stream, all was got that was sent
-abbrev pub AreAllDelivered : {N : Type 0} → (drained : ℕ → Type 0) → (readers : List ChannelUse) → PlainPolled N
+-- if, besides, the reader was drained, and the writer has no unacknowledged item of the stream, all was got that was sent
+abbrev pub AreAllDelivered : {N : Type 0} → (drained : Type 0) → (readers : List ChannelUse) → PlainPolled N
     → (writers : List ChannelUse) → PlainPolled N → Type 0
 AreAllDelivered drained readers p writers q =
     (x y : ChannelUse)
     → Member x readers
     → Member y writers
-    → drained x.channel
+    → drained
     → (h : AreDelivering x p y q)
     → has_unacknowledged h.writer.stream q.core.sctp.association.outbox.items ≡ false
     → x.got ≡ y.sent

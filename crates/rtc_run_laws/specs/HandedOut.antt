@@ -16,10 +16,9 @@ use Rattle.rtc_run_laws.specs.PlainPairs.{PlainPair, PlainPolled, plain_over}
 use Rattle.rtc_run_laws.specs.AnnouncedOnce.{AreAnnouncedOnce}
 use Rattle.rtc_run_laws.specs.ChannelUses.{ChannelUse}
 use Rattle.rtc_run_laws.specs.Delivered.{AreAllDelivered}
-use Rattle.rtc_run_laws.specs.DrainedSides.{IsDrained}
 use Rattle.rtc_run_laws.specs.InBandSteps.{AreInBandSteps}
 use Rattle.rtc_run_laws.specs.OpenUses.{AreJoinedUses}
-use Rattle.rtc_run_laws.specs.RunningDrains.{IsDrainedRunning}
+use Rattle.rtc_run_laws.specs.SideDrains.{IsSideDrained}
 use Rattle.rtc_run_laws.specs.SentMessages.{sent_over}
 use Rattle.rtc_run_laws.specs.ToldMessages.{MessagesTold, told_over}
 use Rattle.rtc_run_laws.specs.Unannounced.{AreGotOfAnnounced, AreToldOfAnnounced, AreToldOfSent, HaveNumbersLeft}
@@ -128,17 +127,11 @@ pub record HandsOut {N : Type 0} (draws : Draws N) (stun : List ℕ → Bool) (s
       → AreWhollyHandedOut draws (uses_in_run (plain_over draws) stun start steps replies pair run at) (rtc_at at pair)
       (uses_in_run (plain_over draws) stun start steps replies pair run (other_side at)) (rtc_at (other_side at) pair)
   pub drained : (at : Side)
-      → AreAllHandedOut draws (λ channel. IsDrained at channel run.past)
+      → AreAllHandedOut draws (λ channel. IsSideDrained at run.past)
       (uses_in_run (plain_over draws) stun start steps replies pair run at) (rtc_at at pair)
       (uses_in_run (plain_over draws) stun start steps replies pair run (other_side at)) (rtc_at (other_side at) pair)
   pub delivered : (at : Side)
-      → AreAllDelivered (λ channel. IsDrained at channel run.past)
-      (uses_in_run (plain_over draws) stun start steps replies pair run at) (rtc_at at pair)
-      (uses_in_run (plain_over draws) stun start steps replies pair run (other_side at)) (rtc_at (other_side at) pair)
-  pub rested : (at : Side)
-      → AreAllDelivered
-      (λ channel. IsDrainedRunning (plain_over draws) stun start at run.past pair
-      (reached_by (plain_over draws) stun start run.past pair run.went))
+      → AreAllDelivered (IsSideDrained at run.past)
       (uses_in_run (plain_over draws) stun start steps replies pair run at) (rtc_at at pair)
       (uses_in_run (plain_over draws) stun start steps replies pair run (other_side at)) (rtc_at (other_side at) pair)
   pub unsent : (at : Side)

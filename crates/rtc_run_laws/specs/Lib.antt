@@ -25,4 +25,4 @@ pub mod Delivered
 pub mod Drains
 pub mod Crossed
 pub mod Taken
-pub mod RunningDrains
+pub mod SideDrains

@@ -10,7 +10,7 @@ ghost use Rattle.rtc_run_history.specs.Native.{are_native};
 ghost use Rattle.rtc_run_history.specs.Runs.{Reached, Runs};
 ghost use Rattle.rtc_run_history.specs.Sides.{other_side};
 ghost use Rattle.rtc_run_laws.specs.AcknowledgedData.{AcknowledgesData, AreAcknowledged, AreDeliveredByAmount};
-ghost use Rattle.rtc_run_laws.specs.DrainedSides.{IsDrained};
+ghost use Rattle.rtc_run_laws.specs.SideDrains.{IsSideDrained};
 ghost use Rattle.rtc_run_laws.specs.NewPairs.{IsNewPair};
 ghost use Rattle.rtc_run_laws.specs.PlainPairs.{PlainPair, plain_over};
 ghost use Rattle.rtc_run_laws.specs.SentMessages.{sent_over};
@@ -22,8 +22,8 @@ use rtc_part_values::Ids;
 /// that was sent to it not be empty. If the channel's buffered amount is 0, nothing that was sent over it is
 /// unacknowledged. An empty message counts 0.
 ///
-/// If, besides, the other side announced a channel over the same generation, which is open and was drained, and neither side closed the
-/// generation, what this one received is all that was sent over that of the writer, if no rollback removed it.
+/// If, besides, the other side announced a channel over the same generation, which is open, a poll of it returned a timeout since its last
+/// input, and neither side closed the generation, it received all that was sent over that of the writer, if no rollback removed it.
 ///
 /// No step brings in a text or bytes of anybody.
 pub fn sent_messages_are_acknowledged<N: Ids>()
@@ -33,7 +33,7 @@ pub fn sent_messages_are_acknowledged<N: Ids>()
         (sent_over (plain_over N.ids) stun start at past pair ran) (rtc_at at pair) }
     ensures delivered { (stun : List ℕ → Bool) (start pair : PlainPair N) (past : List (Entry PlainMediaEvent)) → IsNewPair N.ids start
         → are_native (steps_of past) ≡ true → (ran : Reached (plain_over N.ids) stun start past pair) → (at : Side)
-        → AreDeliveredByAmount N.ids (λ channel. IsDrained at channel past)
+        → AreDeliveredByAmount N.ids (IsSideDrained at past)
         (uses_of (plain_over N.ids) stun start at past pair ran) (rtc_at at pair)
         (uses_of (plain_over N.ids) stun start (other_side at) past pair ran) (rtc_at (other_side at) pair) }
     ensures ran { (stun : List ℕ → Bool) (start pair : PlainPair N) (steps : List Step) (replies : List (Reply PlainMediaEvent))

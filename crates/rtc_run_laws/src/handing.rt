@@ -13,10 +13,9 @@ ghost use Rattle.rtc_run_laws.specs.NewPairs.{IsNewPair};
 ghost use Rattle.rtc_run_laws.specs.PlainPairs.{PlainPair, plain_over};
 ghost use Rattle.rtc_run_laws.specs.AnnouncedOnce.{AreAnnouncedOnce};
 ghost use Rattle.rtc_run_laws.specs.Delivered.{AreAllDelivered};
-ghost use Rattle.rtc_run_laws.specs.DrainedSides.{IsDrained};
 ghost use Rattle.rtc_run_laws.specs.HandedOut.{AreAllHandedOut, AreHandedOut, AreHandedOver, AreSentWhole, AreToldWhole};
 ghost use Rattle.rtc_run_laws.specs.HandedOut.{AreWhollyHandedOut, HandsOut};
-ghost use Rattle.rtc_run_laws.specs.RunningDrains.{IsDrainedRunning};
+ghost use Rattle.rtc_run_laws.specs.SideDrains.{IsSideDrained};
 ghost use Rattle.rtc_run_laws.specs.SentMessages.{sent_over};
 ghost use Rattle.rtc_run_laws.specs.ToldMessages.{told_over};
 ghost use Rattle.rtc_run_laws.specs.UsesOfRuns.{uses_of};
@@ -31,8 +30,7 @@ use rtc_part_values::Ids;
 ///   it of that generation, and a prefix of all that the other sent to that generation, by whatever channel. If no rollback removed that
 ///   of the other, it is a prefix of what the other sent over its own.
 /// - It is all of that if neither side closed the generation, the writer has no unacknowledged item of the stream, and the channel of the
-///   reader is open and was drained: since the last input a poll returned a timeout, after the channel was announced or with the
-///   association of the reader established.
+///   reader is open and its side was drained: a poll of it returned a timeout since its last input.
 /// - So it is if both channels stay open, all is acknowledged, and the reader has no whole message of the generation unread.
 ///
 /// A rollback removes the channels of its offer, also one whose stream was negotiated out-of-band and which the other side opened in-band
@@ -67,17 +65,12 @@ pub fn channels_hand_out_prefixes<N: Ids>()
         (uses_of (plain_over N.ids) stun start (other_side at) past pair ran) (rtc_at (other_side at) pair) }
     ensures drained { (stun : List ℕ → Bool) (start pair : PlainPair N) (past : List (Entry PlainMediaEvent)) → IsNewPair N.ids start
         → are_native (steps_of past) ≡ true → (ran : Reached (plain_over N.ids) stun start past pair) → (at : Side)
-        → AreAllHandedOut N.ids (λ channel. IsDrained at channel past)
+        → AreAllHandedOut N.ids (λ channel. IsSideDrained at past)
         (uses_of (plain_over N.ids) stun start at past pair ran) (rtc_at at pair)
         (uses_of (plain_over N.ids) stun start (other_side at) past pair ran) (rtc_at (other_side at) pair) }
     ensures delivered { (stun : List ℕ → Bool) (start pair : PlainPair N) (past : List (Entry PlainMediaEvent)) → IsNewPair N.ids start
         → are_native (steps_of past) ≡ true → (ran : Reached (plain_over N.ids) stun start past pair) → (at : Side)
-        → AreAllDelivered (λ channel. IsDrained at channel past) (uses_of (plain_over N.ids) stun start at past pair ran) (rtc_at at pair)
-        (uses_of (plain_over N.ids) stun start (other_side at) past pair ran) (rtc_at (other_side at) pair) }
-    ensures rested { (stun : List ℕ → Bool) (start pair : PlainPair N) (past : List (Entry PlainMediaEvent)) → IsNewPair N.ids start
-        → are_native (steps_of past) ≡ true → (ran : Reached (plain_over N.ids) stun start past pair) → (at : Side)
-        → AreAllDelivered (λ channel. IsDrainedRunning (plain_over N.ids) stun start at past pair ran)
-        (uses_of (plain_over N.ids) stun start at past pair ran) (rtc_at at pair)
+        → AreAllDelivered (IsSideDrained at past) (uses_of (plain_over N.ids) stun start at past pair ran) (rtc_at at pair)
         (uses_of (plain_over N.ids) stun start (other_side at) past pair ran) (rtc_at (other_side at) pair) }
     ensures ran { (stun : List ℕ → Bool) (start pair : PlainPair N) (steps : List Step) (replies : List (Reply PlainMediaEvent))
         → IsNewPair N.ids start → are_native steps ≡ true → (run : Runs (plain_over N.ids) stun start steps replies pair)

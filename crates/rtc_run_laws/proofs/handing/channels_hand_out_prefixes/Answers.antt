@@ -2,10 +2,8 @@ use Rattle.rtc_run_laws.specs.PlainPairs.{plain_over}
 use Rattle.rtc_run_laws.specs.SentMessages.{sent_over}
 use Rattle.rtc_run_laws.specs.ToldMessages.{told_over}
 use Rattle.rtc_run_laws.specs.UsesOfRuns.{uses_of}
-use Rattle.rtc_run_laws.proofs.Delivered.{run_delivered}
-use Rattle.rtc_run_laws.proofs.DrainedRuns.{new_unused, pair_drained}
 use Rattle.rtc_run_laws.proofs.HandsRuns.{run_hands_out}
-use Rattle.rtc_run_laws.proofs.RestedRuns.{run_rested}
+use Rattle.rtc_run_laws.proofs.RestedRuns.{run_delivered, run_drained}
 use Rattle.rtc_run_laws.proofs.RunsTold.{new_pair_told, pair_handed, pair_handed_over, pair_once, pair_told_whole, pair_whole, pair_wholly, reached_told}
 use Rattle.rtc_run_laws.proofs.handing.channels_hand_out_prefixes.Goals as goal
 
@@ -53,13 +51,10 @@ returns-clause-all g c = λ stun start pair past new go ran at.
 
 pub returns-clause-drained : goal.returns-clause-drained
 returns-clause-drained g c = λ stun start pair past new go ran at.
-    pair_drained g.N.Ids.ids stun start past pair go ran (new_pair_told g.N.Ids.ids start new) (new_unused g.N.Ids.ids start new) at
+    run_drained g.N.Ids.ids stun start new past pair go ran at
 
 pub returns-clause-delivered : goal.returns-clause-delivered
 returns-clause-delivered g c = λ stun start pair past new go ran at. run_delivered g.N.Ids.ids stun start new past pair go ran at
-
-pub returns-clause-rested : goal.returns-clause-rested
-returns-clause-rested g c = λ stun start pair past new go ran at. run_rested g.N.Ids.ids stun start new past pair go ran at
 
 pub returns-clause-ran : goal.returns-clause-ran
 returns-clause-ran g c = λ stun start pair steps replies new go run. run_hands_out g.N.Ids.ids stun start pair steps replies new go run
