@@ -239,7 +239,7 @@ module _ {I D S M E X T W N : Type 0} (m : Meanings I D S M E X T W N) where
   over_told (ChannelData message) q uses s own h = over_got s own message.id (message.binary, message.bytes) uses h
   over_told event q uses s own h = h
 
-  over_answered : (answer : Result (Output E) RtcError) (q : PolledPeer I D S M N) (uses : List ChannelUse) (s : ℕ) (own : Option ℕ)
+  pub over_answered : (answer : Result (Output E) RtcError) (q : PolledPeer I D S M N) (uses : List ChannelUse) (s : ℕ) (own : Option ℕ)
       → HasUseOver s own uses → HasUseOver s own (uses_answered answer q uses)
   over_answered (Ok (outputs.Event event)) q uses s own h = over_told event q uses s own h
   over_answered (Ok (outputs.Transmit transmit)) q uses s own h = h

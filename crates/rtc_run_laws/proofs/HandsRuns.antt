@@ -45,6 +45,5 @@ module _ {N : Type 0} (draws : Draws N) where
         unsent = λ at. run_told_sent draws stun start new run.past pair go ran at;
         unannounced = λ none banded numbers at.
             run_told draws stun start new run.past pair go ran none (subst (λ (l : List Step). AreInBandSteps l) (sym run.steps_are) banded) numbers at;
-        silent = λ none banded numbers at.
-            run_got draws stun start new run.past pair go ran none (subst (λ (l : List Step). AreInBandSteps l) (sym run.steps_are) banded) numbers at;
+        silent = λ numbers at. run_got draws stun start new run.past pair go ran numbers at;
       }

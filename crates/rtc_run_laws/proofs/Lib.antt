@@ -134,6 +134,8 @@ mod RowLemmas
 pub mod UsesTold
 mod RolledUses
 mod AnnouncedStreams
+mod BehindOpenings
+mod BehindSides
 mod UsesPolled
 mod UsesOpened
 mod OpenedAnew

@@ -1,5 +1,5 @@
 -- Runs keep what holds of the channels that both sides announced, and what one channel hands out was sent over the other.
-use Rattle.std.proofs.Common.{◌≡◌, ◌∙◌, ◌∷◌, if◌then◌else◌, ℕ, Bool, true, List, [], Some, inr, refl, sym, ap, subst}
+use Rattle.std.proofs.Common.{◌≡◌, ◌∙◌, ◌∷◌, if◌then◌else◌, ℕ, Bool, true, List, [], Some, inl, inr, refl, sym, ap, subst}
 use Rattle.rtc_part_values.specs.Among.{Among}
 use Rattle.rtc_part_association.proofs.AmongLemmas.{among_none}
 use Rattle.rtc_part_dtls.specs.DtlsWords.{dtls_got}
@@ -123,6 +123,7 @@ module _ {N : Type 0} (draws : Draws N) where
         each = tt;
         once = tt;
         announced = inr (λ s own k. absurd (subst (λ (es : List StreamEntry). HasOpenInBand s own es) entries k));
+        behind = λ s g. inl refl;
       }
 
   pub new_pair_told : (pair : PlainPair N) → IsNewPair draws pair → PairTold pair (λ at. []) (λ at s g. []) (λ at c s g. [])

@@ -4,7 +4,7 @@ use Rattle.rtc_part_association.specs.AssociationLaws.{AssociationLaws}
 use Rattle.rtc_sctp.specs.Calls.{is_nil, written_ppi}
 use Rattle.rtc_sctp_laws.specs.StreamMessages.{StreamMessage, HaveNamedPpis, NamesReadings, stream_message}
 use Rattle.rtc_sctp_laws.specs.GenerationLaws.{GenerationLaws}
-use Rattle.rtc_sctp_laws.proofs.ContentLemmas.{dcep_are_named}
+use Rattle.rtc_sctp_laws.proofs.ContentLemmas.{dcep_are_named, dcep_contents}
 use Rattle.rtc_peer_core.specs.declared.phase.Phase.TheVariants.{Closed}
 use Rattle.rtc_peer_core.specs.declared.rtc_error.RtcError.{RtcError}
 use Rattle.rtc_peer_core.specs.declared.rtc_error.RtcError.TheVariants.{Alloc}
@@ -22,7 +22,8 @@ use Rattle.rtc_peer_laws.specs.PeerActs.{Came}
 use Rattle.rtc_peer_laws.specs.KeptChannels.{CallKeepsStreams, CallLeavesStreams}
 use Rattle.rtc_run_laws.specs.AnnouncedOnce.{AreAnnouncedOnce, IsAnother}
 use Rattle.rtc_run_laws.specs.ChannelUses.{ChannelUse, announced_use, with_rolled_back, with_sent_message}
-use Rattle.rtc_run_laws.proofs.AnnouncedStreams.{AnnouncedUnlessClosed, announced_called, announced_left, announced_polled, over_rolled, over_sent, uses_answered}
+use Rattle.rtc_run_laws.proofs.AnnouncedStreams.{AnnouncedUnlessClosed, announced_called, announced_left, announced_polled, over_answered, over_rolled, over_sent, uses_answered}
+use Rattle.rtc_run_laws.proofs.BehindSides.{AreBehind, behind_on, behind_wrote}
 use Rattle.rtc_run_laws.proofs.OpenedAnew.{once_got, once_more, once_rolled, once_sent, opening_other}
 use Rattle.rtc_run_laws.proofs.RolledUses.{left_told, removed_told}
 use Rattle.rtc_run_laws.proofs.RowLemmas.{closed_stays}
@@ -40,6 +41,7 @@ module _ {I D S M E X T W N : Type 0} (m : Meanings I D S M E X T W N) where
     pub each : AllUses (InBandTold m written read p) uses
     pub once : AreAnnouncedOnce uses
     pub announced : AnnouncedUnlessClosed m uses p
+    pub behind : AreBehind m written uses p
 
   module _ (w : AssociationLaws m.association) (v : GenerationLaws m.association) where
     -- calls but polls
@@ -62,6 +64,7 @@ module _ {I D S M E X T W N : Type 0} (m : Meanings I D S M E X T W N) where
           (λ x told. silent_told m w v p q [] came moments shown did keeps h.numbers written read x refl told) h.each;
       once = h.once;
       announced = announced_called m p q [] uses uses keeps (λ s own k. k) h.announced;
+      behind = behind_on m p q uses uses written [] keeps.given (λ s own k. k) (λ s g. refl) h.behind;
     }
 
     -- an offer is rolled back
@@ -87,6 +90,9 @@ module _ {I D S M E X T W N : Type 0} (m : Meanings I D S M E X T W N) where
       announced =
           announced_left m p q [] uses (with_rolled_back p.core.channels.rows q.core.channels.rows uses) leaves
           (λ s own k. over_rolled s own p.core.channels.rows q.core.channels.rows uses k) h.announced;
+      behind =
+          behind_on m p q uses (with_rolled_back p.core.channels.rows q.core.channels.rows uses) written [] leaves.given
+          (λ s own k. over_rolled s own p.core.channels.rows q.core.channels.rows uses k) (λ s g. refl) h.behind;
     }
 
     -- a message is written
@@ -109,6 +115,7 @@ module _ {I D S M E X T W N : Type 0} (m : Meanings I D S M E X T W N) where
       once = once_sent id (binary, bytes) uses h.once;
       announced =
           announced_called m p q wrote uses (with_sent_message id (binary, bytes) uses) keeps (λ s own k. over_sent s own id (binary, bytes) uses k) h.announced;
+      behind = behind_wrote m w v stream binary bytes p q writes uses written read id wrote is keeps.given free h.used h.announced h.behind;
     }
 
     -- polls
@@ -173,4 +180,7 @@ module _ {I D S M E X T W N : Type 0} (m : Meanings I D S M E X T W N) where
       each = each_polled p answer q h acts uses written read told;
       once = once_polled p answer q h acts uses written read told;
       announced = announced_polled m w v p answer q h acts told.numbers written read told.used uses told.announced;
+      behind =
+          behind_on m p q uses (uses_answered m answer q uses) written acts.wrote acts.streams.given (λ s own k. over_answered m answer q uses s own k)
+          (λ s g. dcep_contents s g acts.wrote acts.dcep) told.behind;
     }

@@ -41,7 +41,7 @@ use Rattle.rtc_run_laws.proofs.StandingSides.{Sent, SideSent}
 use Rattle.rtc_run_laws.proofs.StepRows.{changes_given}
 use Rattle.rtc_run_laws.proofs.StepsExchange.{plain_over_laws}
 use Rattle.rtc_run_laws.specs.Unannounced.{AreGotOfAnnounced, AreGotOfSent, AreSentOfAnnounced, AreToldOfAnnounced, AreToldOfSent, HaveNumbersLeft, IsAnnouncedOver}
-use Rattle.rtc_run_laws.proofs.Silence.{pair_got_sent, pair_told_sent}
+use Rattle.rtc_run_laws.proofs.Silence.{pair_got_over, pair_got_sent, pair_told_sent}
 use Rattle.rtc_run_laws.proofs.SentUses.{IsSentOver, after_step}
 
 -- the last of the steps, and those before
@@ -204,6 +204,14 @@ module _ {N : Type 0} (draws : Draws N) where
         (λ x. told_over (plain_over draws) stun start x past pair ran)
         (reached_told draws stun start past pair go ran (new_pair_told draws start new)) at
 
+    pub run_got : HaveNumbersLeft pair → (at : Side)
+        → AreGotOfAnnounced (uses_of (plain_over draws) stun start (other_side at) past pair ran) (uses_of (plain_over draws) stun start at past pair ran)
+    run_got numbers at = λ x mine band s of.
+        sent_is s x.generation x.got (uses_of (plain_over draws) stun start (other_side at) past pair ran)
+        (pair_got_over draws pair (λ y. uses_of (plain_over draws) stun start y past pair ran) (λ y. sent_over (plain_over draws) stun start y past pair ran)
+        (λ y. told_over (plain_over draws) stun start y past pair ran)
+        (reached_told draws stun start past pair go ran (new_pair_told draws start new)) at (numbers (other_side at)) x mine band s of)
+
     module _ (none : start.sdps ≡ []) (steps : AreInBandSteps (steps_of past)) (numbers : HaveNumbersLeft pair) (at : Side) where
       pub run_told : AreToldOfAnnounced (uses_of (plain_over draws) stun start (other_side at) past pair ran)
           (told_over (plain_over draws) stun start at past pair ran)
@@ -211,10 +219,3 @@ module _ {N : Type 0} (draws : Draws N) where
           told_is s g (sent_over (plain_over draws) stun start (other_side at) past pair ran s g) (told_over (plain_over draws) stun start at past pair ran c s g)
           (uses_of (plain_over draws) stun start (other_side at) past pair ran) (run_told_sent at c s g)
           (run_sent stun start new none past pair go steps ran numbers (other_side at) s g)
-
-      pub run_got : AreGotOfAnnounced (uses_of (plain_over draws) stun start (other_side at) past pair ran)
-          (uses_of (plain_over draws) stun start at past pair ran)
-      run_got = λ x mine band s of.
-          told_is s x.generation (sent_over (plain_over draws) stun start (other_side at) past pair ran s x.generation) x.got
-          (uses_of (plain_over draws) stun start (other_side at) past pair ran) (run_got_sent at x mine band s of)
-          (run_sent stun start new none past pair go steps ran numbers (other_side at) s x.generation)

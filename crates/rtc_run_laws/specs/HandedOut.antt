@@ -102,8 +102,9 @@ AreWhollyHandedOut draws readers p writers q =
 
 -- What channels that were opened in-band hand out in a run by these steps with these replies. Each is announced once, and so is a
 -- generation of a stream, to which its side sent nothing before. What one side got over its channel is a prefix of what the other side sent
--- over its own, and all of it once that was delivered. Nothing is reported of a generation to which the other side sent nothing; nor, if no
--- step added a channel that is negotiated out-of-band, of one over which it announced no channel.
+-- over its own, and all of it once that was delivered; it got nothing if the other side announced no channel over that generation. Nothing
+-- is reported of a generation to which the other side sent nothing; nor, if no step added a channel that is negotiated out-of-band, of one
+-- over which it announced no channel.
 pub record HandsOut {N : Type 0} (draws : Draws N) (stun : List ℕ → Bool) (start : PlainPair N) (steps : List Step)
     (replies : List (Reply PlainMediaEvent)) (pair : PlainPair N) (run : Runs (plain_over draws) stun start steps replies pair)
     : Type 0 where

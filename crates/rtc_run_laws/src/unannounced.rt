@@ -21,9 +21,11 @@ use rtc_part_values::Ids;
 /// stream in a generation to which the other side sent nothing. A channel that was announced in-band over such a
 /// generation received nothing.
 ///
-/// Let no step add a channel that is negotiated out-of-band, and channel numbers be left at the end. Then a side sends to
-/// a generation of a stream only once it announced a channel over it. So nothing is reported of a generation over which
-/// the other side announced none, and nothing was received.
+/// Let channel numbers be left at the end. Then a channel that was announced in-band received nothing if the other side
+/// announced none in-band over the generation of its stream, whatever channels were negotiated out-of-band.
+///
+/// If besides no step adds such a channel, a side sends to a generation of a stream only once it announced a channel over
+/// it. So nothing is reported of a generation over which the other side announced none.
 ///
 /// No step brings in a text or bytes of anybody.
 pub fn unannounced_channels_are_silent<N: Ids>()
@@ -46,8 +48,7 @@ pub fn unannounced_channels_are_silent<N: Ids>()
         → AreToldOfAnnounced (uses_of (plain_over N.ids) stun start (other_side at) past pair ran)
         (told_over (plain_over N.ids) stun start at past pair ran) }
     ensures got { (stun : List ℕ → Bool) (start pair : PlainPair N) (past : List (Entry PlainMediaEvent)) → IsNewPair N.ids start
-        → start.sdps ≡ [] → are_native (steps_of past) ≡ true → AreInBandSteps (steps_of past)
-        → (ran : Reached (plain_over N.ids) stun start past pair) → HaveNumbersLeft pair → (at : Side)
+        → are_native (steps_of past) ≡ true → (ran : Reached (plain_over N.ids) stun start past pair) → HaveNumbersLeft pair → (at : Side)
         → AreGotOfAnnounced (uses_of (plain_over N.ids) stun start (other_side at) past pair ran)
         (uses_of (plain_over N.ids) stun start at past pair ran) }
 {}

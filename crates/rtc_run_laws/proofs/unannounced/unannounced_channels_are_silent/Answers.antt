@@ -15,5 +15,4 @@ returns-clause-told g c = λ stun start pair past new none go steps ran numbers 
     run_told g.N.Ids.ids stun start new past pair go ran none steps numbers at
 
 pub returns-clause-got : goal.returns-clause-got
-returns-clause-got g c = λ stun start pair past new none go steps ran numbers at.
-    run_got g.N.Ids.ids stun start new past pair go ran none steps numbers at
+returns-clause-got g c = λ stun start pair past new go ran numbers at. run_got g.N.Ids.ids stun start new past pair go ran numbers at
