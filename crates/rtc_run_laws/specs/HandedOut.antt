@@ -144,7 +144,6 @@ pub record HandsOut {N : Type 0} (draws : Draws N) (stun : List ℕ → Bool) (s
       → HaveNumbersLeft pair → (at : Side)
       → AreToldOfAnnounced (uses_in_run (plain_over draws) stun start steps replies pair run (other_side at))
       (told_over (plain_over draws) stun start at run.past pair (reached_by (plain_over draws) stun start run.past pair run.went))
-  pub silent : start.sdps ≡ [] → AreInBandSteps steps
-      → HaveNumbersLeft pair → (at : Side)
+  pub silent : HaveNumbersLeft pair → (at : Side)
       → AreGotOfAnnounced (uses_in_run (plain_over draws) stun start steps replies pair run (other_side at))
       (uses_in_run (plain_over draws) stun start steps replies pair run at)
