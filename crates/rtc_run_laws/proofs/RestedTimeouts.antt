@@ -1,5 +1,5 @@
 -- A side of which a poll ended in a timeout rests: what stands unread is of streams that are shut, or no channel is announced in-band.
-use Rattle.std.proofs.Common.{◌≡◌, ◌∙◌, ◌+◌, ◌&&◌, ◌∷◌, ℕ, Bool, true, false, true≢false, List, [], length, Option, Some, None, Ok, inl, inr, refl, sym, ap, subst, arith}
+use Rattle.std.proofs.Common.{◌≡◌, ◌∙◌, ◌⊎◌, ◌+◌, ◌&&◌, ◌∷◌, ℕ, Bool, true, false, true≢false, List, [], length, Option, Some, None, Ok, inl, inr, refl, sym, ap, subst, arith}
 use Rattle.std.specs.Prelude.{is_some}
 use Rattle.rtc_part_association.specs.AssociationActs.{AssociationAct, Moved}
 use Rattle.rtc_part_association.specs.AssociationWords.{given}
