@@ -209,9 +209,8 @@ def channels():
 
     print("| Open channels | Bytes | Instructions | A byte | A packet |\n|---|---|---|---|---|")
     for open_channels in (1, 10, 100, 1_000, 10_000):
-        start = cost(open_channels, 0, 0)
         for size in (1_024, 131_072, 262_144):
-            more = cost(open_channels, 1, size) - start - (cost(1, 0, size) - cost(1, 0, 0))
+            more = cost(open_channels, 1, size) - cost(open_channels, 0, size)
             print(f"| {open_channels:,} | {size:,} | {more:,} | {more / size:.1f} | {more // -(-size // 1034):,} |")
     print("\n| Open channels | A message of 1,024 bytes over each, in turn | A message |\n|---|---|---|")
     for open_channels in (10, 100, 1_000):
