@@ -165,8 +165,10 @@ class Webrtcbin:
         self.ask("set-remote-description", self.describe("answer", text))
 
 
-# Performs the calls of the standard input, a line each.
+# Performs the calls of the standard input, a line each. What the library itself prints is no reply, and goes to the standard error.
 def serve():
+    replies = os.fdopen(os.dup(1), "w")
+    os.dup2(2, 1)
     peer = Webrtcbin()
     for line in sys.stdin:
         name, *rest = json.loads(line)
@@ -176,7 +178,7 @@ def serve():
             said = {"refused": str(error)}
         except ValueError as error:
             said = {"lacks": str(error)}
-        print(json.dumps(said), flush=True)
+        print(json.dumps(said), file=replies, flush=True)
 
 
 if __name__ == "__main__":
