@@ -1,11 +1,13 @@
 #!/usr/bin/env python3
-"""Builds libgondyru, and runs over it the programs of examples/c and examples/python, a whole session with each allocation refused in
-turn, and every call of the Python package. What has no compiler, no valgrind or no pip here is left out, and a line says so.
+"""Builds libgondyru, looks at the frames of its exports, and runs over it the programs of examples/c and examples/python, a whole session
+with each allocation refused in turn, and every call of the Python package. What has no compiler, no objdump, no valgrind or no pip here is
+left out, and a line says so.
 
 usage: tests/c_programs.py
 """
 import importlib.util
 import os
+import re
 import shutil
 import socket
 import subprocess
@@ -14,6 +16,7 @@ import tempfile
 
 TOP = os.path.dirname(os.path.dirname(os.path.abspath(__file__)))
 ARCHIVE = os.path.join(TOP, "crates", "rtc_c", "out", "libgondyru.a")
+SHARED = os.path.join(TOP, "crates", "rtc_c", "out", "libgondyru.so")
 MEGABYTE = 1 << 20
 SECONDS = 300
 WRAPS = ["-Wl,--wrap=malloc", "-Wl,--wrap=realloc", "-Wl,--wrap=free"]
@@ -118,6 +121,29 @@ def check_pip(room):
     yield expect("the installed package", done.stdout.startswith(os.path.realpath(room)) or done.stdout.startswith(room), done.stderr)
 
 
+# Functions in which the probe of a frame of more than a page, which uses r11, stands behind code that wrote r11.
+def probed_late(listing):
+    name, before = "", []
+    for line in listing.splitlines():
+        if line.endswith(">:"):
+            name, before = line, []
+        elif re.search(r"\bmov +%rsp,%r11$", line):
+            if any(re.search(r",%r11[dwb]?$", it) and not re.search(r"\t(cmp|test)", it) for it in before):
+                yield name
+            before = []
+        else:
+            before.append(line)
+
+
+def check_frames():
+    if not shutil.which("objdump"):
+        skip("objdump is not there")
+        return
+    done = run("objdump", "-d", "--no-show-raw-insn", SHARED)
+    late = list(probed_late(done.stdout.decode(errors="replace")))
+    yield expect("the frames of the exports", done.returncode == 0 and b"<gondyru_poll_output>:" in done.stdout and not late, late)
+
+
 def results():
     if not shutil.which("cc") or not shutil.which("ar"):
         skip("no C compiler is there, so that libgondyru is not built")
@@ -126,6 +152,7 @@ def results():
     yield expect("tools/build-c", done.returncode == 0, done.stdout.decode()[-2000:])
     if done.returncode:
         return
+    yield from check_frames()
     with tempfile.TemporaryDirectory() as room:
         yield from check_c(room)
         yield expect("examples/python/chat.py", check_chat())
