@@ -71,7 +71,11 @@ pub extern "C" fn gondyru_copy_channel(
     ensures copied { (status : Status) × (result ≡ code_of status)
         × CopiesChannelOf number slot.old.handle.value status row.old row.new }
 {
-    copy_channel(alloc, slot, number, row).code()
+    // (a copy of the row, which cannot overlap the slot, spares a frame of the size of a peer)
+    let mut copied = *row;
+    let status = copy_channel(alloc, slot, number, &mut copied);
+    *row = copied;
+    status.code()
 }
 
 /// Copies the name of the status of a number into a buffer.
