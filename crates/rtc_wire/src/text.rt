@@ -20,8 +20,8 @@ enum Kept {
     Long(String),
 }
 
-/// A text that a value owns, which takes no memory if it has at most 38 bytes. A contract sees it as the list of its bytes, which are
-/// UTF-8.
+/// A text that a value owns. A copy of at most 38 bytes lies in the value itself and takes no memory; [`Text::new`] keeps its string.
+/// A contract sees it as the list of its bytes, which are UTF-8.
 #[derive(Drop)]
 pub struct Text {
     kept: Kept,
