@@ -1,6 +1,6 @@
 """A model of data channels over plain associations, for tests/connections.py.
 
-It is written from the rules of docs/FORMATS.md and of the READMEs of rtc_assoc_packets, rtc_assoc_end, rtc_sctp_entries, rtc_sctp and
+It is written from the rules of docs/FORMATS.md and of the READMEs of rtc_assoc_state, rtc_assoc_end, rtc_sctp_entries, rtc_sctp and
 rtc_channels, and not from the program. All channels are announced by open messages.
 """
 FAR_FUTURE = 2**64 - 1

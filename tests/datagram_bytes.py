@@ -1,6 +1,6 @@
 """The bytes of datagrams of peers over the parts in memory, for tests/random_scripts.py: what a side sends, and what bytes say.
 
-It is written from the READMEs of rtc_plain_ice, rtc_plain_dtls, rtc_plain_media and rtc_assoc_packets, and from RFC 7983, section 7, with
+It is written from the READMEs of rtc_plain_ice, rtc_plain_dtls, rtc_plain_media and rtc_assoc_state, and from RFC 7983, section 7, with
 the stricter profile of docs/STANDARDS.md, and not from the program.
 """
 from associations import OPENING, Item, Packet

@@ -1,12 +1,12 @@
 -- The acts of one step at an end.
 use Rattle.std.proofs.Common.{ℕ, zero, suc, ◌≡◌, ◌&&◌, not, inl, inr, Bool, true, false, List, [], ◌∷◌, ◌++◌, length, Option, Some, None, Ok, refl, sym, ap, subst, ◌∙◌, append-nil}
 use Rattle.std.specs.Prelude.{slice_get}
-use Rattle.rtc_part_association.specs.declared.ppi.Ppi.{Ppi}
-use Rattle.rtc_part_association.specs.Ppi.{ppi_number}
-use Rattle.rtc_part_values.specs.Why.{Timed, Other}
-use Rattle.rtc_part_values.specs.Among.{Member}
-use Rattle.rtc_part_association.specs.AssociationActs.{AssociationAct, Started, Opened, Wrote as WroteAct, Ended, Given, Taken, Read as ReadAct, Told, Stirred, ByConnect, ByAccept, ConnectRefused, AcceptRefused, OpenRefused, WriteRefused, ReadRefused, EndRefused, Acted, Moved, moved-one}
-use Rattle.rtc_part_association.specs.AssociationWords.{given, taken, written, read, told}
+use Rattle.rtc_parts.specs.declared.ppi.Ppi.{Ppi}
+use Rattle.rtc_parts.specs.Ppi.{ppi_number}
+use Rattle.rtc_parts.specs.Why.{Timed, Other}
+use Rattle.rtc_parts.specs.Among.{Member}
+use Rattle.rtc_parts.specs.AssociationActs.{AssociationAct, Started, Opened, Wrote as WroteAct, Ended, Given, Taken, Read as ReadAct, Told, Stirred, ByConnect, ByAccept, ConnectRefused, AcceptRefused, OpenRefused, WriteRefused, ReadRefused, EndRefused, Acted, Moved, moved-one}
+use Rattle.rtc_parts.specs.AssociationWords.{given, taken, written, read, told}
 use Rattle.rtc_assoc_state.specs.Contents.{Contents, is_started, generation_of}
 use Rattle.rtc_assoc_state.specs.PlainMeaning.{plain_meaning}
 use Rattle.rtc_assoc_state.proofs.PlainLaws.{plain_laws}

@@ -1,15 +1,15 @@
 -- What calls do to the items and messages of an end.
 use Rattle.std.proofs.Common.{ℕ, ◌≡◌, ◌+◌, ◌-◌, ◌≤◌, ◌⊎◌, inl, inr, true, false, List, [], ◌∷◌, ◌++◌, length, drop, Some, refl, sym, ap, subst, ◌∙◌, arith, append-nil}
 use Rattle.std.proofs.lemmas.Bool.Decides.{eqb_tells}
-use Rattle.rtc_part_association.specs.declared.assoc_event.AssocEvent.{AssocEvent}
-use Rattle.rtc_part_association.specs.Ppi.{ppi_number, ppi_of}
-use Rattle.rtc_part_values.specs.Among.{Member}
-use Rattle.rtc_part_values.specs.Why.{Timed, Shut as ShutDown, Other}
-use Rattle.rtc_part_association.specs.AssociationActs.{AssociationAct, Started, Opened, Wrote, Ended, Given, Taken, Read, Told, Stirred}
-use Rattle.rtc_part_association.specs.AssociationWords.{AssociationMessage, written, read, ended}
-use Rattle.rtc_assoc_packets.specs.declared.item.Item.{Item}
-use Rattle.rtc_assoc_packets.specs.Packets.{frame_in}
-use Rattle.rtc_assoc_packets.specs.Pieces.{pieces_of, close_of}
+use Rattle.rtc_parts.specs.declared.assoc_event.AssocEvent.{AssocEvent}
+use Rattle.rtc_parts.specs.Ppi.{ppi_number, ppi_of}
+use Rattle.rtc_parts.specs.Among.{Member}
+use Rattle.rtc_parts.specs.Why.{Timed, Shut as ShutDown, Other}
+use Rattle.rtc_parts.specs.AssociationActs.{AssociationAct, Started, Opened, Wrote, Ended, Given, Taken, Read, Told, Stirred}
+use Rattle.rtc_parts.specs.AssociationWords.{AssociationMessage, written, read, ended}
+use Rattle.rtc_assoc_state.specs.declared.item.Item.{Item}
+use Rattle.rtc_assoc_state.specs.Packets.{frame_in}
+use Rattle.rtc_assoc_state.specs.Pieces.{pieces_of, close_of}
 use Rattle.rtc_assoc_state.specs.declared.message.Message.{Message}
 use Rattle.rtc_assoc_state.specs.declared.close_state.CloseState.TheVariants.{Queued}
 use Rattle.rtc_assoc_state.specs.declared.stream_row.StreamRow.{StreamRow}

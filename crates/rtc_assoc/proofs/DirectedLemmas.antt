@@ -5,13 +5,13 @@ use Rattle.std.proofs.Math.Seq.{drop-drop}
 use Rattle.std.proofs.lemmas.Bool.Decides.{eqb_tells}
 use Rattle.rtc_assoc_state.specs.Outbox.{has_unacknowledged}
 use Rattle.std.proofs.lemmas.Bool.{cases_Bool}
-use Rattle.rtc_part_values.specs.Among.{Member, Among}
-use Rattle.rtc_part_association.specs.AssociationActs.{AssociationAct, Given, Taken}
-use Rattle.rtc_part_association.specs.AssociationWords.{AssociationMessage, given, taken, written, read, ended}
-use Rattle.rtc_part_association.proofs.AmongLemmas.{member-append}
-use Rattle.rtc_part_association.proofs.AssociationLemmas.{taken-append, written-append, read-append, ended-append}
-use Rattle.rtc_assoc_packets.specs.declared.item.Item.{Item}
-use Rattle.rtc_assoc_packets.specs.Packets.{frame_in}
+use Rattle.rtc_parts.specs.Among.{Member, Among}
+use Rattle.rtc_parts.specs.AssociationActs.{AssociationAct, Given, Taken}
+use Rattle.rtc_parts.specs.AssociationWords.{AssociationMessage, given, taken, written, read, ended}
+use Rattle.rtc_parts.proofs.AmongLemmas.{member-append}
+use Rattle.rtc_parts.proofs.AssociationLemmas.{taken-append, written-append, read-append, ended-append}
+use Rattle.rtc_assoc_state.specs.declared.item.Item.{Item}
+use Rattle.rtc_assoc_state.specs.Packets.{frame_in}
 use Rattle.rtc_assoc_state.specs.Contents.{Contents}
 use Rattle.rtc_assoc_state.specs.Says.{SaysPacket}
 use Rattle.rtc_assoc.specs.Unread.{unread, IsPrefix}

@@ -2,12 +2,12 @@
 use Rattle.std.proofs.Common.{ℕ, zero, suc, ◌≡◌, ◌==◌, ◌&&◌, ◌⊎◌, inl, inr, Bool, true, false, cond, List, [], ◌∷◌, ◌++◌, length, take, drop, refl, sym, ap, ◌∙◌, append_assoc}
 use Rattle.std.proofs.lemmas.Bool.Decides.{eqb_tells, leb_tells}
 use Rattle.std.proofs.lemmas.List.{take-append-drop}
-use Rattle.rtc_part_association.specs.AssociationActs.{Wrote}
-use Rattle.rtc_part_association.specs.AssociationWords.{AssociationMessage, written}
-use Rattle.rtc_assoc_packets.specs.declared.item.Item.{Item}
-use Rattle.rtc_assoc_packets.specs.declared.item_part.ItemPart.{ItemPart}
-use Rattle.rtc_assoc_packets.specs.declared.item_part.ItemPart.TheVariants.{More, Last, Close}
-use Rattle.rtc_assoc_packets.specs.Pieces.{piece, pieces_within, pieces_of}
+use Rattle.rtc_parts.specs.AssociationActs.{Wrote}
+use Rattle.rtc_parts.specs.AssociationWords.{AssociationMessage, written}
+use Rattle.rtc_assoc_state.specs.declared.item.Item.{Item}
+use Rattle.rtc_assoc_state.specs.declared.item_part.ItemPart.{ItemPart}
+use Rattle.rtc_assoc_state.specs.declared.item_part.ItemPart.TheVariants.{More, Last, Close}
+use Rattle.rtc_assoc_state.specs.Pieces.{piece, pieces_within, pieces_of}
 
 -- whether a pair of numbers is another
 abbrev pub is_pair : (s g t h : ℕ) → Bool

@@ -1,15 +1,15 @@
 -- Runs of two ends.
 use Rattle.std.proofs.Common.{ℕ, ◌≡◌, ◌+◌, ◌⊎◌, ◌==◌, ◌&&◌, ◌||◌, nat_lt, inl, inr, true, false, List, [], ◌∷◌, ◌++◌, refl, sym, ap, subst, ◌∙◌, append_assoc, append-nil, arith}
 use Rattle.std.proofs.lemmas.Bool.Decides.{nat_tests}
-use Rattle.rtc_part_values.specs.Among.{Member, Among}
-use Rattle.rtc_part_association.specs.declared.assoc_event.AssocEvent.{AssocEvent}
-use Rattle.rtc_part_association.specs.declared.assoc_event.AssocEvent.TheVariants.{Readable}
-use Rattle.rtc_part_association.specs.AssociationEvents.{InOrder}
+use Rattle.rtc_parts.specs.Among.{Member, Among}
+use Rattle.rtc_parts.specs.declared.assoc_event.AssocEvent.{AssocEvent}
+use Rattle.rtc_parts.specs.declared.assoc_event.AssocEvent.TheVariants.{Readable}
+use Rattle.rtc_parts.specs.AssociationEvents.{InOrder}
 use Rattle.rtc_assoc_state.specs.Contents.{is_finished, has_unread}
-use Rattle.rtc_part_association.specs.AssociationActs.{AssociationAct, Given, Moved, moved-append}
-use Rattle.rtc_part_association.specs.AssociationWords.{given, taken, ended, told, completions}
-use Rattle.rtc_part_association.proofs.AssociationLemmas.{taken-append, completed, adds_all}
-use Rattle.rtc_assoc_packets.specs.declared.item.Item.{Item}
+use Rattle.rtc_parts.specs.AssociationActs.{AssociationAct, Given, Moved, moved-append}
+use Rattle.rtc_parts.specs.AssociationWords.{given, taken, ended, told, completions}
+use Rattle.rtc_parts.proofs.AssociationLemmas.{taken-append, completed, adds_all}
+use Rattle.rtc_assoc_state.specs.declared.item.Item.{Item}
 use Rattle.rtc_assoc_state.specs.Contents.{Contents, fresh_contents, generation_of}
 use Rattle.rtc_assoc_state.specs.PlainMeaning.{plain_meaning}
 use Rattle.rtc_assoc_state.proofs.PlainLaws.{plain_laws}

@@ -1,7 +1,7 @@
 -- What is kept of a generation of a stream while messages come, are read and are dropped.
 use Rattle.std.proofs.Common.{ℕ, ◌≡◌, not, nat_lt, inl, inr, Bool, true, false, cond, List, [], ◌∷◌, ◌++◌, filter, Some, None, refl, sym, ap, ◌∙◌, append_assoc, append-nil}
 use Rattle.std.proofs.lemmas.Bool.{cases_Bool}
-use Rattle.rtc_part_association.specs.AssociationWords.{AssociationMessage}
+use Rattle.rtc_parts.specs.AssociationWords.{AssociationMessage}
 use Rattle.rtc_assoc_state.specs.declared.message.Message.{Message}
 use Rattle.rtc_assoc_state.specs.Inbox.{MessagePart, is_part_of, is_message_of, is_of_later, with_message, bytes_so_far, with_bytes, without_part, without_messages}
 use Rattle.rtc_assoc_state.specs.Calls.{first_message_of, messages_behind}

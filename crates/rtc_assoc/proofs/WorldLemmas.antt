@@ -1,13 +1,13 @@
 -- Runs of steps as runs of moves.
 use Rattle.std.proofs.Common.{ℕ, ◌≡◌, ◌+◌, ◌<◌, ◌≤◌, not, inl, inr, Bool, true, false, List, [], ◌∷◌, ◌++◌, length, take, get_or, Some, refl, sym, ap, subst, ◌∙◌, append_assoc, append-nil, arith}
 use Rattle.std.proofs.lemmas.List.{take_more, take_all}
-use Rattle.rtc_part_association.specs.declared.ppi.Ppi.{Ppi}
-use Rattle.rtc_part_values.specs.Among.{Member, Among}
-use Rattle.rtc_part_values.specs.Why.{Other}
-use Rattle.rtc_part_association.specs.AssociationActs.{AssociationAct, Stirred, LimitsSet, Moved, moved-one}
-use Rattle.rtc_part_association.specs.AssociationWords.{AssociationMessage, given, taken, written, read, told, completions}
-use Rattle.rtc_part_association.proofs.AmongLemmas.{member-append, member-left, member-right}
-use Rattle.rtc_part_association.proofs.AssociationLemmas.{taken-append, written-append, read-append, told-append}
+use Rattle.rtc_parts.specs.declared.ppi.Ppi.{Ppi}
+use Rattle.rtc_parts.specs.Among.{Member, Among}
+use Rattle.rtc_parts.specs.Why.{Other}
+use Rattle.rtc_parts.specs.AssociationActs.{AssociationAct, Stirred, LimitsSet, Moved, moved-one}
+use Rattle.rtc_parts.specs.AssociationWords.{AssociationMessage, given, taken, written, read, told, completions}
+use Rattle.rtc_parts.proofs.AmongLemmas.{member-append, member-left, member-right}
+use Rattle.rtc_parts.proofs.AssociationLemmas.{taken-append, written-append, read-append, told-append}
 use Rattle.rtc_assoc_state.specs.Contents.{Contents, fresh_contents, generation_of}
 use Rattle.rtc_assoc_state.specs.Calls.{limited}
 use Rattle.rtc_assoc_state.specs.PlainMeaning.{plain_meaning}
@@ -19,7 +19,7 @@ use Rattle.rtc_assoc.specs.declared.assoc_reply.AssocReply.TheVariants.{Message,
 use Rattle.rtc_assoc.specs.Unread.{unread, IsPrefix}
 use Rattle.rtc_assoc.specs.Joined.{Ends, fresh_ends, Move, LeftMoves, RightMoves, Goes, Run}
 use Rattle.rtc_assoc.specs.Steps.{at_left, PerformsAssocStep, World, Steps, Ran, first_world}
-use Rattle.rtc_part_values.specs.Among.{Member}
+use Rattle.rtc_parts.specs.Among.{Member}
 use Rattle.rtc_assoc.specs.Replies.{wrote_by, read_by, told_by, written_in, read_in, told_in}
 use Rattle.rtc_assoc.specs.Law.{OneWay, TellsEvents}
 use Rattle.rtc_assoc.proofs.ActLemmas.{sent, sents, acts_of, elsewhere}

@@ -1,8 +1,8 @@
 -- Two ends, each of which was given packets that the other one had transmitted.
 use Rattle.std.specs.Prelude.{ℕ, ◌≡◌, List, [], ◌∷◌, ◌++◌}
-use Rattle.rtc_part_values.specs.Among.{Among}
-use Rattle.rtc_part_association.specs.AssociationActs.{AssociationAct, Moved}
-use Rattle.rtc_part_association.specs.AssociationWords.{given, taken}
+use Rattle.rtc_parts.specs.Among.{Among}
+use Rattle.rtc_parts.specs.AssociationActs.{AssociationAct, Moved}
+use Rattle.rtc_parts.specs.AssociationWords.{given, taken}
 use Rattle.rtc_assoc_state.specs.Contents.{Contents, fresh_contents}
 use Rattle.rtc_assoc_state.specs.PlainMeaning.{plain_meaning}
 

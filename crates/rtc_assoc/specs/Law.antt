@@ -1,12 +1,12 @@
 -- What holds of the replies to steps of two ends, and of the ends that the steps left.
 use Rattle.std.specs.Prelude.{ℕ, ◌≡◌, ◌≤◌, not, Bool, true, false, List, ◌∷◌, ◌++◌, length, Some}
-use Rattle.rtc_part_association.specs.declared.ppi.Ppi.{Ppi}
+use Rattle.rtc_parts.specs.declared.ppi.Ppi.{Ppi}
 use Rattle.rtc_assoc_state.specs.Outbox.{has_unacknowledged}
 use Rattle.rtc_assoc_state.specs.Contents.{Contents, generation_of, is_finished, has_unread}
-use Rattle.rtc_part_association.specs.declared.assoc_event.AssocEvent.TheVariants.{Readable}
-use Rattle.rtc_part_values.specs.Among.{Member}
-use Rattle.rtc_part_association.specs.AssociationEvents.{InOrder}
-use Rattle.rtc_part_association.specs.AssociationWords.{completions}
+use Rattle.rtc_parts.specs.declared.assoc_event.AssocEvent.TheVariants.{Readable}
+use Rattle.rtc_parts.specs.Among.{Member}
+use Rattle.rtc_parts.specs.AssociationEvents.{InOrder}
+use Rattle.rtc_parts.specs.AssociationWords.{completions}
 use Rattle.rtc_assoc.specs.declared.assoc_step.AssocStep.{AssocStep}
 use Rattle.rtc_assoc.specs.declared.assoc_step.AssocStep.TheVariants.{Read}
 use Rattle.rtc_assoc.specs.declared.assoc_reply.AssocReply.{AssocReply}

@@ -1,10 +1,10 @@
 -- Steps of two ends, and what each returns.
 use Rattle.std.specs.Prelude.{ℕ, ◌≡◌, ◌⊎◌, ◌&&◌, not, Bool, true, false, List, [], ◌∷◌, ◌++◌}
 use Rattle.std.specs.Prelude.{length, Option, Some, None, Ok, Err, slice_get}
-use Rattle.rtc_part_association.specs.declared.assoc_error.AssocError.{AssocError}
-use Rattle.rtc_part_association.specs.declared.assoc_error.AssocError.TheVariants.{StreamExists, ResetPending, NoStream}
-use Rattle.rtc_part_association.specs.declared.assoc_error.AssocError.TheVariants.{TooLong, Closing, Fault, Alloc}
-use Rattle.rtc_part_association.specs.declared.ppi.Ppi.{Ppi}
+use Rattle.rtc_parts.specs.declared.assoc_error.AssocError.{AssocError}
+use Rattle.rtc_parts.specs.declared.assoc_error.AssocError.TheVariants.{StreamExists, ResetPending, NoStream}
+use Rattle.rtc_parts.specs.declared.assoc_error.AssocError.TheVariants.{TooLong, Closing, Fault, Alloc}
+use Rattle.rtc_parts.specs.declared.ppi.Ppi.{Ppi}
 use Rattle.rtc_assoc_state.specs.Contents.{Contents, fresh_contents, is_started, generation_of}
 use Rattle.rtc_assoc_state.specs.Calls.{limited}
 use Rattle.rtc_assoc_state.specs.PlainMeaning.{plain_meaning}

@@ -1,6 +1,6 @@
 -- The messages that an end holds unread, and lists that begin others.
 use Rattle.std.specs.Prelude.{ℕ, ◌≡◌, if◌then◌else◌, List, [], ◌∷◌, ◌++◌}
-use Rattle.rtc_part_association.specs.AssociationWords.{AssociationMessage}
+use Rattle.rtc_parts.specs.AssociationWords.{AssociationMessage}
 use Rattle.rtc_assoc_state.specs.declared.message.Message.{Message}
 use Rattle.rtc_assoc_state.specs.Inbox.{is_message_of}
 

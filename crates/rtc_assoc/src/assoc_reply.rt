@@ -1,5 +1,5 @@
 //! What steps of two ends return.
-use rtc_part_association::{AssocError, AssocEvent, Ppi};
+use rtc_parts::{AssocError, AssocEvent, Ppi};
 use rtc_wire::Bytes;
 
 /// What a step returned.

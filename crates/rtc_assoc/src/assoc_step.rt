@@ -2,7 +2,7 @@
 ghost use Rattle.std.specs.Prelude.{◌≡◌};
 ghost use Rattle.rtc_assoc.specs.Steps.{at_left};
 
-use rtc_part_association::Ppi;
+use rtc_parts::Ppi;
 use rtc_wire::{Bytes, Moment};
 
 /// One call at one of two ends, the left or the right one.

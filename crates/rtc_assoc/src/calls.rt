@@ -4,7 +4,7 @@ ghost use Rattle.std.specs.Prelude.{Ok, OnErr, IfSome, IsNone, Some, true, false
 ghost use Rattle.rtc_assoc.specs.declared.assoc_step.AssocStep.TheVariants.{Transmit};
 ghost use Rattle.std.specs.Option.{option_copied};
 ghost use Rattle.rtc_assoc_state.specs.Contents.{is_started};
-ghost use Rattle.rtc_part_association.specs.Returned.{message_of};
+ghost use Rattle.rtc_parts.specs.Returned.{returned_message};
 ghost use Rattle.rtc_assoc.specs.Steps.{is_refusal, Tried, Connects, Accepts, Opens, Writes, ClosesStream};
 ghost use Rattle.rtc_assoc.specs.Steps.{StepTimes, Delivers, StepPolls, StepReads, StepTransmits};
 ghost use Rattle.rtc_assoc.specs.Steps.{PerformsAssocStep, is_packet_for, bytes_of};
@@ -12,7 +12,7 @@ ghost use Rattle.rtc_assoc.specs.Steps.{PerformsAssocStep, is_packet_for, bytes_
 use crate::assoc_reply::AssocReply;
 use crate::sent::Sent;
 use rtc_assoc_end::PlainAssociation;
-use rtc_part_association::{AssocError, Association, Ppi};
+use rtc_parts::{AssocError, Association, Ppi};
 use rtc_wire::{Bytes, Moment};
 use std::alloc::AllocError;
 
@@ -146,7 +146,7 @@ pub fn poll(end: &mut PlainAssociation) -> AssocReply
 
 // A message that was read, as a reply keeps it.
 fn kept_message(message: Option<(Ppi, Vec<u8>)>) -> Option<(Ppi, Bytes)>
-    ensures { message_of (Ok message) ≡ Ok result }
+    ensures { returned_message (Ok message) ≡ Ok result }
 {
     match message {
         None => None,

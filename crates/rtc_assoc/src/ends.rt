@@ -1,7 +1,7 @@
 //! What two ends read of what they wrote.
 ghost use Rattle.std.specs.Prelude.{◌≡◌, ◌≤◌, ℕ, List, [], ◌∷◌, ◌++◌, false};
-ghost use Rattle.rtc_part_association.specs.AssociationActs.{AssociationAct, Read};
-ghost use Rattle.rtc_part_association.specs.AssociationWords.{written, read, ended, told, completions};
+ghost use Rattle.rtc_parts.specs.AssociationActs.{AssociationAct, Read};
+ghost use Rattle.rtc_parts.specs.AssociationWords.{written, read, ended, told, completions};
 ghost use Rattle.rtc_assoc_state.specs.Contents.{generation_of};
 ghost use Rattle.rtc_assoc_state.specs.Outbox.{has_unacknowledged};
 ghost use Rattle.rtc_assoc.specs.Unread.{unread, IsPrefix};

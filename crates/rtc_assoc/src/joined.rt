@@ -1,8 +1,8 @@
 //! What joins two ends.
 ghost use Rattle.std.specs.Prelude.{ℕ, List, [], ◌++◌};
-ghost use Rattle.rtc_part_values.specs.Among.{Among};
-ghost use Rattle.rtc_part_association.specs.AssociationActs.{AssociationAct, Moved};
-ghost use Rattle.rtc_part_association.specs.AssociationWords.{given, taken};
+ghost use Rattle.rtc_parts.specs.Among.{Among};
+ghost use Rattle.rtc_parts.specs.AssociationActs.{AssociationAct, Moved};
+ghost use Rattle.rtc_parts.specs.AssociationWords.{given, taken};
 ghost use Rattle.rtc_assoc_state.specs.Contents.{Contents, fresh_contents};
 ghost use Rattle.rtc_assoc_state.specs.PlainMeaning.{plain_meaning};
 ghost use Rattle.rtc_assoc.specs.Joined.{Joined};

@@ -1,7 +1,7 @@
 //! The completed resets that one end reports.
 ghost use Rattle.std.specs.Prelude.{◌≡◌, ◌≤◌, ◌+◌, ℕ, List, ◌∷◌, ◌++◌};
-ghost use Rattle.rtc_part_association.specs.AssociationActs.{AssociationAct, Read, Moved};
-ghost use Rattle.rtc_part_association.specs.AssociationWords.{told, completions};
+ghost use Rattle.rtc_parts.specs.AssociationActs.{AssociationAct, Read, Moved};
+ghost use Rattle.rtc_parts.specs.AssociationWords.{told, completions};
 ghost use Rattle.rtc_assoc_state.specs.Contents.{Contents, fresh_contents, generation_of};
 ghost use Rattle.rtc_assoc_state.specs.PlainMeaning.{plain_meaning};
 

@@ -8,7 +8,7 @@ use crate::assoc_reply::AssocReply;
 use crate::assoc_step::AssocStep;
 use crate::world::perform;
 use rtc_assoc_end::PlainAssociation;
-use rtc_part_association::Association;
+use rtc_parts::Association;
 use rtc_wire::LOCAL_MAX_MESSAGE_SIZE;
 use std::alloc::{AllocError, Global};
 

@@ -1,13 +1,13 @@
 -- What queued packets say.
 use Rattle.std.proofs.Common.{ℕ, ◌≡◌, ◌+◌, inl, inr, List, [], ◌∷◌, ◌++◌, length, refl, sym, ap, subst, ◌∙◌, arith, append_assoc, length-append, Option, Some, None}
-use Rattle.rtc_part_values.specs.Among.{Member}
-use Rattle.rtc_part_association.proofs.AmongLemmas.{member-append}
-use Rattle.rtc_assoc_packets.specs.declared.item.Item.{Item}
-use Rattle.rtc_assoc_packets.specs.declared.frame.Frame.{Frame}
-use Rattle.rtc_assoc_packets.specs.declared.frame.Frame.TheVariants.{Hello, Welcome, Data, Acknowledgement, Shutdown}
-use Rattle.rtc_assoc_packets.specs.Packets.{frame_in, data_bytes, acknowledgement_bytes}
-use Rattle.rtc_assoc_packets.specs.Pieces.{packets_from, ReadBack}
-use Rattle.rtc_assoc_packets.proofs.PacketLemmas.{hello_reads_back, welcome_reads_back, shutdown_reads_back}
+use Rattle.rtc_parts.specs.Among.{Member}
+use Rattle.rtc_parts.proofs.AmongLemmas.{member-append}
+use Rattle.rtc_assoc_state.specs.declared.item.Item.{Item}
+use Rattle.rtc_assoc_state.specs.declared.frame.Frame.{Frame}
+use Rattle.rtc_assoc_state.specs.declared.frame.Frame.TheVariants.{Hello, Welcome, Data, Acknowledgement, Shutdown}
+use Rattle.rtc_assoc_state.specs.Packets.{frame_in, data_bytes, acknowledgement_bytes}
+use Rattle.rtc_assoc_state.specs.Pieces.{packets_from, ReadBack}
+use Rattle.rtc_assoc_state.proofs.PacketLemmas.{hello_reads_back, welcome_reads_back, shutdown_reads_back}
 use Rattle.rtc_assoc_state.specs.Inbox.{Inbox}
 use Rattle.rtc_assoc_state.specs.Outbox.{Outbox}
 use Rattle.rtc_assoc_state.specs.Contents.{Contents}

@@ -2,7 +2,7 @@
 use Rattle.std.proofs.Common.{ℕ, ◌+◌, arith, append-nil, append_assoc, ◌≡◌, Bool, true, false, cond, List, [], ◌∷◌, ◌++◌, Result, Ok, Err, refl, sym, ap, subst, ◌∙◌}
 use Rattle.std.specs.Result.{OnOk}
 use Rattle.std.specs.Bool.{OnTrue}
-use Rattle.rtc_assoc_packets.specs.Pieces.{packets_from, ReadBack}
+use Rattle.rtc_assoc_state.specs.Pieces.{packets_from, ReadBack}
 use Rattle.rtc_assoc_state.specs.Inbox.{Inbox}
 use Rattle.rtc_assoc_state.specs.Outbox.{Outbox}
 use Rattle.rtc_assoc_state.specs.Contents.{Contents}

@@ -1,8 +1,8 @@
 -- Items that are sent: their numbers fit, and the amounts count them.
 use Rattle.std.proofs.Common.{ℕ, ◌≡◌, ◌+◌, ◌-◌, ◌≤◌, ◌==◌, ◌||◌, Bool, true, false, cond, List, [], ◌∷◌, ◌++◌, length, refl, sym, ap, ◌∙◌, arith}
 use Rattle.std.proofs.lemmas.Bool.{ltb-false}
-use Rattle.rtc_assoc_packets.specs.declared.item.Item.{Item}
-use Rattle.rtc_assoc_packets.specs.Pieces.{close_of, pieces_of}
+use Rattle.rtc_assoc_state.specs.declared.item.Item.{Item}
+use Rattle.rtc_assoc_state.specs.Pieces.{close_of, pieces_of}
 use Rattle.std.specs.BTreeMap.{BTreeMap}
 use Rattle.rtc_assoc_state.specs.Outbox.{last_number}
 use Rattle.rtc_assoc_state.specs.Amounts.{amount_of, Agree}

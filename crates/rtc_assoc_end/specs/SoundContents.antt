@@ -1,7 +1,7 @@
 -- What every plain association keeps.
 use Rattle.std.specs.Prelude.{ℕ, ◌+◌, ◌<◌, ◌≤◌, ◌^◌, Bool, List}
 use Rattle.std.specs.BTreeMap.{BTreeMap}
-use Rattle.rtc_assoc_packets.specs.declared.item.Item.{Item}
+use Rattle.rtc_assoc_state.specs.declared.item.Item.{Item}
 use Rattle.rtc_assoc_state.specs.declared.places.Places.{Places}
 use Rattle.rtc_assoc_state.specs.declared.stream_row.StreamRow.{StreamRow}
 use Rattle.rtc_assoc_state.specs.Amounts.{Agree}

@@ -1,8 +1,8 @@
 //! What items do that are received in order.
 ghost use Rattle.std.specs.Prelude.{◌≡◌, ◌<◌, ◌+◌, ◌^◌, ◌∷◌, [], ◌++◌, OnOk, OnErr, false, true, vec_len, vec_capacity};
 ghost use Rattle.std.specs.VecDeque.{deque_len, deque_capacity};
-ghost use Rattle.rtc_assoc_packets.specs.Headers.{item_with};
-ghost use Rattle.rtc_assoc_packets.specs.declared.item_part.ItemPart.TheVariants.{More, Last, Close};
+ghost use Rattle.rtc_assoc_state.specs.Headers.{item_with};
+ghost use Rattle.rtc_assoc_state.specs.declared.item_part.ItemPart.TheVariants.{More, Last, Close};
 ghost use Rattle.rtc_assoc_state.specs.declared.close_state.CloseState.TheVariants.{Unclosed};
 ghost use Rattle.rtc_assoc_state.specs.Streams.{put, reset_row};
 ghost use Rattle.rtc_assoc_state.specs.StreamTable.{SoundTable, HasPlaceRoom};
@@ -13,9 +13,8 @@ ghost use Rattle.rtc_assoc_state.specs.PlainMeaning.{Sends};
 
 use crate::association::PlainAssociation;
 use crate::queueing::{finish, make_ready, queue_close};
-use rtc_assoc_packets::{ItemHeader, ItemPart, Packet};
-use rtc_assoc_state::{CloseState, StreamRow, StreamTable, enqueue};
-use rtc_part_association::AssocEvent;
+use rtc_assoc_state::{CloseState, ItemHeader, ItemPart, Packet, StreamRow, StreamTable, enqueue};
+use rtc_parts::AssocEvent;
 use rtc_wire::Moment;
 use std::alloc::AllocError;
 use std::collections::VecDeque;

@@ -7,9 +7,10 @@ ghost use Rattle.rtc_assoc_state.specs.Says.{Queues};
 ghost use Rattle.rtc_assoc_state.specs.Calls as call;
 ghost use Rattle.rtc_assoc_state.specs.PlainMeaning.{Sends};
 
-use rtc_assoc_packets::{Outgoing, Packet};
-use rtc_assoc_state::{Clock, Limits, Parts, Role, Standing, StreamTable, Unread};
-use rtc_part_association::AssocEvent;
+use rtc_assoc_state::{
+    Clock, Limits, Outgoing, Packet, Parts, Role, Standing, StreamTable, Unread,
+};
+use rtc_parts::AssocEvent;
 use rtc_wire::{LOCAL_MAX_MESSAGE_SIZE, Moment};
 use std::alloc::Global;
 use std::collections::{BTreeMap, VecDeque};

@@ -7,8 +7,7 @@ ghost use Rattle.rtc_assoc_state.specs.PlainMeaning.{Sends};
 
 use crate::association::PlainAssociation;
 use crate::queueing::{queue_close, queue_message};
-use rtc_assoc_packets::{DATA_OVERHEAD, Packet, cut_message, packets_of};
-use rtc_assoc_state::{CloseState, Message, Role};
+use rtc_assoc_state::{CloseState, DATA_OVERHEAD, Message, Packet, Role, cut_message, packets_of};
 use rtc_wire::Moment;
 use std::alloc::AllocError;
 

@@ -2,10 +2,10 @@
 ghost use Rattle.std.specs.Prelude.{◌≡◌, ◌<◌, ◌+◌, ◌^◌, ◌-◌, ◌≤◌, ◌⊎◌, ◌++◌, ◌∷◌, [], min, if◌then◌else◌};
 ghost use Rattle.std.specs.Prelude.{Bool, OnOk, OnErr, IfOk, false, true, ◌||◌, Some};
 ghost use Rattle.std.specs.VecDeque.{deque_len, deque_capacity};
-ghost use Rattle.rtc_part_association.specs.declared.assoc_event.AssocEvent.TheVariants.{Connected};
-ghost use Rattle.rtc_assoc_packets.specs.Packets.{frame_in};
-ghost use Rattle.rtc_assoc_packets.specs.Headers.{frame_with, item_with};
-ghost use Rattle.rtc_assoc_packets.specs.Pieces.{packets_from, ReadBack};
+ghost use Rattle.rtc_parts.specs.declared.assoc_event.AssocEvent.TheVariants.{Connected};
+ghost use Rattle.rtc_assoc_state.specs.Packets.{frame_in};
+ghost use Rattle.rtc_assoc_state.specs.Headers.{frame_with, item_with};
+ghost use Rattle.rtc_assoc_state.specs.Pieces.{packets_from, ReadBack};
 ghost use Rattle.std.specs.Bool.{OnTrue};
 ghost use Rattle.rtc_assoc_state.specs.Contents.{is_ending, waits, is_client};
 ghost use Rattle.rtc_assoc_state.specs.declared.role.Role.TheVariants.{Server};
@@ -16,9 +16,10 @@ ghost use Rattle.rtc_assoc_state.specs.PlainMeaning.{Sends, Gives, Times, Polls,
 
 use crate::association::PlainAssociation;
 use crate::queueing::queue_both;
-use rtc_assoc_packets::{Header, ItemHeader, Packet, content_of, packets_of};
-use rtc_assoc_state::{Role, Standing, enqueue, settle};
-use rtc_part_association::AssocEvent;
+use rtc_assoc_state::{
+    Header, ItemHeader, Packet, Role, Standing, content_of, enqueue, packets_of, settle,
+};
+use rtc_parts::AssocEvent;
 use rtc_wire::{Bytes, Moment};
 use std::alloc::AllocError;
 use std::collections::VecDeque;

@@ -1,6 +1,6 @@
 //! The plain association as a part.
 use crate::association::PlainAssociation;
-use rtc_part_association::{AssocError, AssocEvent, Association, Ppi};
+use rtc_parts::{AssocError, AssocEvent, Association, Ppi};
 use rtc_wire::{Moment, ReliabilityType};
 use std::alloc::AllocError;
 

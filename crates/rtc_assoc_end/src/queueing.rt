@@ -2,17 +2,18 @@
 ghost use Rattle.std.specs.Prelude.{◌≡◌, ◌≤◌, ◌<◌, ◌+◌, ◌∷◌, [], ◌++◌, ℕ, IfOk, OnOk, OnErr, Some};
 ghost use Rattle.std.specs.Prelude.{if◌then◌else◌, ◌==◌, vec_len, vec_capacity};
 ghost use Rattle.std.specs.VecDeque.{deque_len, deque_capacity};
-ghost use Rattle.rtc_part_association.specs.declared.assoc_event.AssocEvent.TheVariants.{Finished};
-ghost use Rattle.rtc_assoc_packets.specs.declared.frame.Frame.TheVariants.{Data, Acknowledgement};
-ghost use Rattle.rtc_assoc_packets.specs.Packets.{frame_in, data_bytes, acknowledgement_bytes};
-ghost use Rattle.rtc_assoc_packets.specs.Pieces.{close_of};
+ghost use Rattle.rtc_parts.specs.declared.assoc_event.AssocEvent.TheVariants.{Finished};
+ghost use Rattle.rtc_assoc_state.specs.declared.frame.Frame.TheVariants.{Data, Acknowledgement};
+ghost use Rattle.rtc_assoc_state.specs.Packets.{frame_in, data_bytes, acknowledgement_bytes};
+ghost use Rattle.rtc_assoc_state.specs.Pieces.{close_of};
 ghost use Rattle.rtc_assoc_state.specs.Amounts.{amount_of};
 ghost use Rattle.rtc_assoc_state.specs.Inbox.{without_part, without_messages};
 ghost use Rattle.rtc_assoc_state.specs.StreamTable.{SoundTable, HasPlaceRoom};
 
-use rtc_assoc_packets::{Outgoing, Packet};
-use rtc_assoc_state::{Parts, StreamRow, StreamTable, Unread, append_all, enqueue, raise};
-use rtc_part_association::AssocEvent;
+use rtc_assoc_state::{
+    Outgoing, Packet, Parts, StreamRow, StreamTable, Unread, append_all, enqueue, raise,
+};
+use rtc_parts::AssocEvent;
 use std::alloc::{AllocError, Global};
 use std::collections::{BTreeMap, VecDeque};
 

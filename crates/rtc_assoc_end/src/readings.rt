@@ -1,15 +1,14 @@
 //! What an end returns of itself.
 ghost use Rattle.std.specs.Prelude.{◌≡◌, ◌+◌, ◌<◌, ◌^◌, nat_lt, Some, None, []};
 ghost use Rattle.std.specs.Bool.{OnFalse};
-ghost use Rattle.rtc_assoc_packets.specs.Headers.{item_with};
+ghost use Rattle.rtc_assoc_state.specs.Headers.{item_with};
 ghost use Rattle.rtc_assoc_state.specs.Contents.{is_closing, is_closed, is_ending, has_stream};
 ghost use Rattle.rtc_assoc_state.specs.Contents.{closed_here, is_stale, generation_of, buffered_of, wake_of};
 ghost use Rattle.rtc_assoc_state.specs.Contents.{hello_wake, items_wake};
 ghost use Rattle.rtc_assoc_state.specs.Calls.{is_stray, hello_due, items_due};
 
 use crate::association::PlainAssociation;
-use rtc_assoc_packets::ItemHeader;
-use rtc_assoc_state::{amount_in, earlier, second_after};
+use rtc_assoc_state::{ItemHeader, amount_in, earlier, second_after};
 use rtc_wire::Moment;
 
 impl PlainAssociation {

@@ -1,13 +1,12 @@
 //! The cases of an item that is received in order.
 ghost use Rattle.std.specs.Prelude.{◌≡◌, ◌<◌, ◌+◌, ◌^◌, OnOk, OnErr, false};
-ghost use Rattle.rtc_assoc_packets.specs.Headers.{item_with};
+ghost use Rattle.rtc_assoc_state.specs.Headers.{item_with};
 ghost use Rattle.rtc_assoc_state.specs.Contents.{is_ending};
 ghost use Rattle.rtc_assoc_state.specs.Calls.{answered, item_put, item_taken, close_came};
 ghost use Rattle.rtc_assoc_state.specs.PlainMeaning.{Sends};
 
 use crate::association::PlainAssociation;
-use rtc_assoc_packets::{ItemHeader, ItemPart};
-use rtc_assoc_state::{CloseState, StreamRow};
+use rtc_assoc_state::{CloseState, ItemHeader, ItemPart, StreamRow};
 use rtc_wire::Moment;
 use std::alloc::AllocError;
 

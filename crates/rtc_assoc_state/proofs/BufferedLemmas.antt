@@ -2,8 +2,8 @@
 use Rattle.std.proofs.Common.{ℕ, zero, suc, ◌≡◌, ◌+◌, ◌==◌, inl, inr, cond, List, [], ◌∷◌, ◌++◌, length, take, drop, arith, length-drop}
 use Rattle.std.proofs.lemmas.Bool.Decides.{eqb_tells, leb_tells}
 use Rattle.std.proofs.lemmas.List.{length-take-le}
-use Rattle.rtc_assoc_packets.specs.declared.item.Item.{Item}
-use Rattle.rtc_assoc_packets.specs.Pieces.{pieces_within}
+use Rattle.rtc_assoc_state.specs.declared.item.Item.{Item}
+use Rattle.rtc_assoc_state.specs.Pieces.{pieces_within}
 use Rattle.rtc_assoc_state.specs.Outbox.{buffered}
 
 pub buffered-append : (s : ℕ) (xs ys : List Item) → buffered s (xs ++ ys) ≡ buffered s xs + buffered s ys

@@ -1,12 +1,12 @@
 -- What the relations of the plain association say, by the answer.
 use Rattle.std.proofs.Common.{ℕ, ◌≡◌, ◌≤◌, ◌⊎◌, inl, inr, List, [], ◌∷◌, length, Option, Some, None, Result, Ok, Err, refl, sym, ap, subst, ◌∙◌, arith}
 use Rattle.std.specs.declared.alloc.AllocError.{AllocError}
-use Rattle.rtc_part_association.specs.declared.assoc_error.AssocError.{AssocError}
-use Rattle.rtc_part_association.specs.declared.assoc_error.AssocError.TheVariants.{StreamExists, ResetPending, NoStream, TooLong, Closing, Fault, Alloc}
-use Rattle.rtc_part_association.specs.declared.assoc_event.AssocEvent.{AssocEvent}
-use Rattle.rtc_part_association.specs.declared.ppi.Ppi.{Ppi}
-use Rattle.rtc_part_association.specs.AssociationNeeds.{Answered}
-use Rattle.rtc_assoc_packets.specs.Packets.{frame_in}
+use Rattle.rtc_parts.specs.declared.assoc_error.AssocError.{AssocError}
+use Rattle.rtc_parts.specs.declared.assoc_error.AssocError.TheVariants.{StreamExists, ResetPending, NoStream, TooLong, Closing, Fault, Alloc}
+use Rattle.rtc_parts.specs.declared.assoc_event.AssocEvent.{AssocEvent}
+use Rattle.rtc_parts.specs.declared.ppi.Ppi.{Ppi}
+use Rattle.rtc_parts.specs.AssociationNeeds.{Answered}
+use Rattle.rtc_assoc_state.specs.Packets.{frame_in}
 use Rattle.rtc_assoc_state.specs.declared.message.Message.{Message}
 use Rattle.rtc_assoc_state.specs.Contents.{Contents}
 use Rattle.rtc_assoc_state.specs.Calls.{taken_out, event_given, packet_given, half_taken, input_taken, timed}

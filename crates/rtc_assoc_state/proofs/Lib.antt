@@ -1,3 +1,5 @@
+pub mod PacketLemmas
+pub mod PieceLemmas
 pub mod Firsts
 pub mod RowLemmas
 pub mod PlaceLemmas

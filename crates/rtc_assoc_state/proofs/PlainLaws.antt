@@ -1,17 +1,17 @@
 -- The plain association keeps the laws of every association.
 use Rattle.std.proofs.Common.{ℕ, ◌≡◌, ◌+◌, ◌-◌, ◌*◌, ◌≤◌, ◌==◌, ◌⊎◌, ◌&&◌, ◌++◌, append-nil, inl, inr, Bool, true, false, cond, List, [], ◌∷◌, length, Option, Some, None, Result, Ok, Err, refl, sym, ap, subst, ◌∙◌, arith}
 use Rattle.std.proofs.lemmas.Bool.Decides.{eqb_tells}
-use Rattle.rtc_part_association.specs.declared.assoc_error.AssocError.{AssocError}
-use Rattle.rtc_part_association.specs.declared.assoc_error.AssocError.TheVariants.{StreamExists, ResetPending, Alloc}
-use Rattle.rtc_part_association.specs.declared.assoc_event.AssocEvent.{AssocEvent}
-use Rattle.rtc_part_association.specs.declared.ppi.Ppi.{Ppi}
-use Rattle.rtc_part_association.specs.Ppi.{ppi_number}
-use Rattle.rtc_part_values.specs.Why.{Timed, Shut, Other}
-use Rattle.rtc_part_association.specs.AssociationWords.{told}
-use Rattle.rtc_part_association.specs.AssociationActs.{AssociationAct, Started, Opened, Wrote, Ended, Given, Taken, Read, Told, Stirred, starts, Starts, Stirs, LimitsSet, ConnectRefused, AcceptRefused, SnapRefused, OpenRefused, WriteRefused, ReadRefused, EndRefused, ThresholdSet, ReliabilitySet, Acted, is_threshold_set, brings_threshold}
-use Rattle.rtc_part_association.specs.AssociationLaws.{AssociationLaws, Buffers}
-use Rattle.rtc_assoc_packets.specs.Packets.{frame_in}
-use Rattle.rtc_assoc_packets.specs.Pieces.{pieces_of}
+use Rattle.rtc_parts.specs.declared.assoc_error.AssocError.{AssocError}
+use Rattle.rtc_parts.specs.declared.assoc_error.AssocError.TheVariants.{StreamExists, ResetPending, Alloc}
+use Rattle.rtc_parts.specs.declared.assoc_event.AssocEvent.{AssocEvent}
+use Rattle.rtc_parts.specs.declared.ppi.Ppi.{Ppi}
+use Rattle.rtc_parts.specs.Ppi.{ppi_number}
+use Rattle.rtc_parts.specs.Why.{Timed, Shut, Other}
+use Rattle.rtc_parts.specs.AssociationWords.{told}
+use Rattle.rtc_parts.specs.AssociationActs.{AssociationAct, Started, Opened, Wrote, Ended, Given, Taken, Read, Told, Stirred, starts, Starts, Stirs, LimitsSet, ConnectRefused, AcceptRefused, SnapRefused, OpenRefused, WriteRefused, ReadRefused, EndRefused, ThresholdSet, ReliabilitySet, Acted, is_threshold_set, brings_threshold}
+use Rattle.rtc_parts.specs.AssociationLaws.{AssociationLaws, Buffers}
+use Rattle.rtc_assoc_state.specs.Packets.{frame_in}
+use Rattle.rtc_assoc_state.specs.Pieces.{pieces_of}
 use Rattle.rtc_assoc_state.specs.Streams.{stream_of, any_threshold}
 use Rattle.rtc_assoc_state.specs.Outbox.{buffered}
 use Rattle.rtc_assoc_state.specs.Contents.{Contents, is_started, generation_of, is_finished, has_unread, has_stream, closed_here, buffered_of, work, held_outputs}
@@ -20,7 +20,7 @@ use Rattle.rtc_assoc_state.specs.PlainMeaning.{plain_meaning, Does, Leaves, Send
 use Rattle.rtc_assoc_state.proofs.RaiseLemmas.{raises_none}
 use Rattle.rtc_assoc_state.proofs.SilentLemmas.{SilentRows}
 use Rattle.rtc_assoc_state.proofs.ReadableLemmas.{some-unread, none-unread}
-use Rattle.rtc_part_association.specs.AssociationEvents.{AddsEvents}
+use Rattle.rtc_parts.specs.AssociationEvents.{AddsEvents}
 use Rattle.rtc_assoc_state.specs.Inbox.{Inbox, is_message_of}
 use Rattle.std.specs.List.{list_any}
 use Rattle.rtc_assoc_state.specs.declared.stream_row.StreamRow.{StreamRow}

@@ -2,16 +2,16 @@
 use Rattle.std.proofs.Common.{ℕ, zero, suc, ◌≡◌, ◌+◌, ◌==◌, ◌&&◌, ◌||◌, not, inl, inr, Bool, true, false, cond, ◌⊎◌, List, [], ◌∷◌, ◌++◌, refl, sym, ap, ◌∙◌, arith, append-nil, append_assoc}
 use Rattle.std.specs.Prelude.{is_some}
 use Rattle.std.proofs.lemmas.Bool.Decides.{eqb_tells}
-use Rattle.rtc_part_association.specs.declared.assoc_event.AssocEvent.{AssocEvent}
-use Rattle.rtc_part_association.specs.declared.assoc_event.AssocEvent.TheVariants.{Finished, ResetComplete, BufferedAmountLow}
-use Rattle.rtc_part_association.specs.AssociationWords.{completions}
-use Rattle.rtc_part_values.specs.Among.{Member}
-use Rattle.rtc_part_association.specs.AssociationEvents.{InOrder}
-use Rattle.rtc_part_association.proofs.AmongLemmas.{member-left, member-right}
-use Rattle.rtc_part_association.proofs.AssociationLemmas.{completions-append, in_order-append}
-use Rattle.rtc_assoc_packets.specs.declared.item.Item.{Item}
-use Rattle.rtc_assoc_packets.specs.declared.item_part.ItemPart.{ItemPart}
-use Rattle.rtc_assoc_packets.specs.declared.item_part.ItemPart.TheVariants.{More, Last, Close}
+use Rattle.rtc_parts.specs.declared.assoc_event.AssocEvent.{AssocEvent}
+use Rattle.rtc_parts.specs.declared.assoc_event.AssocEvent.TheVariants.{Finished, ResetComplete, BufferedAmountLow}
+use Rattle.rtc_parts.specs.AssociationWords.{completions}
+use Rattle.rtc_parts.specs.Among.{Member}
+use Rattle.rtc_parts.specs.AssociationEvents.{InOrder}
+use Rattle.rtc_parts.proofs.AmongLemmas.{member-left, member-right}
+use Rattle.rtc_parts.proofs.AssociationLemmas.{completions-append, in_order-append}
+use Rattle.rtc_assoc_state.specs.declared.item.Item.{Item}
+use Rattle.rtc_assoc_state.specs.declared.item_part.ItemPart.{ItemPart}
+use Rattle.rtc_assoc_state.specs.declared.item_part.ItemPart.TheVariants.{More, Last, Close}
 use Rattle.rtc_assoc_state.specs.declared.close_state.CloseState.{CloseState}
 use Rattle.rtc_assoc_state.specs.declared.close_state.CloseState.TheVariants.{Unclosed, Queued, Acknowledged}
 use Rattle.rtc_assoc_state.specs.declared.stream_row.StreamRow.{StreamRow}

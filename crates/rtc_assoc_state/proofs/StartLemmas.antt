@@ -1,8 +1,8 @@
 -- What the starting calls leave and keep.
 use Rattle.std.proofs.Common.{ℕ, ◌≡◌, List, true, false, None, Result, Ok, Err, refl, sym, ap, subst, ◌∙◌}
-use Rattle.rtc_part_association.specs.declared.assoc_error.AssocError.{AssocError}
-use Rattle.rtc_part_association.specs.AssociationActs.{Starts, ByConnect, ByAccept, BySnap}
-use Rattle.rtc_part_association.specs.AssociationLaws.{LeavesStarted}
+use Rattle.rtc_parts.specs.declared.assoc_error.AssocError.{AssocError}
+use Rattle.rtc_parts.specs.AssociationActs.{Starts, ByConnect, ByAccept, BySnap}
+use Rattle.rtc_parts.specs.AssociationLaws.{LeavesStarted}
 use Rattle.rtc_assoc_state.specs.declared.stream_row.StreamRow.{StreamRow}
 use Rattle.rtc_assoc_state.specs.Contents.{Contents, is_started, generation_of}
 use Rattle.rtc_assoc_state.specs.Calls.{connected, accepted, snapped, started_as, said_hello}

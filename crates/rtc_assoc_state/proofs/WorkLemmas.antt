@@ -2,16 +2,16 @@
 use Rattle.std.proofs.Common.{ℕ, zero, suc, ◌≡◌, ◌+◌, ◌-◌, ◌*◌, ◌≤◌, ◌==◌, ◌&&◌, ◌||◌, not, inl, inr, Bool, true, false, cond, List, [], ◌∷◌, ◌++◌, length, drop, Option, Some, None, refl, sym, ap, ◌∙◌, arith, length-append}
 use Rattle.std.specs.Prelude.{is_some}
 use Rattle.std.proofs.lemmas.Bool.Decides.{eqb_tells, leb_tells}
-use Rattle.rtc_part_association.specs.declared.assoc_event.AssocEvent.{AssocEvent}
-use Rattle.rtc_part_association.specs.declared.assoc_event.AssocEvent.TheVariants.{Connected, Lost, Readable, Finished, ResetComplete, BufferedAmountLow}
-use Rattle.rtc_assoc_packets.specs.declared.item.Item.{Item}
-use Rattle.rtc_assoc_packets.specs.declared.item_part.ItemPart.{ItemPart}
-use Rattle.rtc_assoc_packets.specs.declared.item_part.ItemPart.TheVariants.{More, Last, Close}
-use Rattle.rtc_assoc_packets.specs.declared.frame.Frame.{Frame}
-use Rattle.rtc_assoc_packets.specs.declared.frame.Frame.TheVariants.{Hello, Welcome, Data, Acknowledgement, Shutdown}
-use Rattle.rtc_assoc_packets.specs.Packets.{frame_in, acknowledgement_bytes}
-use Rattle.rtc_assoc_packets.specs.Pieces.{close_of, pieces_within, pieces_of, packets_from}
-use Rattle.rtc_assoc_packets.proofs.PacketLemmas.{nothing_reads_back}
+use Rattle.rtc_parts.specs.declared.assoc_event.AssocEvent.{AssocEvent}
+use Rattle.rtc_parts.specs.declared.assoc_event.AssocEvent.TheVariants.{Connected, Lost, Readable, Finished, ResetComplete, BufferedAmountLow}
+use Rattle.rtc_assoc_state.specs.declared.item.Item.{Item}
+use Rattle.rtc_assoc_state.specs.declared.item_part.ItemPart.{ItemPart}
+use Rattle.rtc_assoc_state.specs.declared.item_part.ItemPart.TheVariants.{More, Last, Close}
+use Rattle.rtc_assoc_state.specs.declared.frame.Frame.{Frame}
+use Rattle.rtc_assoc_state.specs.declared.frame.Frame.TheVariants.{Hello, Welcome, Data, Acknowledgement, Shutdown}
+use Rattle.rtc_assoc_state.specs.Packets.{frame_in, acknowledgement_bytes}
+use Rattle.rtc_assoc_state.specs.Pieces.{close_of, pieces_within, pieces_of, packets_from}
+use Rattle.rtc_assoc_state.proofs.PacketLemmas.{nothing_reads_back}
 use Rattle.rtc_assoc_state.specs.declared.close_state.CloseState.{CloseState}
 use Rattle.rtc_assoc_state.specs.declared.close_state.CloseState.TheVariants.{Unclosed, Queued, Acknowledged}
 use Rattle.rtc_assoc_state.specs.declared.stream_row.StreamRow.{StreamRow}

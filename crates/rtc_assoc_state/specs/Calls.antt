@@ -1,15 +1,15 @@
 -- What each call leaves of the contents.
 use Rattle.std.specs.Prelude.{ℕ, ◌+◌, ◌-◌, ◌==◌, ◌&&◌, ◌||◌, not, nat_le, if◌then◌else◌, Bool, true}
 use Rattle.std.specs.Prelude.{List, [], ◌∷◌, ◌++◌, drop, Option, Some, None}
-use Rattle.rtc_part_association.specs.declared.assoc_event.AssocEvent.{AssocEvent}
-use Rattle.rtc_part_association.specs.declared.assoc_event.AssocEvent.TheVariants.{Connected, Lost, Readable, Finished, ResetComplete}
-use Rattle.rtc_assoc_packets.specs.declared.item.Item.{Item}
-use Rattle.rtc_assoc_packets.specs.declared.item_part.ItemPart.{ItemPart}
-use Rattle.rtc_assoc_packets.specs.declared.item_part.ItemPart.TheVariants.{Last, Close}
-use Rattle.rtc_assoc_packets.specs.declared.frame.Frame.{Frame}
-use Rattle.rtc_assoc_packets.specs.declared.frame.Frame.TheVariants.{Hello, Welcome, Data, Acknowledgement, Shutdown}
-use Rattle.rtc_assoc_packets.specs.Packets.{frame_in, acknowledgement_bytes}
-use Rattle.rtc_assoc_packets.specs.Pieces.{close_of, pieces_of, packets_from}
+use Rattle.rtc_parts.specs.declared.assoc_event.AssocEvent.{AssocEvent}
+use Rattle.rtc_parts.specs.declared.assoc_event.AssocEvent.TheVariants.{Connected, Lost, Readable, Finished, ResetComplete}
+use Rattle.rtc_assoc_state.specs.declared.item.Item.{Item}
+use Rattle.rtc_assoc_state.specs.declared.item_part.ItemPart.{ItemPart}
+use Rattle.rtc_assoc_state.specs.declared.item_part.ItemPart.TheVariants.{Last, Close}
+use Rattle.rtc_assoc_state.specs.declared.frame.Frame.{Frame}
+use Rattle.rtc_assoc_state.specs.declared.frame.Frame.TheVariants.{Hello, Welcome, Data, Acknowledgement, Shutdown}
+use Rattle.rtc_assoc_state.specs.Packets.{frame_in, acknowledgement_bytes}
+use Rattle.rtc_assoc_state.specs.Pieces.{close_of, pieces_of, packets_from}
 use Rattle.rtc_assoc_state.specs.declared.close_state.CloseState.{CloseState}
 use Rattle.rtc_assoc_state.specs.declared.close_state.CloseState.TheVariants.{Unclosed, Queued, Acknowledged}
 use Rattle.rtc_assoc_state.specs.declared.stream_row.StreamRow.{StreamRow}

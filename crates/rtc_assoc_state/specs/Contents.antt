@@ -2,7 +2,7 @@
 use Rattle.std.specs.Prelude.{ℕ, ◌+◌, ◌-◌, ◌*◌, ◌&&◌, ◌||◌, not, nat_lt, min, if◌then◌else◌, Bool, true}
 use Rattle.std.specs.Prelude.{false, List, [], ◌∷◌, length, Option, Some, None}
 use Rattle.std.specs.List.{list_any}
-use Rattle.rtc_part_association.specs.declared.assoc_event.AssocEvent.{AssocEvent}
+use Rattle.rtc_parts.specs.declared.assoc_event.AssocEvent.{AssocEvent}
 use Rattle.rtc_assoc_state.specs.declared.role.Role.{Role}
 use Rattle.rtc_assoc_state.specs.declared.role.Role.TheVariants.{Unstarted, Client, Server, Snap}
 use Rattle.rtc_assoc_state.specs.declared.limits.Limits.{Limits}

@@ -1,6 +1,6 @@
 -- The received messages that are not read.
 use Rattle.std.specs.Prelude.{ℕ, ◌==◌, ◌&&◌, not, nat_lt, if◌then◌else◌, Bool, List, [], ◌∷◌, ◌++◌, filter}
-use Rattle.rtc_assoc_packets.specs.declared.item.Item.{Item}
+use Rattle.rtc_assoc_state.specs.declared.item.Item.{Item}
 use Rattle.rtc_assoc_state.specs.declared.message.Message.{Message}
 pub use Rattle.rtc_assoc_state.specs.MessagePart.{MessagePart}
 

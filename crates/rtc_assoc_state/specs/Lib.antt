@@ -1,3 +1,6 @@
+pub mod Packets
+pub mod Headers
+pub mod Pieces
 pub mod MessagePart
 pub mod Streams
 pub mod Places

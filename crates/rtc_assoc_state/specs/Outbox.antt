@@ -1,7 +1,7 @@
 -- The items that were sent and are not acknowledged.
 use Rattle.std.specs.Prelude.{ℕ, ◌+◌, ◌-◌, ◌==◌, if◌then◌else◌, min, Bool, List, [], ◌∷◌, length}
 use Rattle.std.specs.List.{list_any}
-use Rattle.rtc_assoc_packets.specs.declared.item.Item.{Item}
+use Rattle.rtc_assoc_state.specs.declared.item.Item.{Item}
 
 -- the greatest number that was acknowledged, and the items after it, in order
 pub record Outbox : Type 0 where

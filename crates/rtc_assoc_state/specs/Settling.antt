@@ -1,10 +1,10 @@
 -- What an acknowledgement settles: the items that it names, in order.
 use Rattle.std.specs.Prelude.{ℕ, zero, suc, ◌+◌, ◌&&◌, nat_lt, nat_le, if◌then◌else◌, Bool, false, List, [], ◌∷◌, ◌++◌, Option, Some, None}
-use Rattle.rtc_part_association.specs.declared.assoc_event.AssocEvent.{AssocEvent}
-use Rattle.rtc_part_association.specs.declared.assoc_event.AssocEvent.TheVariants.{ResetComplete, BufferedAmountLow}
-use Rattle.rtc_assoc_packets.specs.declared.item.Item.{Item}
-use Rattle.rtc_assoc_packets.specs.declared.item_part.ItemPart.{ItemPart}
-use Rattle.rtc_assoc_packets.specs.declared.item_part.ItemPart.TheVariants.{More, Last, Close}
+use Rattle.rtc_parts.specs.declared.assoc_event.AssocEvent.{AssocEvent}
+use Rattle.rtc_parts.specs.declared.assoc_event.AssocEvent.TheVariants.{ResetComplete, BufferedAmountLow}
+use Rattle.rtc_assoc_state.specs.declared.item.Item.{Item}
+use Rattle.rtc_assoc_state.specs.declared.item_part.ItemPart.{ItemPart}
+use Rattle.rtc_assoc_state.specs.declared.item_part.ItemPart.TheVariants.{More, Last, Close}
 use Rattle.rtc_assoc_state.specs.declared.close_state.CloseState.{CloseState}
 use Rattle.rtc_assoc_state.specs.declared.close_state.CloseState.TheVariants.{Queued, Acknowledged}
 use Rattle.rtc_assoc_state.specs.declared.stream_row.StreamRow.{StreamRow}

@@ -4,9 +4,9 @@ ghost use Rattle.rtc_assoc_state.specs.Inbox.{bytes_so_far, with_more, without_p
 ghost use Rattle.rtc_assoc_state.specs.Inbox.{is_part_of, is_message_of};
 ghost use Rattle.rtc_assoc_state.specs.Calls.{first_message_of, messages_behind};
 
+use crate::ItemHeader;
 use crate::message::Message;
 use crate::partial::Partial;
-use rtc_assoc_packets::ItemHeader;
 use rtc_wire::Bytes;
 use std::alloc::{AllocError, Global};
 use std::collections::VecDeque;

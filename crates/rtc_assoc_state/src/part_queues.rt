@@ -7,9 +7,9 @@ ghost use Rattle.std.specs.Vec.{vec_items};
 ghost use Rattle.rtc_assoc_state.specs.Inbox.{bytes_so_far, with_bytes, without_part};
 ghost use Rattle.rtc_assoc_state.specs.Queued.{all_queued, SoundQueues, stream_of_part};
 
+use crate::ItemHeader;
 use crate::inbox::{drop_part, keep_more, take_part};
 use crate::partial::Partial;
-use rtc_assoc_packets::ItemHeader;
 use rtc_wire::Bytes;
 use std::alloc::{AllocError, Global};
 use std::collections::BTreeMap;

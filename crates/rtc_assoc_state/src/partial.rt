@@ -2,7 +2,7 @@
 ghost use Rattle.std.specs.Prelude.{◌≡◌, ◌++◌, length, IfOk, OnOk, OnErr};
 ghost use Rattle.rtc_assoc_state.specs.Inbox.{is_part_of, part};
 
-use rtc_assoc_packets::ItemHeader;
+use crate::ItemHeader;
 use rtc_wire::Bytes;
 use std::alloc::{AllocError, Global};
 use std::marker::Model;

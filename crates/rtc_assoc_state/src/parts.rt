@@ -2,9 +2,9 @@
 ghost use Rattle.std.specs.Prelude.{◌≡◌, [], OnOk, OnErr};
 ghost use Rattle.rtc_assoc_state.specs.Inbox.{bytes_so_far, with_bytes, without_part};
 
+use crate::ItemHeader;
 use crate::part_queues::{add_piece, begin_parts, drop_joined, release_parts, take_joined};
 use crate::partial::Partial;
-use rtc_assoc_packets::ItemHeader;
 use rtc_wire::Bytes;
 use std::alloc::{AllocError, Global};
 use std::collections::BTreeMap;

@@ -1,12 +1,12 @@
 //! What an acknowledgement settles.
 ghost use Rattle.std.specs.Prelude.{◌≡◌, ◌+◌, ◌≤◌, ◌<◌, List, [], ◌∷◌, ◌++◌, drop, false, if◌then◌else◌};
-ghost use Rattle.rtc_assoc_packets.specs.declared.item.Item.{Item};
+ghost use Rattle.rtc_assoc_state.specs.declared.item.Item.{Item};
 ghost use Rattle.std.specs.VecDeque.{deque_len, deque_capacity};
 ghost use Rattle.rtc_assoc_state.specs.Amounts.{Agree};
 ghost use Rattle.rtc_assoc_state.specs.StreamTable.{SoundTable};
 ghost use Rattle.rtc_assoc_state.specs.Streams.{stream_of, is_unclosed};
 ghost use Rattle.rtc_assoc_state.specs.declared.close_state.CloseState.TheVariants.{Queued};
-ghost use Rattle.rtc_part_association.specs.declared.assoc_event.AssocEvent.TheVariants.{BufferedAmountLow};
+ghost use Rattle.rtc_parts.specs.declared.assoc_event.AssocEvent.TheVariants.{BufferedAmountLow};
 ghost use Rattle.rtc_assoc_state.specs.Settling.{told_of, reaches, close_settled, item_settled, settled};
 
 use crate::amounts::{amount_in, lower};
@@ -14,8 +14,8 @@ use crate::close_state::CloseState;
 use crate::queues::enqueue;
 use crate::stream_row::StreamRow;
 use crate::stream_table::StreamTable;
-use rtc_assoc_packets::{ItemPart, Outgoing};
-use rtc_part_association::AssocEvent;
+use crate::{ItemPart, Outgoing};
+use rtc_parts::AssocEvent;
 use std::collections::{BTreeMap, VecDeque};
 
 fn is_reached(threshold: Option<usize>, before: usize, after: usize) -> bool

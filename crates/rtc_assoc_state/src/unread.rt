@@ -1,13 +1,13 @@
 //! The messages that are not read.
 ghost use Rattle.std.specs.Prelude.{◌≡◌, ◌++◌, [], OnOk, OnErr};
-ghost use Rattle.rtc_assoc_packets.specs.Headers.{item_with};
+ghost use Rattle.rtc_assoc_state.specs.Headers.{item_with};
 ghost use Rattle.rtc_assoc_state.specs.Inbox.{bytes_so_far, without_part, with_message, without_messages, message_of};
 ghost use Rattle.rtc_assoc_state.specs.Calls.{first_message_of, messages_behind};
 
+use crate::ItemHeader;
 use crate::message::Message;
 use crate::parts::Parts;
 use crate::queued::{forget_messages, make_room, put, take};
-use rtc_assoc_packets::ItemHeader;
 use std::alloc::{AllocError, Global};
 use std::collections::{BTreeMap, VecDeque};
 use std::marker::Model;

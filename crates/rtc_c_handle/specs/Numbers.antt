@@ -6,8 +6,8 @@ use Rattle.rtc_sdp_values.specs.declared.direction.Direction.{Direction}
 use Rattle.rtc_sdp_values.specs.declared.direction.Direction.TheVariants.{SendRecv, SendOnly, RecvOnly, Inactive}
 use Rattle.rtc_sdp_values.specs.declared.media_kind.MediaKind.{MediaKind}
 use Rattle.rtc_sdp_values.specs.declared.media_kind.MediaKind.TheVariants.{Audio, Video}
-use Rattle.rtc_part_ice.specs.declared.ice_connection_state.IceConnectionState.{IceConnectionState}
-use Rattle.rtc_part_ice.specs.declared.ice_connection_state.IceConnectionState.TheVariants.{
+use Rattle.rtc_parts.specs.declared.ice_connection_state.IceConnectionState.{IceConnectionState}
+use Rattle.rtc_parts.specs.declared.ice_connection_state.IceConnectionState.TheVariants.{
   New,
   Checking,
   Connected,

@@ -3,7 +3,7 @@ use Rattle.std.proofs.Common.{◌≡◌, ◌&&◌, Bool, true, false, true≢fal
 use Rattle.std.specs.Prelude.{ℕ, ◌||◌, Result, Ok, Err, is_some}
 use Rattle.std.specs.declared.alloc.AllocError.{AllocError}
 use Rattle.rtc_wire.specs.declared.channel_config.ChannelConfig.{ChannelConfig}
-use Rattle.rtc_part_association.specs.AssociationMeaning.{AssociationMeaning}
+use Rattle.rtc_parts.specs.AssociationMeaning.{AssociationMeaning}
 use Rattle.rtc_ready.specs.Signals.{Signals}
 use Rattle.rtc_sctp.specs.Streams.{SctpStreams}
 use Rattle.rtc_sctp.specs.Calls.{streams_wake}

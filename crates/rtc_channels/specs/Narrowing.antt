@@ -1,6 +1,6 @@
 -- What a call leaves that cleared a mark of its wake.
 use Rattle.std.specs.Prelude.{◌≡◌}
-use Rattle.rtc_part_association.specs.AssociationMeaning.{AssociationMeaning}
+use Rattle.rtc_parts.specs.AssociationMeaning.{AssociationMeaning}
 use Rattle.rtc_sctp.specs.Streams.{SctpStreams}
 use Rattle.rtc_sctp.specs.Calls.{streams_wake}
 use Rattle.rtc_sctp.specs.Polls.{PollsStreams}

@@ -7,7 +7,7 @@ ghost use Rattle.rtc_channels.specs.Channels.{Channels};
 ghost use Rattle.rtc_channels.specs.Openings.{MeetsMoment, is_progress_due};
 ghost use Rattle.rtc_channels.specs.Narrowing.{LeavesPolls, LeavesDeadlines};
 
-use rtc_part_association::Association;
+use rtc_parts::Association;
 
 /// A moment of channels that clears the events mark of a wake leaves every poll of the streams as it was, and one that
 /// clears the timeout mark leaves the deadlines of streams and channels.

@@ -7,7 +7,7 @@ ghost use Rattle.rtc_channels.specs.Openings.{is_progress_due as IsDue, can_open
 
 use crate::ChannelHandler;
 use crate::kept::Kept;
-use rtc_part_association::Association;
+use rtc_parts::Association;
 use rtc_ready::Wake;
 use rtc_sctp::RtcSctp;
 use rtc_wire::{ChannelConfig, ChannelId, Moment};

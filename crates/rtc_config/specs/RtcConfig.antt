@@ -4,9 +4,9 @@ use Rattle.rtc_sdp_values.specs.ExtensionMap.{standard_rows}
 use Rattle.rtc_sdp_values.specs.declared.extension_map.ExtensionMap.{ExtensionMap}
 use Rattle.rtc_sdp_values.specs.declared.codec_config.CodecConfig.{CodecConfig}
 use Rattle.rtc_sdp_codecs.specs.CodecRows.{default_codecs}
-use Rattle.rtc_part_dtls.specs.declared.dtls_version.DtlsVersion.TheVariants.{Dtls12}
-use Rattle.rtc_part_media.specs.declared.media_settings.MediaSettings.{MediaSettings}
-use Rattle.rtc_part_media.specs.declared.vp9_packetizer_mode.Vp9PacketizerMode.TheVariants.{NonFlexible}
+use Rattle.rtc_parts.specs.declared.dtls_version.DtlsVersion.TheVariants.{Dtls12}
+use Rattle.rtc_parts.specs.declared.media_settings.MediaSettings.{MediaSettings}
+use Rattle.rtc_parts.specs.declared.vp9_packetizer_mode.Vp9PacketizerMode.TheVariants.{NonFlexible}
 use Rattle.rtc_config.specs.declared.ice_settings.IceSettings.{IceSettings}
 use Rattle.rtc_config.specs.declared.dtls_settings.DtlsSettings.{DtlsSettings}
 use Rattle.rtc_config.specs.declared.sctp_settings.SctpSettings.{SctpSettings}

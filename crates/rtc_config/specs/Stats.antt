@@ -1,10 +1,10 @@
 -- The statistics of a peer: when they are due, and the order in which they are reported.
 use Rattle.std.specs.Prelude.{ℕ, ◌+◌, ◌-◌, ◌^◌, min, nat_le, Bool, false, List, ◌∷◌, ◌++◌, map, Option, Some, None, option_map}
 use Rattle.std.specs.BTreeMap.{values}
-use Rattle.rtc_part_media.specs.declared.peer_stats.PeerStats.{PeerStats}
-use Rattle.rtc_part_media.specs.declared.stats_event.StatsEvent.{StatsEvent}
-use Rattle.rtc_part_media.specs.declared.stats_event.StatsEvent.TheVariants.{Peer, MediaIngress, MediaEgress}
-use Rattle.rtc_part_media.specs.declared.stats_snapshot.StatsSnapshot.{StatsSnapshot}
+use Rattle.rtc_parts.specs.declared.peer_stats.PeerStats.{PeerStats}
+use Rattle.rtc_parts.specs.declared.stats_event.StatsEvent.{StatsEvent}
+use Rattle.rtc_parts.specs.declared.stats_event.StatsEvent.TheVariants.{Peer, MediaIngress, MediaEgress}
+use Rattle.rtc_parts.specs.declared.stats_snapshot.StatsSnapshot.{StatsSnapshot}
 
 -- the time between two rounds, the moment of the last round, and the reports that are not yet polled
 pub record Reporting : Type 0 where

@@ -1,5 +1,5 @@
 //! Settings of the DTLS part.
-use rtc_part_dtls::DtlsVersion;
+use rtc_parts::DtlsVersion;
 use rtc_wire::{Bytes, TryCopy};
 use std::alloc::AllocError;
 

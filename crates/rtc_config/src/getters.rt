@@ -4,8 +4,7 @@ ghost use Rattle.std.specs.Option.{option_copied};
 ghost use Rattle.rtc_config.specs.RtcConfig.{IsShortCert, AreMediaSettings, IsMtu};
 
 use crate::RtcConfig;
-use rtc_part_dtls::DtlsVersion;
-use rtc_part_media::{MediaSettings, Vp9PacketizerMode};
+use rtc_parts::{DtlsVersion, MediaSettings, Vp9PacketizerMode};
 use rtc_sdp_values::{CodecConfig, ExtensionMap, IceCreds};
 use rtc_wire::Span;
 

@@ -2,7 +2,7 @@
 ghost use Rattle.std.specs.Prelude.{◌≡◌, ◌<◌};
 
 use crate::RtcConfig;
-use rtc_part_media::Vp9PacketizerMode;
+use rtc_parts::Vp9PacketizerMode;
 use rtc_wire::Span;
 
 impl RtcConfig {

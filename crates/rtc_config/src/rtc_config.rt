@@ -9,8 +9,7 @@ ghost use Rattle.rtc_sdp_codecs.specs.FormedCodecs.{AreFormedRows, AreFormedExte
 ghost use Rattle.rtc_config.specs.RtcConfig as spec;
 
 use crate::{DtlsSettings, IceSettings, SctpSettings};
-use rtc_part_dtls::DtlsVersion;
-use rtc_part_media::{MediaSettings, Vp9PacketizerMode};
+use rtc_parts::{DtlsVersion, MediaSettings, Vp9PacketizerMode};
 use rtc_sdp_codecs::make_default_codecs;
 use rtc_sdp_values::{CodecConfig, ExtensionMap};
 use rtc_wire::{
@@ -63,13 +62,13 @@ impl PartialEq for RtcConfig {
     ghost use Rattle.rtc_config.specs.contracts.dtls_settings.DtlsSettingsPartialEq.TheImpl as dtls_eq;
     ghost use Rattle.rtc_sdp_values.specs.contracts.codec_config.CodecConfigPartialEq.TheImpl as codecs_eq;
     ghost use Rattle.rtc_sdp_values.specs.contracts.extension_map.ExtensionMapPartialEq.TheImpl as extensions_eq;
-    ghost use Rattle.rtc_part_media.specs.contracts.media_settings.MediaSettingsPartialEq.TheImpl as media_eq;
+    ghost use Rattle.rtc_parts.specs.contracts.media_settings.MediaSettingsPartialEq.TheImpl as media_eq;
     ghost use Rattle.rtc_config.specs.contracts.sctp_settings.SctpSettingsPartialEq.TheImpl as sctp_eq;
     ghost use Rattle.rtc_config.specs.contracts.ice_settings.IceSettingsEq.TheImpl.Laws as ice_laws;
     ghost use Rattle.rtc_config.specs.contracts.dtls_settings.DtlsSettingsEq.TheImpl.Laws as dtls_laws;
     ghost use Rattle.rtc_sdp_values.specs.contracts.codec_config.CodecConfigEq.TheImpl.Laws as codecs_laws;
     ghost use Rattle.rtc_sdp_values.specs.contracts.extension_map.ExtensionMapEq.TheImpl.Laws as extensions_laws;
-    ghost use Rattle.rtc_part_media.specs.contracts.media_settings.MediaSettingsEq.TheImpl.Laws as media_laws;
+    ghost use Rattle.rtc_parts.specs.contracts.media_settings.MediaSettingsEq.TheImpl.Laws as media_laws;
     ghost use Rattle.rtc_config.specs.contracts.sctp_settings.SctpSettingsEq.TheImpl.Laws as sctp_laws;
 
     ghost eq = { eq_of_both (on (λ c. c.ice) (ice_eq.ghosts).eq)
@@ -116,7 +115,7 @@ impl Eq for RtcConfig {
     ghost use Rattle.rtc_config.specs.contracts.dtls_settings.DtlsSettingsEq.TheImpl.Laws as dtls_laws;
     ghost use Rattle.rtc_sdp_values.specs.contracts.codec_config.CodecConfigEq.TheImpl.Laws as codecs_laws;
     ghost use Rattle.rtc_sdp_values.specs.contracts.extension_map.ExtensionMapEq.TheImpl.Laws as extensions_laws;
-    ghost use Rattle.rtc_part_media.specs.contracts.media_settings.MediaSettingsEq.TheImpl.Laws as media_laws;
+    ghost use Rattle.rtc_parts.specs.contracts.media_settings.MediaSettingsEq.TheImpl.Laws as media_laws;
     ghost use Rattle.rtc_config.specs.contracts.sctp_settings.SctpSettingsEq.TheImpl.Laws as sctp_laws;
 
     ghost laws = { and_equiv (on_equiv (λ c. c.ice) ice_laws.laws-law)

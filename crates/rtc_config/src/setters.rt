@@ -2,7 +2,7 @@
 ghost use Rattle.std.specs.Prelude.{◌≡◌, ◌≤◌, Some, vec_len};
 
 use crate::RtcConfig;
-use rtc_part_dtls::DtlsVersion;
+use rtc_parts::DtlsVersion;
 use rtc_sdp_values::IceCreds;
 use rtc_wire::{Bytes, Span};
 

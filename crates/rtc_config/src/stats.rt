@@ -1,10 +1,10 @@
 //! The statistics of a peer.
 ghost use Rattle.std.specs.Prelude.{◌≡◌, ◌∷◌, [], ◌++◌, map, drop, slice_get, Some, None, IfOk, OnOk, OnErr};
 ghost use Rattle.std.specs.BTreeMap.{values};
-ghost use Rattle.rtc_part_media.specs.declared.stats_event.StatsEvent.TheVariants.{MediaIngress, MediaEgress, Peer};
+ghost use Rattle.rtc_parts.specs.declared.stats_event.StatsEvent.TheVariants.{MediaIngress, MediaEgress, Peer};
 ghost use Rattle.rtc_config.specs.Stats as spec;
 
-use rtc_part_media::{MediaEgressStats, MediaIngressStats, PeerStats, StatsEvent, StatsSnapshot};
+use rtc_parts::{MediaEgressStats, MediaIngressStats, PeerStats, StatsEvent, StatsSnapshot};
 use rtc_sdp_values::{Mid, Rid};
 use rtc_wire::{Moment, Span};
 use std::alloc::{AllocError, Global};

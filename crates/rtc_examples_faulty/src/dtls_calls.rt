@@ -1,6 +1,6 @@
 //! Calls of a DTLS part, of which those that are listed fail.
 use rtc_faulty::{CallCounts, CallKind, Counted, Faulty};
-use rtc_part_dtls::{DtlsError, DtlsInstance};
+use rtc_parts::{DtlsError, DtlsInstance};
 use rtc_plain::PlainDtls;
 use rtc_wire::Moment;
 use std::alloc::{AllocError, Global};

@@ -1,6 +1,6 @@
 //! Calls of a media part, of which those that are listed fail.
 use rtc_faulty::Faulty;
-use rtc_part_media::{MediaError, MediaSession};
+use rtc_parts::{MediaError, MediaSession};
 use rtc_plain::PlainMedia;
 use rtc_wire::Moment;
 use std::alloc::{AllocError, Global};

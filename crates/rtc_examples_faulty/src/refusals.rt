@@ -1,6 +1,6 @@
 //! Refusals, and what may follow them.
 use crate::part::Part;
-use rtc_part_values::Reason;
+use rtc_parts::Reason;
 use rtc_peer::{DtlsError, MediaError, ProtoError, RtcError, SctpError, Why};
 use rtc_plain::PlainMediaEvent;
 use rtc_run_history::{Outcome, PollEnd, Reply, Shown, Step, Table};

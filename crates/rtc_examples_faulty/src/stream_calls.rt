@@ -1,7 +1,7 @@
 //! Calls of an association, of which those that are listed fail.
 use rtc_assoc_end::PlainAssociation;
 use rtc_faulty::Faulty;
-use rtc_part_association::{AssocError, Association, Ppi};
+use rtc_parts::{AssocError, Association, Ppi};
 use rtc_wire::Moment;
 use std::alloc::{AllocError, Global};
 

@@ -1,6 +1,6 @@
 //! Copies that no other program makes. That a copy is equal to its value is a clause of `copy`.
 use rtc_examples_cases::{is_ok, is_true};
-use rtc_part_media::RawPacket;
+use rtc_parts::RawPacket;
 use rtc_wire::{Bytes, ChannelConfig, DcepOpen, TryCopy};
 use std::alloc::{AllocError, Global};
 

@@ -1,11 +1,11 @@
 -- What the acts of an association that fails at listed calls are to the one inside.
 use Rattle.std.proofs.Common.{ℕ, ◌≡◌, ◌⊎◌, inl, inr, Bool, true, List, [], ◌∷◌, Option, Some, Result, Ok, Err, refl}
-use Rattle.rtc_part_values.specs.Why.{Timed, Shut, Other}
-use Rattle.rtc_part_association.specs.declared.assoc_error.AssocError.{AssocError}
-use Rattle.rtc_part_association.specs.declared.assoc_error.AssocError.TheVariants.{Fault}
-use Rattle.rtc_part_association.specs.declared.ppi.Ppi.{Ppi}
-use Rattle.rtc_part_association.specs.AssociationMeaning.{AssociationMeaning}
-use Rattle.rtc_part_association.specs.AssociationActs.{
+use Rattle.rtc_parts.specs.Why.{Timed, Shut, Other}
+use Rattle.rtc_parts.specs.declared.assoc_error.AssocError.{AssocError}
+use Rattle.rtc_parts.specs.declared.assoc_error.AssocError.TheVariants.{Fault}
+use Rattle.rtc_parts.specs.declared.ppi.Ppi.{Ppi}
+use Rattle.rtc_parts.specs.AssociationMeaning.{AssociationMeaning}
+use Rattle.rtc_parts.specs.AssociationActs.{
   AssociationAct,
   Started,
   Opened,
@@ -35,7 +35,7 @@ use Rattle.rtc_part_association.specs.AssociationActs.{
   is_threshold_set,
   brings_threshold,
 }
-use Rattle.rtc_part_association.specs.AssociationWords.{told}
+use Rattle.rtc_parts.specs.AssociationWords.{told}
 use Rattle.rtc_faulty.specs.declared.faulty.Faulty.{Faulty}
 use Rattle.rtc_faulty.specs.Numbering.{is_failing, one_fault_more}
 use Rattle.rtc_faulty.specs.FaultyCalls.{CanFail}

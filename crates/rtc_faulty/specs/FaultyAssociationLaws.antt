@@ -30,20 +30,20 @@ use Rattle.std.proofs.Common.{
   append-nil,
 }
 use Rattle.std.specs.Prelude.{if◌then◌else◌}
-use Rattle.rtc_part_association.specs.declared.assoc_error.AssocError.{AssocError}
-use Rattle.rtc_part_association.specs.declared.assoc_error.AssocError.TheVariants.{
+use Rattle.rtc_parts.specs.declared.assoc_error.AssocError.{AssocError}
+use Rattle.rtc_parts.specs.declared.assoc_error.AssocError.TheVariants.{
   StreamExists,
   ResetPending,
   Fault,
   Alloc,
 }
-use Rattle.rtc_part_association.specs.declared.ppi.Ppi.{Ppi}
-use Rattle.rtc_part_association.specs.AssociationMeaning.{AssociationMeaning}
-use Rattle.rtc_part_association.specs.AssociationNeeds.{Answered, closing_need, open_need, write_need, end_need, stream_need}
-use Rattle.rtc_part_association.specs.AssociationActs.{AssociationAct, Acted, starts, writes_to, brings_threshold}
-use Rattle.rtc_part_association.specs.AssociationWords.{told}
-use Rattle.rtc_part_association.specs.AssociationEvents.{AddsEvents}
-use Rattle.rtc_part_association.specs.AssociationLaws.{AssociationLaws, LeavesStarted, Buffers, IsSilent}
+use Rattle.rtc_parts.specs.declared.ppi.Ppi.{Ppi}
+use Rattle.rtc_parts.specs.AssociationMeaning.{AssociationMeaning}
+use Rattle.rtc_parts.specs.AssociationNeeds.{Answered, closing_need, open_need, write_need, end_need, stream_need}
+use Rattle.rtc_parts.specs.AssociationActs.{AssociationAct, Acted, starts, writes_to, brings_threshold}
+use Rattle.rtc_parts.specs.AssociationWords.{told}
+use Rattle.rtc_parts.specs.AssociationEvents.{AddsEvents}
+use Rattle.rtc_parts.specs.AssociationLaws.{AssociationLaws, LeavesStarted, Buffers, IsSilent}
 use Rattle.rtc_faulty.specs.declared.faulty.Faulty.{Faulty}
 use Rattle.rtc_faulty.specs.Numbering.{is_failing, number_used}
 use Rattle.rtc_faulty.specs.FaultyCalls.{CanFail}

@@ -16,8 +16,8 @@ use Rattle.std.proofs.Common.{
   ap,
   ◌∙◌,
 }
-use Rattle.rtc_part_association.specs.declared.assoc_error.AssocError.{AssocError}
-use Rattle.rtc_part_association.specs.declared.assoc_error.AssocError.TheVariants.{
+use Rattle.rtc_parts.specs.declared.assoc_error.AssocError.{AssocError}
+use Rattle.rtc_parts.specs.declared.assoc_error.AssocError.TheVariants.{
   StreamExists,
   ResetPending,
   NoStream,
@@ -26,7 +26,7 @@ use Rattle.rtc_part_association.specs.declared.assoc_error.AssocError.TheVariant
   Fault,
   Alloc,
 }
-use Rattle.rtc_part_association.specs.AssociationNeeds.{Answered}
+use Rattle.rtc_parts.specs.AssociationNeeds.{Answered}
 use Rattle.rtc_faulty.specs.FaultyLemmas.{rose_inside, later_inside}
 use Rattle.rtc_faulty.specs.FaultyAssociation.{opening_counts}
 

@@ -1,8 +1,8 @@
 -- A DTLS part that fails at listed calls.
 use Rattle.std.specs.Prelude.{◌+◌, Bool, true, false, Result, Err}
-use Rattle.rtc_part_dtls.specs.declared.dtls_error.DtlsError.{DtlsError}
-use Rattle.rtc_part_dtls.specs.declared.dtls_error.DtlsError.TheVariants.{WouldBlock, Fault}
-use Rattle.rtc_part_dtls.specs.DtlsMeaning.{DtlsMeaning}
+use Rattle.rtc_parts.specs.declared.dtls_error.DtlsError.{DtlsError}
+use Rattle.rtc_parts.specs.declared.dtls_error.DtlsError.TheVariants.{WouldBlock, Fault}
+use Rattle.rtc_parts.specs.DtlsMeaning.{DtlsMeaning}
 use Rattle.rtc_faulty.specs.declared.faulty.Faulty.{Faulty}
 use Rattle.rtc_faulty.specs.Numbering.{is_failing}
 use Rattle.rtc_faulty.specs.FaultyCalls.{IsFreshOver, Reaches, CanFail}

@@ -22,10 +22,10 @@ use Rattle.std.proofs.Common.{
   subst,
   arith,
 }
-use Rattle.rtc_part_dtls.specs.declared.dtls_error.DtlsError.{DtlsError}
-use Rattle.rtc_part_dtls.specs.declared.dtls_error.DtlsError.TheVariants.{WouldBlock, Fault, Alloc}
-use Rattle.rtc_part_dtls.specs.DtlsMeaning.{DtlsMeaning}
-use Rattle.rtc_part_dtls.specs.DtlsActs.{
+use Rattle.rtc_parts.specs.declared.dtls_error.DtlsError.{DtlsError}
+use Rattle.rtc_parts.specs.declared.dtls_error.DtlsError.TheVariants.{WouldBlock, Fault, Alloc}
+use Rattle.rtc_parts.specs.DtlsMeaning.{DtlsMeaning}
+use Rattle.rtc_parts.specs.DtlsActs.{
   DtlsAct,
   DtlsCall,
   Given,
@@ -44,7 +44,7 @@ use Rattle.rtc_part_dtls.specs.DtlsActs.{
   DtlsActed,
   DtlsMoved,
 }
-use Rattle.rtc_part_dtls.specs.DtlsLaws.{DtlsLaws, DtlsAnswered, SendAnswered, IsLater}
+use Rattle.rtc_parts.specs.DtlsLaws.{DtlsLaws, DtlsAnswered, SendAnswered, IsLater}
 use Rattle.rtc_faulty.specs.declared.faulty.Faulty.{Faulty}
 use Rattle.rtc_faulty.specs.Numbering.{is_failing, one_fault_more}
 use Rattle.rtc_faulty.specs.FaultyCalls.{CanFail}

@@ -1,7 +1,7 @@
 -- A media part that fails at listed calls.
 use Rattle.std.specs.Prelude.{◌+◌, true, false}
-use Rattle.rtc_part_media.specs.declared.media_error.MediaError.TheVariants.{Rtp}
-use Rattle.rtc_part_media.specs.MediaMeaning.{MediaMeaning}
+use Rattle.rtc_parts.specs.declared.media_error.MediaError.TheVariants.{Rtp}
+use Rattle.rtc_parts.specs.MediaMeaning.{MediaMeaning}
 use Rattle.rtc_faulty.specs.declared.faulty.Faulty.{Faulty}
 use Rattle.rtc_faulty.specs.Numbering.{is_failing, faults_ahead}
 use Rattle.rtc_faulty.specs.FaultyCalls.{IsFreshOver, Reaches, CanFail}

@@ -1,10 +1,10 @@
 -- What the acts of a media part that fails at listed calls are to the one inside.
 use Rattle.std.proofs.Common.{ℕ, ◌≡◌, ◌⊎◌, inl, inr, true, false, Option, Result, Ok, Err, refl}
-use Rattle.rtc_part_values.specs.Why.{Timed, Shut, Other}
-use Rattle.rtc_part_media.specs.declared.media_error.MediaError.{MediaError}
-use Rattle.rtc_part_media.specs.declared.media_error.MediaError.TheVariants.{Rtp}
-use Rattle.rtc_part_media.specs.MediaMeaning.{MediaMeaning}
-use Rattle.rtc_part_media.specs.MediaActs.{
+use Rattle.rtc_parts.specs.Why.{Timed, Shut, Other}
+use Rattle.rtc_parts.specs.declared.media_error.MediaError.{MediaError}
+use Rattle.rtc_parts.specs.declared.media_error.MediaError.TheVariants.{Rtp}
+use Rattle.rtc_parts.specs.MediaMeaning.{MediaMeaning}
+use Rattle.rtc_parts.specs.MediaActs.{
   MediaAct,
   MediaGiven,
   MediaTaken,

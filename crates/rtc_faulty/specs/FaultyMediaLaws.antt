@@ -28,11 +28,11 @@ use Rattle.std.proofs.Common.{
 }
 use Rattle.rtc_io.specs.Faults.{Rose}
 use Rattle.rtc_sdp_values.specs.declared.ssrc.Ssrc.{Ssrc}
-use Rattle.rtc_part_values.specs.Why.{Timed, Shut}
-use Rattle.rtc_part_media.specs.declared.media_error.MediaError.{MediaError}
-use Rattle.rtc_part_media.specs.declared.media_error.MediaError.TheVariants.{Rtp, Alloc}
-use Rattle.rtc_part_media.specs.MediaMeaning.{MediaMeaning, held_media}
-use Rattle.rtc_part_media.specs.MediaActs.{
+use Rattle.rtc_parts.specs.Why.{Timed, Shut}
+use Rattle.rtc_parts.specs.declared.media_error.MediaError.{MediaError}
+use Rattle.rtc_parts.specs.declared.media_error.MediaError.TheVariants.{Rtp, Alloc}
+use Rattle.rtc_parts.specs.MediaMeaning.{MediaMeaning, held_media}
+use Rattle.rtc_parts.specs.MediaActs.{
   MediaAct,
   MediaGiven,
   MediaTaken,
@@ -47,7 +47,7 @@ use Rattle.rtc_part_media.specs.MediaActs.{
   ByOther,
   changes_pending,
 }
-use Rattle.rtc_part_media.specs.MediaLaws.{MediaLaws, SameLines, UsesStream}
+use Rattle.rtc_parts.specs.MediaLaws.{MediaLaws, SameLines, UsesStream}
 use Rattle.rtc_faulty.specs.declared.faulty.Faulty.{Faulty}
 use Rattle.rtc_faulty.specs.Numbering.{is_failing, faults_ahead}
 use Rattle.rtc_faulty.specs.FaultyCalls.{CanFail}

@@ -1,6 +1,6 @@
 //! A faulty association.
 use crate::faulty::Faulty;
-use rtc_part_association::{AssocError, AssocEvent, Association, Ppi};
+use rtc_parts::{AssocError, AssocEvent, Association, Ppi};
 use rtc_wire::{Moment, ReliabilityType};
 use std::alloc::AllocError;
 

@@ -1,6 +1,6 @@
 //! A counted association.
 use crate::{CallKind, Counted};
-use rtc_part_association::{AssocError, AssocEvent, Association, Ppi};
+use rtc_parts::{AssocError, AssocEvent, Association, Ppi};
 use rtc_wire::{Moment, ReliabilityType};
 use std::alloc::AllocError;
 

@@ -1,6 +1,6 @@
 //! A counted DTLS part.
 use crate::{CallKind, Counted};
-use rtc_part_dtls::{DtlsError, DtlsInstance, DtlsPolled, DtlsVersion};
+use rtc_parts::{DtlsError, DtlsInstance, DtlsPolled, DtlsVersion};
 use rtc_wire::Moment;
 use std::alloc::AllocError;
 

@@ -1,6 +1,6 @@
 //! A counted ICE agent.
 use crate::{CallKind, Counted};
-use rtc_part_ice::{IceAgent, IceConnectionState, IceEvent};
+use rtc_parts::{IceAgent, IceConnectionState, IceEvent};
 use rtc_sdp_values::{Candidate, IceCreds};
 use rtc_wire::{Addr, Moment, Protocol, Span, StunError, StunReader, StunView, Transmit};
 use std::alloc::AllocError;

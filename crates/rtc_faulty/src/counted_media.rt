@@ -1,6 +1,6 @@
 //! A counted media part.
 use crate::{CallKind, Counted};
-use rtc_part_media::{
+use rtc_parts::{
     MediaError, MediaSession, MediaSettings, MediaUpdate, NoStream, Reason, SrtpProfile,
     StatsSnapshot,
 };

@@ -1,6 +1,6 @@
 //! A faulty DTLS part.
 use crate::faulty::Faulty;
-use rtc_part_dtls::{DtlsError, DtlsInstance, DtlsPolled, DtlsVersion};
+use rtc_parts::{DtlsError, DtlsInstance, DtlsPolled, DtlsVersion};
 use rtc_wire::Moment;
 use std::alloc::AllocError;
 

@@ -1,6 +1,6 @@
 //! A faulty media part.
 use crate::faulty::Faulty;
-use rtc_part_media::{
+use rtc_parts::{
     MediaError, MediaSession, MediaSettings, MediaUpdate, NoStream, Reason, SrtpProfile,
     StatsSnapshot,
 };

@@ -2,7 +2,7 @@
 use Rattle.std.specs.Prelude.{◌≡◌, ◌≢◌, ◌<◌, ◌^◌, ℕ, List, [], ◌∷◌, Some, codes}
 use Rattle.std.specs.Fmt.{decimal}
 use Rattle.rtc_wire_text.specs.Words.{words}
-use Rattle.rtc_gate_frames.specs.Signal.{utf8_text_in}
+use Rattle.rtc_gate_calls.specs.Signal.{utf8_text_in}
 use Rattle.rtc_gate_calls.specs.declared.gate_call.GateCall.{GateCall}
 use Rattle.rtc_gate_calls.specs.declared.gate_call.GateCall.TheVariants.{Join, Leave, Feed, Take}
 use Rattle.rtc_gate.specs.HexWords.{bytes_in_word}

@@ -1,6 +1,6 @@
 //! Names in a line.
 ghost use Rattle.std.specs.Prelude.{◌≡◌, option_map};
-ghost use Rattle.rtc_gate_frames.specs.Signal.{utf8_text_in as text_of_word};
+ghost use Rattle.rtc_gate_calls.specs.Signal.{utf8_text_in as text_of_word};
 
 use std::str;
 

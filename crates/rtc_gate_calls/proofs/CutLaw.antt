@@ -3,7 +3,7 @@ use Rattle.std.proofs.Common.{◌≡◌, ℕ, ◌==◌, ◌∙◌, Bool, true, f
 use Rattle.std.proofs.lemmas.Bool.Decides.{nat_tests}
 use Rattle.std.proofs.lemmas.List.{map-append}
 use Rattle.std.specs.List.{concat}
-use Rattle.rtc_gate_frames.specs.Signal.{Signal}
+use Rattle.rtc_gate_calls.specs.Signal.{Signal}
 use Rattle.rtc_gate_calls.specs.Routing.{Letter, letter_of, mail_for}
 use Rattle.rtc_gate_calls.specs.GateState.{ConnectionState, GateState, Incoming, roster_entry, roster_of, connection_numbered, resumed, arriving, letters_of, after_mail, fed_connections, after_feed}
 use Rattle.rtc_gate_calls.specs.Replies.{after_call, ran_out}

@@ -1,9 +1,9 @@
 -- A stream that comes in two pieces is read as one that comes in one.
 use Rattle.std.proofs.Common.{◌≡◌, ℕ, ◌+◌, ◌-◌, ◌≤◌, ◌∙◌, Bool, true, false, List, [], ◌∷◌, ◌++◌, length, drop, refl, ap, sym, cond, arith, length-append, append_assoc}
 use Rattle.std.proofs.Math.Seq.{drop-append_seam}
-use Rattle.rtc_gate_frames.specs.Signal.{Signal}
-use Rattle.rtc_gate_frames.specs.SignalStream.{signals_in, tail_of, is_malformed, is_malformed_front, signal_front}
-use Rattle.rtc_gate_frames.proofs.SplitLemmas.{cut_anywhere, malformed_stays, tail_short}
+use Rattle.rtc_gate_calls.specs.Signal.{Signal}
+use Rattle.rtc_gate_calls.specs.SignalStream.{signals_in, tail_of, is_malformed, is_malformed_front, signal_front}
+use Rattle.rtc_gate_calls.proofs.SplitLemmas.{cut_anywhere, malformed_stays, tail_short}
 use Rattle.rtc_gate_calls.specs.GateState.{Incoming, started, whole_size, incoming_behind, resumed, arriving}
 use Rattle.rtc_gate_calls.specs.History.{newly_whole}
 

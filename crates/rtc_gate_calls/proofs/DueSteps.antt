@@ -3,8 +3,8 @@ use Rattle.std.proofs.Common.{◌≡◌, ℕ, ◌+◌, ◌<◌, ◌≤◌, ◌==
 use Rattle.std.specs.Prelude.{slice_get, filter, not, ◌&&◌}
 use Rattle.std.proofs.lemmas.Bool.Decides.{nat_tests}
 use Rattle.std.proofs.lemmas.List.{map-append}
-use Rattle.rtc_gate_frames.specs.Signal.{Signal, signal_bytes}
-use Rattle.rtc_gate_frames.specs.SignalStream as streams
+use Rattle.rtc_gate_calls.specs.Signal.{Signal, signal_bytes}
+use Rattle.rtc_gate_calls.specs.SignalStream as streams
 use Rattle.rtc_gate_calls.specs.Routing.{Letter, letter_of, addressed, is_ungrammatical, mail_for, number_named}
 use Rattle.rtc_gate_calls.specs.GateState.{ConnectionState, GateState, Incoming, started, roster_entry, roster_of, connection_numbered, resumed, arriving, incoming_behind, letters_of, after_mail, without_first, fresh_connection, fed_connections}
 use Rattle.rtc_gate_calls.specs.Gate.{AreNumbered}

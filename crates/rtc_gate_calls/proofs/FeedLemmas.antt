@@ -3,7 +3,7 @@ use Rattle.std.proofs.Common.{◌≡◌, ◌≢◌, ℕ, zero, suc, ◌+◌, ◌
 use Rattle.std.specs.Prelude.{slice_get, IsSomeAnd}
 use Rattle.std.proofs.lemmas.Bool.Decides.{nat_tests}
 use Rattle.std.proofs.lemmas.List.{take_at}
-use Rattle.rtc_gate_frames.specs.SignalStream.{signals_in, tail_of, is_malformed}
+use Rattle.rtc_gate_calls.specs.SignalStream.{signals_in, tail_of, is_malformed}
 use Rattle.rtc_gate_calls.specs.GateState.{Incoming, ConnectionState, roster_entry, roster_of, connection_numbered, whole_size, incoming_behind, resumed, arriving, fed_answer, letters_of, after_mail}
 use Rattle.rtc_gate_calls.specs.declared.gate_error.GateError.{GateError}
 use Rattle.rtc_gate_calls.specs.declared.gate_error.GateError.TheVariants.{BadFrame}

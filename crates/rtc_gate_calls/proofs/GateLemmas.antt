@@ -12,7 +12,7 @@ use Rattle.std.proofs.lemmas.List.{take_at}
 use Rattle.std.proofs.lemmas.Slice.Eq.{bytes_eq-Decides}
 use Rattle.rtc_gate_calls.specs.Routing.{Letter, number_named, letter_of, mail_for, admission, join_answer}
 use Rattle.rtc_gate_calls.specs.GateState.{ConnectionState, roster_entry, roster_of, connection_numbered, without_first, fresh_connection, Incoming, GateState, fed_connections, after_mail, letters_of, IsAnswered, feed_answer, fed_answer, resumed, incoming_behind, after_admission, after_join}
-use Rattle.rtc_gate_frames.specs.SignalStream.{signals_in}
+use Rattle.rtc_gate_calls.specs.SignalStream.{signals_in}
 use Rattle.rtc_wire_text.specs.Tokens.{is_short_token}
 use Rattle.rtc_gate_calls.specs.declared.gate_error.GateError.{GateError}
 use Rattle.rtc_gate_calls.specs.declared.gate_error.GateError.TheVariants.{BadName, NameTaken, Full, NoSuch, BadFrame, Alloc}

@@ -1,3 +1,5 @@
+pub mod FrontLemmas
+pub mod SplitLemmas
 pub mod ConnectionLemmas
 pub mod ParcelLemmas
 pub mod SortLemmas

@@ -1,8 +1,8 @@
 -- Calls that are few are possible.
 use Rattle.std.proofs.Common.{◌≡◌, ℕ, ◌+◌, ◌≤◌, ◌<◌, ◌^◌, ◌&&◌, ◌==◌, Bool, true, false, List, [], ◌∷◌, ◌++◌, length, Option, Some, None, refl, sym, subst, cond, arith, length-append}
 use Rattle.std.specs.Prelude.{Result, Ok, Err, IfSome}
-use Rattle.rtc_gate_frames.specs.SignalStream.{tail_of, is_malformed}
-use Rattle.rtc_gate_frames.proofs.SplitLemmas.{tail_short}
+use Rattle.rtc_gate_calls.specs.SignalStream.{tail_of, is_malformed}
+use Rattle.rtc_gate_calls.proofs.SplitLemmas.{tail_short}
 use Rattle.rtc_gate_calls.specs.Routing.{join_answer}
 use Rattle.rtc_gate_calls.specs.GateState.{ConnectionState, GateState, Incoming, roster_of, connection_numbered, whole_size, incoming_behind, after_admission}
 use Rattle.rtc_gate_calls.specs.Replies.{IsPossible, after_call, gate_behind, ran_out}

@@ -3,7 +3,7 @@ use Rattle.std.specs.Prelude.{◌≡◌, ℕ, ◌+◌, ◌==◌, ◌<◌, ◌^�
 use Rattle.rtc_gate_calls.specs.GateState.{ConnectionState}
 use Rattle.std.specs.BTreeMap.{BTreeMap}
 use Rattle.std.specs.Prelude.{Bool, drop, take, ◌≤◌}
-use Rattle.rtc_gate_frames.specs.SignalStream.{signals_in, tail_of, is_malformed}
+use Rattle.rtc_gate_calls.specs.SignalStream.{signals_in, tail_of, is_malformed}
 use Rattle.rtc_gate_calls.specs.GateState.{roster_of}
 use Rattle.rtc_gate_calls.specs.Gate.{AreNumbered, IsIndex}
 use Rattle.rtc_gate_calls.specs.Routing.{Letter, letter_of}

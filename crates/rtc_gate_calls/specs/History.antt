@@ -22,8 +22,8 @@ use Rattle.std.specs.Prelude.{
   None,
   if◌then◌else◌,
 }
-use Rattle.rtc_gate_frames.specs.Signal.{Signal}
-use Rattle.rtc_gate_frames.specs.SignalStream.{signals_in}
+use Rattle.rtc_gate_calls.specs.Signal.{Signal}
+use Rattle.rtc_gate_calls.specs.SignalStream.{signals_in}
 use Rattle.rtc_gate_calls.specs.Routing.{Letter, letter_of, mail_for}
 use Rattle.rtc_gate_calls.specs.declared.gate_error.GateError.{GateError}
 use Rattle.rtc_gate_calls.specs.declared.gate_error.GateError.TheVariants.{BadName, NameTaken, Full, NoSuch, BadFrame, Alloc}

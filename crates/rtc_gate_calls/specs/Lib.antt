@@ -1,3 +1,6 @@
+pub mod Signal
+pub mod SignalStream
+pub mod ReadFront
 pub mod Grammar
 pub mod Routing
 pub mod GateState

@@ -22,9 +22,9 @@ use Rattle.std.specs.Prelude.{
 }
 use Rattle.std.specs.Str.{bytes_eq}
 use Rattle.rtc_wire_text.specs.Tokens.{is_short_token}
-use Rattle.rtc_gate_frames.specs.declared.signal_kind.SignalKind.{SignalKind}
-use Rattle.rtc_gate_frames.specs.declared.signal_kind.SignalKind.TheVariants.{Offer, Answer, Candidate, NobodyThere, NotInGrammar}
-use Rattle.rtc_gate_frames.specs.Signal.{Signal, signal_bytes}
+use Rattle.rtc_gate_calls.specs.declared.signal_kind.SignalKind.{SignalKind}
+use Rattle.rtc_gate_calls.specs.declared.signal_kind.SignalKind.TheVariants.{Offer, Answer, Candidate, NobodyThere, NotInGrammar}
+use Rattle.rtc_gate_calls.specs.Signal.{Signal, signal_bytes}
 use Rattle.rtc_gate_calls.specs.Grammar.{is_description}
 use Rattle.rtc_gate_calls.specs.declared.gate_error.GateError.{GateError}
 use Rattle.rtc_gate_calls.specs.declared.gate_error.GateError.TheVariants.{BadName, NameTaken, Full}

@@ -1,6 +1,6 @@
 //! The connection that a received frame is for.
 ghost use Rattle.std.specs.Prelude.{◌≡◌, ◌<◌, ◌^◌, [], ◌∷◌, IfOk, IsSomeAnd, slice_get, length};
-ghost use Rattle.rtc_gate_frames.specs.Signal.{signal_of, signal_bytes};
+ghost use Rattle.rtc_gate_calls.specs.Signal.{signal_of, signal_bytes};
 ghost use Rattle.rtc_gate_calls.specs.Routing.{is_ungrammatical as IsUngrammatical, letter_of};
 ghost use Rattle.rtc_gate_calls.specs.GateState.{roster_of};
 ghost use Rattle.rtc_gate_calls.specs.Delivering.{parcel_of, parcel_with, IsPlaced, CanRoute};
@@ -9,7 +9,7 @@ use crate::connection::Connection;
 use crate::delivering::Delivery;
 use crate::describing::{is_answer, is_offer};
 use crate::places::place_of;
-use rtc_gate_frames::{SignalFrame, SignalKind, write_frame};
+use crate::{SignalFrame, SignalKind, write_frame};
 use rtc_wire_text::ShortToken;
 use std::alloc::{AllocError, Global};
 use std::collections::{BTreeMap, LinkedList};

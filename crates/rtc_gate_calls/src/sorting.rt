@@ -5,7 +5,7 @@ ghost use Rattle.rtc_gate_calls.specs.Delivering.{CanRoute, Sorts};
 use crate::connection::Connection;
 use crate::delivering::Delivery;
 use crate::posting::{Sender, route};
-use rtc_gate_frames::{StreamFront, read_front};
+use crate::{StreamFront, read_front};
 use rtc_wire_text::ShortToken;
 use std::alloc::{AllocError, Global};
 use std::collections::{BTreeMap, VecDeque};

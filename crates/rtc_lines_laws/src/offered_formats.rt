@@ -33,7 +33,8 @@ pub fn offered_formats_are_read_back()
     written_text_reads_back();
 }
 
-/// Negotiation reads the lines of such an answer as those of the answer without these formats.
+/// The lines that negotiation reads of such an answer are those of the answer without these formats. The update that a media part gets
+/// of a rejected line still has them.
 pub fn offered_formats_are_ignored()
     ensures { (answer offer : Sdp) → parsed_lines (answer_with_offered answer offer) ≡ parsed_lines answer }
 {}

@@ -16,9 +16,9 @@ use Rattle.rtc_plain_ice.specs.Calls.{lite_set, local_set, local_added}
 use Rattle.rtc_plain_ice.specs.Contents.{IceContents}
 use Rattle.rtc_plain_ice.specs.Messages.{is_ice_message}
 use Rattle.rtc_plain_media.specs.declared.plain_media_event.PlainMediaEvent.{PlainMediaEvent}
-use Rattle.rtc_run_plain.specs.ProgramPair.{PlainPeer, PlainPairState, plain_parts, host_at, program_config, IsProgramPeer, IsProgramPair}
-use Rattle.rtc_run_plain.proofs.PlainPeers.{agent_after, built_agent}
-use Rattle.rtc_run_plain.specs.declared.peer_settings.PeerSettings.{PeerSettings}
+use Rattle.rtc_run.specs.ProgramPair.{PlainPeer, PlainPairState, plain_parts, host_at, program_config, IsProgramPeer, IsProgramPair}
+use Rattle.rtc_run.proofs.PlainPeers.{agent_after, built_agent}
+use Rattle.rtc_run.specs.declared.peer_settings.PeerSettings.{PeerSettings}
 use Rattle.rtc_script.specs.declared.script.Script.{Script}
 use Rattle.rtc_sdp_values.specs.declared.candidate.Candidate.{Candidate}
 use Rattle.rtc_sdp_values.specs.declared.ice_creds.IceCreds.{IceCreds}

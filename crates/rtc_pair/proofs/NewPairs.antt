@@ -10,8 +10,8 @@ use Rattle.rtc_run_history.specs.declared.side.Side.TheVariants.{Left, Right}
 use Rattle.rtc_run_history.specs.PairState.{rtc_at}
 use Rattle.rtc_run_history.specs.DrawnInRuns.{HaveNoLines}
 use Rattle.rtc_run_laws.specs.NewPairs.{IsNewPair, IsNewPeer}
-use Rattle.rtc_run_plain.specs.ProgramPair.{IsProgramPair, IsProgramPeer, PlainPairState, PlainPeer, counting, plain_parts, host_at, program_config}
-use Rattle.rtc_run_plain.specs.declared.peer_settings.PeerSettings.{PeerSettings}
+use Rattle.rtc_run.specs.ProgramPair.{IsProgramPair, IsProgramPeer, PlainPairState, PlainPeer, counting, plain_parts, host_at, program_config}
+use Rattle.rtc_run.specs.declared.peer_settings.PeerSettings.{PeerSettings}
 
 peer_new : (alloc : Global) (settings : PeerSettings) (cert : List ℕ) (first : ℕ) (addr : Addr) (p : PlainPeer)
     → IsProgramPeer alloc settings cert first addr p → IsNewPeer counting p

@@ -6,8 +6,8 @@ use Rattle.rtc_run_laws.proofs.AcknowledgedSides.{run_acknowledges}
 use Rattle.rtc_run_laws.proofs.ConnectedRuns.{run_connected}
 use Rattle.rtc_run_laws.proofs.HandsRuns.{run_hands_out}
 use Rattle.rtc_run_laws.proofs.SettlesRuns.{run_settles_open}
-use Rattle.rtc_run_plain.proofs.PlainFaults.{plain_unfaulted}
-use Rattle.rtc_run_plain.specs.ProgramPair.{counting, plain_parts, PlainPairState}
+use Rattle.rtc_run.proofs.PlainFaults.{plain_unfaulted}
+use Rattle.rtc_run.specs.ProgramPair.{counting, plain_parts, PlainPairState}
 use Rattle.rtc_script.specs.declared.script.Script.{Script}
 use Rattle.rtc_run_history.specs.declared.reply.Reply.{Reply}
 use Rattle.rtc_run_history.specs.declared.step.Step.{Step}

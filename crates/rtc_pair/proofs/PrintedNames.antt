@@ -18,7 +18,7 @@ use Rattle.rtc_run_history.specs.Runs.{Runs}
 use Rattle.rtc_run_laws.proofs.HashCauses.{WhyNames}
 use Rattle.rtc_run_laws.proofs.HashRuns.{EndNames, ErrorNames, OutcomeNames, RepliesName, runs_name}
 use Rattle.rtc_run_laws.proofs.StepsExchange.{plain_over_laws}
-use Rattle.rtc_run_plain.specs.ProgramPair.{PlainPairState, counting, plain_parts}
+use Rattle.rtc_run.specs.ProgramPair.{PlainPairState, counting, plain_parts}
 use Rattle.rtc_script_reports.specs.Fits.{AreInLine, IsEndInLine, IsErrorInLine, IsHashInLine, IsOutcomeInLine, breaks}
 
 unbroken : (text : List ℕ) → Lacks 10 text → breaks text ≡ false

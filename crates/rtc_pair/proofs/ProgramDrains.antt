@@ -13,8 +13,8 @@ use Rattle.rtc_peer_laws.proofs.SetsNone.{built_sets_none}
 use Rattle.rtc_run_history.specs.declared.side.Side.TheVariants.{Left, Right}
 use Rattle.rtc_run_laws.specs.Drains.{AreUndriven}
 use Rattle.rtc_run_laws.proofs.StepsExchange.{plain_over_laws}
-use Rattle.rtc_run_plain.specs.ProgramPair.{IsProgramPair, IsProgramPeer, PlainPairState, PlainPeer, counting, plain_parts, program_config}
-use Rattle.rtc_run_plain.specs.declared.peer_settings.PeerSettings.{PeerSettings}
+use Rattle.rtc_run.specs.ProgramPair.{IsProgramPair, IsProgramPeer, PlainPairState, PlainPeer, counting, plain_parts, program_config}
+use Rattle.rtc_run.specs.declared.peer_settings.PeerSettings.{PeerSettings}
 
 -- no threshold is set at a peer of the program
 peer_unset : (alloc : Global) (settings : PeerSettings) (cert : List ℕ) (first : ℕ) (addr : Addr) (p : PlainPeer)

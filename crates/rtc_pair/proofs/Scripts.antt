@@ -2,7 +2,7 @@
 use Rattle.std.proofs.Common.{◌≡◌, ◌≤◌, ◌^◌, ◌⊎◌, inl, inr, ℕ, true, List, length, Option, subst}
 use Rattle.std.specs.declared.alloc.Global.{Global}
 use Rattle.std.specs.Io.KnownBytes.{Consumes, IsAtEnd}
-use Rattle.rtc_run_plain.specs.ProgramPair.{PlainPairState}
+use Rattle.rtc_run.specs.ProgramPair.{PlainPairState}
 use Rattle.rtc_io.proofs.Told.{reads_input}
 use Rattle.rtc_io.specs.Programs.{ReadsInput}
 use Rattle.rtc_script.specs.Script.{IsScript, IsRefused}

@@ -3,7 +3,7 @@ use Rattle.std.specs.Prelude.{◌≡◌, ◌⊎◌, ℕ, List, Option}
 use Rattle.std.specs.declared.alloc.Global.{Global}
 use Rattle.rtc_io.specs.Programs.{IsDue}
 use Rattle.rtc_demo.specs.DemoWords.{AreDemoWords}
-use Rattle.rtc_run_plain.specs.ProgramPair.{PlainPairState}
+use Rattle.rtc_run.specs.ProgramPair.{PlainPairState}
 use Rattle.rtc_pair.specs.PerformedDemo.{PerformsDemo, IsDemoText}
 use Rattle.rtc_pair.specs.Answers.{script_program, run_words}
 use Rattle.rtc_pair.specs.Words.{AskForNothing}

@@ -21,8 +21,8 @@ use Rattle.rtc_run_laws.specs.ConnectedSides.{ConnectedCanSend}
 use Rattle.rtc_run_laws.specs.Drains.{DrainsWithin}
 use Rattle.rtc_run_laws.specs.HandedOut.{HandsOut}
 use Rattle.rtc_run_laws.specs.SettledPairs.{SettlesOpen}
-use Rattle.rtc_run_plain.specs.ProgramPair.{counting, plain_parts, PlainPairState, IsProgramPair}
-use Rattle.rtc_run_plain.specs.declared.peer_settings.PeerSettings.{PeerSettings}
+use Rattle.rtc_run.specs.ProgramPair.{counting, plain_parts, PlainPairState, IsProgramPair}
+use Rattle.rtc_run.specs.declared.peer_settings.PeerSettings.{PeerSettings}
 use Rattle.rtc_script_reports.specs.Alike.{TellsReplies}
 use Rattle.rtc_script_reports.specs.Fits.{AreAnswersTo, AreFit, AreInLine}
 use Rattle.rtc_script_reports.specs.Report.{report}

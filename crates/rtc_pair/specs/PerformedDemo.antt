@@ -9,7 +9,7 @@ use Rattle.rtc_run_history.specs.Orderly.{are_orderly}
 use Rattle.rtc_run_history.specs.declared.reply.Reply.{Reply}
 use Rattle.rtc_run_history.specs.declared.step.Step.{Step}
 use Rattle.rtc_plain_media.specs.declared.plain_media_event.PlainMediaEvent.{PlainMediaEvent}
-use Rattle.rtc_run_plain.specs.ProgramPair.{PlainPairState}
+use Rattle.rtc_run.specs.ProgramPair.{PlainPairState}
 use Rattle.rtc_script.specs.declared.script.Script.{Script}
 use Rattle.rtc_pair.specs.Performed.{RanScript, lack_memory}
 

@@ -8,8 +8,8 @@ ghost use Rattle.rtc_pair.specs.Performed.{IsReport, KeepsReport, PerformsScript
 use crate::running::{lack_memory, run_script};
 use rtc_io::{OUT_OF_MEMORY, SINK_FAILED, Sink, write_all};
 use rtc_plain::PlainMediaEvent;
+use rtc_run::PlainPair;
 use rtc_run_history::{Reply, Step};
-use rtc_run_plain::PlainPair;
 use rtc_script::Script;
 use rtc_script_reports::write_report;
 use std::alloc::Global;

@@ -13,7 +13,7 @@ use crate::demo::perform_demo;
 use crate::top::run_main;
 use rtc_demo::read_demo;
 use rtc_io::{Sink, Source, USAGE, say};
-use rtc_run_plain::PlainPair;
+use rtc_run::PlainPair;
 use std::alloc::Global;
 
 /// Does what the words ask for, and returns the status. `run` reads a script from `input`, performs it, and writes its

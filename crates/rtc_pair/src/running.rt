@@ -4,9 +4,8 @@ ghost use Rattle.rtc_run_history.specs.Sizes.{steps_size};
 ghost use Rattle.rtc_pair.specs.Performed.{peer_settings, RanScript, lack_memory};
 
 use rtc_plain::PlainMediaEvent;
-use rtc_run::run_pair;
+use rtc_run::{PeerSettings, PlainPair, make_pair, run_pair};
 use rtc_run_history::{Reply, Side};
-use rtc_run_plain::{PeerSettings, PlainPair, make_pair};
 use rtc_script::Script;
 use std::alloc::{AllocError, Global};
 

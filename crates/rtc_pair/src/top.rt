@@ -6,7 +6,7 @@ ghost use Rattle.rtc_pair.specs.Answers.{script_program, RunsScript, CompletesRu
 
 use crate::performing::perform_script;
 use rtc_io::{OUT_OF_MEMORY, Sink, Source, read_input, refuse_input};
-use rtc_run_plain::PlainPair;
+use rtc_run::PlainPair;
 use rtc_script::{ScriptError, read_script};
 use std::alloc::Global;
 

@@ -1,12 +1,77 @@
 //! The outside of a peer: the traits of its parts and of its source of numbers, and the values of their calls.
 #![tactic(auto)]
 
-pub use rtc_part_association::{AssocError, AssocEvent, Association, Ppi};
-pub use rtc_part_dtls::{Dtls, DtlsError, DtlsInstance, DtlsOutput, DtlsPolled, DtlsVersion};
-pub use rtc_part_ice::{IceAgent, IceConnectionState, IceEvent};
-pub use rtc_part_media::{
-    CandidatePairStats, CandidateStats, MediaEgressStats, MediaError, MediaEvent,
-    MediaIngressStats, MediaSession, MediaSettings, MediaUpdate, NoStream, PeerStats, RawPacket,
-    RemoteEgressStats, RemoteIngressStats, StatsEvent, StatsSnapshot, Vp9PacketizerMode,
-};
-pub use rtc_part_values::{Ids, Reason, SrtpProfile};
+mod answers;
+mod assoc_error;
+mod assoc_event;
+mod association;
+mod candidate_pair_stats;
+mod candidate_stats;
+mod completion;
+mod dtls;
+mod dtls_error;
+mod dtls_instance;
+mod dtls_output;
+mod dtls_polled;
+mod dtls_version;
+mod events;
+mod ice_agent;
+mod ice_connection_state;
+mod ice_event;
+mod ids;
+mod media_egress_stats;
+mod media_error;
+mod media_event;
+mod media_ingress_stats;
+mod media_session;
+mod media_settings;
+mod media_update;
+mod no_stream;
+mod outputs;
+mod peer_stats;
+mod ppi;
+mod raw_packet;
+mod reason;
+mod remote_egress_stats;
+mod remote_ingress_stats;
+mod srtp_profile;
+mod stats_event;
+mod stats_snapshot;
+mod vp9_packetizer_mode;
+
+pub use answers::answer_of;
+pub use assoc_error::AssocError;
+pub use assoc_event::AssocEvent;
+pub use association::Association;
+pub use candidate_pair_stats::CandidatePairStats;
+pub use candidate_stats::CandidateStats;
+pub use completion::nothing_read_after_completion;
+pub use dtls::Dtls;
+pub use dtls_error::DtlsError;
+pub use dtls_instance::DtlsInstance;
+pub use dtls_output::DtlsOutput;
+pub use dtls_polled::DtlsPolled;
+pub use dtls_version::DtlsVersion;
+pub use events::events_follow_each_other;
+pub use ice_agent::IceAgent;
+pub use ice_connection_state::IceConnectionState;
+pub use ice_event::IceEvent;
+pub use ids::Ids;
+pub use media_egress_stats::MediaEgressStats;
+pub use media_error::MediaError;
+pub use media_event::MediaEvent;
+pub use media_ingress_stats::MediaIngressStats;
+pub use media_session::MediaSession;
+pub use media_settings::MediaSettings;
+pub use media_update::MediaUpdate;
+pub use no_stream::NoStream;
+pub use peer_stats::PeerStats;
+pub use ppi::Ppi;
+pub use raw_packet::RawPacket;
+pub use reason::Reason;
+pub use remote_egress_stats::RemoteEgressStats;
+pub use remote_ingress_stats::RemoteIngressStats;
+pub use srtp_profile::SrtpProfile;
+pub use stats_event::StatsEvent;
+pub use stats_snapshot::StatsSnapshot;
+pub use vp9_packetizer_mode::Vp9PacketizerMode;

@@ -57,12 +57,12 @@ use Rattle.rtc_sdp_values.proofs.rid.Rid.TheLaws as rids
 use Rattle.rtc_sdp_values.proofs.ssrc.Ssrc.TheLaws as ssrcs
 use Rattle.rtc_sdp_values.specs.contracts.rid.Rid as I-type
 use Rattle.rtc_sdp_values.specs.contracts.ssrc.Ssrc as S-type
-use Rattle.rtc_part_media.proofs.no_stream.NoStream.TheLaws as reasons
-use Rattle.rtc_part_media.specs.NoStream.{StreamAnswers, none_where_declined}
-use Rattle.rtc_part_media.specs.StreamLends.{IfLent, LendsStream}
-use Rattle.rtc_part_media.specs.contracts.no_stream.NoStream as N-type
-use Rattle.rtc_part_media.specs.declared.no_stream.NoStream.{NoStream}
-use Rattle.rtc_part_media.specs.declared.no_stream.NoStream.TheVariants.{Declined, Alloc}
+use Rattle.rtc_parts.proofs.no_stream.NoStream.TheLaws as reasons
+use Rattle.rtc_parts.specs.NoStream.{StreamAnswers, none_where_declined}
+use Rattle.rtc_parts.specs.StreamLends.{IfLent, LendsStream}
+use Rattle.rtc_parts.specs.contracts.no_stream.NoStream as N-type
+use Rattle.rtc_parts.specs.declared.no_stream.NoStream.{NoStream}
+use Rattle.rtc_parts.specs.declared.no_stream.NoStream.TheVariants.{Declined, Alloc}
 
 -- what ends a loan may be replaced by what follows from it
 follows_weaker : {M : Type 1} {𝓤 : Ura M} (𝓛 : Logic 𝓤) (R T : RattleType) (of : GName) (lent : maybe.Option GName)

@@ -1,10 +1,10 @@
 -- What is known while a signal is off outlives calls that leave it off.
 use Rattle.std.specs.Prelude.{max}
 use Rattle.std.proofs.Common.{if◌then◌else◌, ◌≡◌, ◌≢◌, ◌-◌, ◌^◌, ℕ, Bool, true, false, List, Option, Some, None, Result, Ok, refl, sym, ap, subst, ◌∙◌}
-use Rattle.rtc_part_values.specs.declared.reason.Reason.{Reason}
-use Rattle.rtc_part_values.specs.declared.reason.Reason.TheVariants.{DTLS, Ice, Sctp, Channel, Stats as StatsReason}
-use Rattle.rtc_part_media.specs.MediaMeaning.{MediaMeaning}
-use Rattle.rtc_part_media.specs.MediaLaws.{MediaLaws}
+use Rattle.rtc_parts.specs.declared.reason.Reason.{Reason}
+use Rattle.rtc_parts.specs.declared.reason.Reason.TheVariants.{DTLS, Ice, Sctp, Channel, Stats as StatsReason}
+use Rattle.rtc_parts.specs.MediaMeaning.{MediaMeaning}
+use Rattle.rtc_parts.specs.MediaLaws.{MediaLaws}
 use Rattle.rtc_sdp_values.specs.declared.ssrc.Ssrc.{Ssrc}
 use Rattle.rtc_ready.specs.Signals.{Signals, both}
 use Rattle.rtc_sctp.specs.Calls.{streams_wake}
@@ -25,9 +25,9 @@ use Rattle.rtc_peer_transport.specs.Stages.{RepeatsStage}
 use Rattle.rtc_peer_transport.specs.Statistics.{stats_wake}
 use Rattle.rtc_peer_polling.specs.DtlsStages.{is_dtls_due}
 use Rattle.rtc_peer_polling.specs.Walk.{VisitsParts, Waits, WaitsIf, RestsClosed, Walks, AnswersMet, PollsPeerFrom, PollsPeer, with_reason}
-use Rattle.rtc_peer_resting.proofs.QuietVisits.{repeats_once, visited_quiet}
-use Rattle.rtc_peer_resting.proofs.KeptTurns.{phase_of_peer, turns_keep, visits_kept}
-use Rattle.rtc_peer_resting.proofs.Draining.{visit_drains}
+use Rattle.rtc_peer_polling.proofs.QuietVisits.{repeats_once, visited_quiet}
+use Rattle.rtc_peer_polling.proofs.KeptTurns.{phase_of_peer, turns_keep, visits_kept}
+use Rattle.rtc_peer_polling.proofs.Draining.{visit_drains}
 use Rattle.rtc_peer_direct.specs.SourcesAndFeedback.{SendsAppFeedback}
 use Rattle.rtc_peer.specs.CachedPeer.{CachedPeer, AnswersKept, polled_of, kept_if, kept_in, kept_timeout_of}
 use Rattle.rtc_peer.specs.PeerSignals.{MeetsNothing, IsTimed, AreSignals, MeetsParts, EndsClosing}

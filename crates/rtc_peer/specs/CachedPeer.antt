@@ -1,6 +1,6 @@
 -- A peer as its callers see it: the peer that is polled, two signals, and the timeout that is kept.
 use Rattle.std.specs.Prelude.{◌≡◌, ◌-◌, ◌^◌, ℕ, Bool, true, false, Option, Some, None, Result, Ok}
-use Rattle.rtc_part_values.specs.declared.reason.Reason.TheVariants.{NotHappening}
+use Rattle.rtc_parts.specs.declared.reason.Reason.TheVariants.{NotHappening}
 use Rattle.rtc_ready.specs.Signals.{Signals}
 use Rattle.rtc_peer_core.specs.declared.peer.Peer.{Peer}
 use Rattle.rtc_peer_core.specs.declared.phase.Phase.{Phase}

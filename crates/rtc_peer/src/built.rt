@@ -12,11 +12,7 @@ ghost use Rattle.rtc_ready.specs.Signals.{both};
 use crate::Rtc;
 use rtc_config::RtcConfig;
 use rtc_lines::CodecConfig;
-use rtc_part_association::Association;
-use rtc_part_dtls::DtlsInstance;
-use rtc_part_ice::IceAgent;
-use rtc_part_media::MediaSession;
-use rtc_part_values::Ids;
+use rtc_parts::{Association, DtlsInstance, IceAgent, Ids, MediaSession};
 use rtc_wire::Moment;
 use std::alloc::{AllocError, Global};
 

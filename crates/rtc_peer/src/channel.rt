@@ -7,11 +7,7 @@ ghost use Rattle.rtc_peer.specs.CachedPeer.{polled_of};
 
 use crate::Rtc;
 use crate::waking::wake_all;
-use rtc_part_association::Association;
-use rtc_part_dtls::DtlsInstance;
-use rtc_part_ice::IceAgent;
-use rtc_part_media::MediaSession;
-use rtc_part_values::Ids;
+use rtc_parts::{Association, DtlsInstance, IceAgent, Ids, MediaSession};
 use rtc_peer_core::RtcError;
 use rtc_wire::ChannelConfig;
 

@@ -11,11 +11,7 @@ ghost use Rattle.rtc_peer.specs.CachedPeer.{polled_of};
 use crate::Rtc;
 use crate::waking::wake_all;
 use rtc_lines::{Candidate, Fingerprint, IceCreds};
-use rtc_part_association::Association;
-use rtc_part_dtls::{DtlsInstance, DtlsVersion};
-use rtc_part_ice::IceAgent;
-use rtc_part_media::MediaSession;
-use rtc_part_values::Ids;
+use rtc_parts::{Association, DtlsInstance, DtlsVersion, IceAgent, Ids, MediaSession};
 use rtc_peer_core::RtcError;
 use rtc_peer_direct::{
     copy_local_credentials, create_data_channel, invalidate_candidate, set_ice_controlling,

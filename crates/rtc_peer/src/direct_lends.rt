@@ -8,11 +8,7 @@ ghost use Rattle.rtc_peer.specs.CachedPeer.{polled_of};
 use crate::Rtc;
 use crate::waking::wake_all;
 use rtc_lines::Mid;
-use rtc_part_association::Association;
-use rtc_part_dtls::DtlsInstance;
-use rtc_part_ice::IceAgent;
-use rtc_part_media::MediaSession;
-use rtc_part_values::Ids;
+use rtc_parts::{Association, DtlsInstance, IceAgent, Ids, MediaSession};
 use rtc_peer_direct::lend_writer;
 
 impl<I: IceAgent, D: DtlsInstance, S: Association, M: MediaSession, N: Ids> Rtc<I, D, S, M, N> {

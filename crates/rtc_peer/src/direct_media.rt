@@ -8,11 +8,7 @@ ghost use Rattle.rtc_peer.specs.CachedPeer.{polled_of};
 use crate::DirectApi;
 use crate::waking::{wake_all, wake_events};
 use rtc_lines::{MediaKind, Mid, Ssrc};
-use rtc_part_association::Association;
-use rtc_part_dtls::DtlsInstance;
-use rtc_part_ice::IceAgent;
-use rtc_part_media::MediaSession;
-use rtc_part_values::Ids;
+use rtc_parts::{Association, DtlsInstance, IceAgent, Ids, MediaSession};
 use rtc_peer_direct::{
     declare_media, draw_ssrc, enable_twcc_feedback, remove_media, remove_stream_rx,
     remove_stream_tx, send_app_specific_feedback, send_pli_feedback, set_red_send,

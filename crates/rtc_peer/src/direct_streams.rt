@@ -2,8 +2,8 @@
 ghost use Rattle.std.specs.Prelude.{◌≡◌, ◌↔◌, [], IfOk, IfSome, IsNone, IsTrue, is_some};
 ghost use mir.Syntax.{named};
 ghost use Rattle.std.specs.Borrow.{LendsSo, LendsSoOk, sem};
-ghost use Rattle.rtc_part_media.specs.NoStream.{StreamAnswers};
-ghost use Rattle.rtc_part_media.specs.StreamLends.{IfLent, LendsStream};
+ghost use Rattle.rtc_parts.specs.NoStream.{StreamAnswers};
+ghost use Rattle.rtc_parts.specs.StreamLends.{IfLent, LendsStream};
 ghost use Rattle.rtc_peer.specs.contracts.direct_api.DirectApi.{the_row};
 ghost use Rattle.rtc_peer_direct.specs.Streams.{gives_no_rx, gives_no_tx};
 ghost use Rattle.rtc_peer_direct.specs.Streams.{ExpectsRx, DeclaresTx, LendsRx, LendsTx, LendsNamedRx, LendsNamedTx, ResetsTx};
@@ -12,11 +12,7 @@ ghost use Rattle.rtc_peer.specs.CachedPeer.{polled_of};
 use crate::DirectApi;
 use crate::waking::wake_all;
 use rtc_lines::{Mid, Rid, Ssrc};
-use rtc_part_association::Association;
-use rtc_part_dtls::DtlsInstance;
-use rtc_part_ice::IceAgent;
-use rtc_part_media::{MediaSession, NoStream, answer_of};
-use rtc_part_values::Ids;
+use rtc_parts::{Association, DtlsInstance, IceAgent, Ids, MediaSession, NoStream, answer_of};
 use rtc_peer_direct::{
     lend_stream_rx, lend_stream_rx_by_mid, lend_stream_tx, lend_stream_tx_by_mid, make_stream_rx,
     make_stream_tx, reset_stream_tx,

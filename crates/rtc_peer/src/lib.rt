@@ -28,15 +28,12 @@ pub use rtc_lines::{
     IceCreds, Inconsistent, LineKind, LineRow, MediaKind, MediaLine, Mid, Msid, PayloadRow, Pt,
     Rid, Sdp, SdpAnswer, SdpError, SdpOffer, Setup, Simulcast, SimulcastLayer, Ssrc,
 };
-pub use rtc_part_association::Association;
-pub use rtc_part_dtls::{DtlsError, DtlsInstance, DtlsVersion};
-pub use rtc_part_ice::{IceAgent, IceConnectionState};
-pub use rtc_part_media::{
-    CandidatePairStats, CandidateStats, MediaEgressStats, MediaError, MediaEvent,
-    MediaIngressStats, MediaSession, MediaSettings, NoStream, PeerStats, RawPacket,
-    RemoteEgressStats, RemoteIngressStats, Vp9PacketizerMode,
+pub use rtc_parts::{
+    Association, CandidatePairStats, CandidateStats, DtlsError, DtlsInstance, DtlsVersion,
+    IceAgent, IceConnectionState, Ids, MediaEgressStats, MediaError, MediaEvent, MediaIngressStats,
+    MediaSession, MediaSettings, NoStream, PeerStats, RawPacket, Reason, RemoteEgressStats,
+    RemoteIngressStats, Vp9PacketizerMode,
 };
-pub use rtc_part_values::{Ids, Reason};
 pub use rtc_peer_core::{Formats, RtcError};
 pub use rtc_peer_transport::{ChannelData, Event, Input, Output};
 pub use rtc_sctp::{ProtoError, SctpError, SctpInitData};

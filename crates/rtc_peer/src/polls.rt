@@ -14,11 +14,7 @@ ghost use Rattle.rtc_peer.specs.PeerSignals.{MeetsParts};
 
 use crate::Rtc;
 use crate::waking::wake_all;
-use rtc_part_association::Association;
-use rtc_part_dtls::DtlsInstance;
-use rtc_part_ice::IceAgent;
-use rtc_part_media::MediaSession;
-use rtc_part_values::{Ids, Reason};
+use rtc_parts::{Association, DtlsInstance, IceAgent, Ids, MediaSession, Reason};
 use rtc_peer_core::{Phase, RtcError};
 use rtc_peer_polling::{rest, visit};
 use rtc_peer_transport::{Input, Met, Output};

@@ -21,8 +21,8 @@ use Rattle.rtc_peer_core.specs.Meanings.{Meanings, PartsLaws}
 use Rattle.rtc_peer_core.specs.Stance.{stance_of}
 use Rattle.rtc_sdp_codecs.specs.FormedCodecs.{AreFormedRows, AreFormedExtensions}
 use Rattle.rtc_config.specs.RtcConfig.{PeerConfig}
-use Rattle.rtc_part_values.specs.Draws.{Draws}
-use Rattle.rtc_part_media.specs.MediaActs.{ByOther, Configured}
+use Rattle.rtc_parts.specs.Draws.{Draws}
+use Rattle.rtc_parts.specs.MediaActs.{ByOther, Configured}
 use Rattle.rtc_peer_core.specs.Formats.{config_formats, AreFormedFormats}
 use Rattle.rtc_peer_core.specs.Formed.{IsSdpWord, AreSdpCreds, IsSha256, IsFormed}
 use Rattle.rtc_peer_core.proofs.Alls.{all-append, all_token}

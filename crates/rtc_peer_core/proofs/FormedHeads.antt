@@ -10,7 +10,7 @@ use Rattle.rtc_sdp_values.specs.declared.candidate.Candidate.{Candidate}
 use Rattle.rtc_sdp_values.specs.declared.candidate_kind.CandidateKind.TheVariants.{Host}
 use Rattle.rtc_sdp_values.specs.declared.ice_creds.IceCreds.{IceCreds}
 use Rattle.rtc_sdp_values.specs.declared.sdp.Sdp.{Sdp}
-use Rattle.rtc_part_ice.specs.IceMeaning.{IceSettings}
+use Rattle.rtc_parts.specs.IceMeaning.{IceSettings}
 use Rattle.rtc_sctp_values.specs.InitChunk.{chunk_text}
 use Rattle.rtc_sctp_values.specs.InitHalves.{InitHalves, local_text}
 use Rattle.rtc_sctp_values.specs.SnapHalves.{KeptHalves, text_in}

@@ -9,12 +9,12 @@ use Rattle.rtc_wire_text.specs.Tokens.{is_token_byte, is_token}
 use Rattle.rtc_wire_text.proofs.TokenLemmas.{both}
 use Rattle.rtc_sdp_values.specs.declared.media_kind.MediaKind.{MediaKind}
 use Rattle.rtc_sdp_values.specs.declared.media_kind.MediaKind.TheVariants.{Audio, Video}
-use Rattle.rtc_part_values.specs.Draws.{Draws}
+use Rattle.rtc_parts.specs.Draws.{Draws}
 use Rattle.rtc_peer_core.specs.declared.peer.Peer.{Peer}
 use Rattle.rtc_peer_core.specs.Calls.{Wanted, staged_media, uses_source, mid_drawn, stream_drawn, track_drawn}
 use Rattle.rtc_peer_core.specs.Formed.{IsFormedSimulcast, IsFormedSource, IsFormedAdded}
 use Rattle.rtc_peer_core.specs.Meanings.{Meanings}
-use Rattle.rtc_peer_core.specs.Names.{kept_bytes, some_bytes, kept_name, name_of}
+use Rattle.rtc_peer_core.specs.Names.{kept_token_bytes, some_bytes, kept_name, name_of}
 use Rattle.rtc_peer_core.specs.Sources.{is_number, unused, next_source, next_pair, after_pair, next_pairs, pair_numbers, pair_count}
 
 -- ---- names
@@ -46,7 +46,7 @@ some_token (byte ∷ bytes) h = bytes_make_token byte bytes h
 
 kept_token : (name : Option (List ℕ)) → IfSome (kept_name name) (λ kept. is_token kept ≡ true)
 kept_token None = tt
-kept_token (Some name) = some_token (kept_bytes name) (taken_token 64 (filter is_token_byte name) (filtered_token name))
+kept_token (Some name) = some_token (kept_token_bytes name) (taken_token 64 (filter is_token_byte name) (filtered_token name))
 
 -- the digits of a number
 glyph_token : (n : ℕ) → is_token_byte (digit_glyph false (n % 10)) ≡ true

@@ -13,9 +13,9 @@ use Rattle.rtc_sdp_values.specs.declared.media_line.MediaLine.{MediaLine}
 use Rattle.rtc_sdp_values.specs.declared.sdp.Sdp.{Sdp}
 use Rattle.rtc_sdp_values.specs.declared.simulcast.Simulcast.{Simulcast}
 use Rattle.rtc_sdp_codecs.proofs.FormedLemmas.{matched_formed, shared_formed}
-use Rattle.rtc_part_values.specs.Draws.{Draws}
-use Rattle.rtc_part_media.specs.declared.media_update.MediaUpdate.{MediaUpdate}
-use Rattle.rtc_part_media.specs.MediaUpdates.{same_mid, update_mid, latest, removed_by, line_after}
+use Rattle.rtc_parts.specs.Draws.{Draws}
+use Rattle.rtc_parts.specs.declared.media_update.MediaUpdate.{MediaUpdate}
+use Rattle.rtc_parts.specs.MediaUpdates.{same_mid, update_mid, latest, removed_by, line_after}
 use Rattle.rtc_change.specs.declared.add_media.AddMedia.{AddMedia as AddedMedia}
 use Rattle.rtc_change.specs.declared.change.Change.{Change}
 use Rattle.rtc_change.specs.declared.change.Change.TheVariants.{AddMedia, AddApp, AddChannel, Direction as SetDirection, IceRestart}

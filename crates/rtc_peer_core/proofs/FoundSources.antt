@@ -1,6 +1,6 @@
 -- The draw of a source finds an unused number wherever there is one.
 use Rattle.std.proofs.Common.{◌≡◌, ◌+◌, ◌-◌, ◌%◌, ◌<◌, ◌^◌, ◌||◌, zero, suc, ℕ, Bool, true, false, cond, List, refl, sym, ap, ◌∙◌, arith}
-use Rattle.rtc_part_values.specs.Draws.{Draws}
+use Rattle.rtc_parts.specs.Draws.{Draws}
 use Rattle.rtc_peer_core.specs.Sources.{is_number, unused, next_source}
 
 -- the search comes to each number within its tries

@@ -3,7 +3,7 @@ use Rattle.std.proofs.Common.{◌≡◌, ◌<◌, ◌++◌, ℕ, zero, suc, List
 use Rattle.std.specs.Int.{w32, to_be_bytes}
 use Rattle.std.specs.List.{AllByRecursion}
 use Rattle.base64.specs.GeneralPurpose.{IsBytes}
-use Rattle.rtc_part_values.specs.Draws.{Draws}
+use Rattle.rtc_parts.specs.Draws.{Draws}
 use Rattle.rtc_sctp_values.specs.InitChunk.{init_chunk, nonzero_tag, receive_budget, drawn_word, drawn_chunk}
 use Rattle.rtc_sctp_values.specs.InitHalves.{InitHalves, with_remote, with_local, local_half}
 use Rattle.rtc_sctp_values.specs.SnapHalves.{halves_of}

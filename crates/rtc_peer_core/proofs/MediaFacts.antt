@@ -16,8 +16,8 @@ use Rattle.rtc_sdp_values.specs.declared.simulcast_layer.SimulcastLayer.{Simulca
 use Rattle.rtc_sdp_values.specs.declared.ssrc.Ssrc.{Ssrc}
 use Rattle.rtc_sdp_codecs.specs.Codec.{table_row, full_row}
 use Rattle.rtc_sdp_codecs.specs.declared.codec.Codec.TheVariants.{Vp8, H264, Vp9}
-use Rattle.rtc_part_values.specs.Draws.{Draws}
-use Rattle.rtc_part_media.specs.declared.media_update.MediaUpdate.{MediaUpdate}
+use Rattle.rtc_parts.specs.Draws.{Draws}
+use Rattle.rtc_parts.specs.declared.media_update.MediaUpdate.{MediaUpdate}
 use Rattle.rtc_change.specs.declared.add_media.AddMedia.{AddMedia as AddedMedia}
 use Rattle.rtc_peer_core.specs.declared.formats.Formats.{Formats}
 use Rattle.rtc_peer_core.specs.LineUpdates.{bare_sending, sending_of, layered, row_update}

@@ -9,8 +9,8 @@ use Rattle.std.proofs.lemmas.Slice.Eq.{bytes_eq-Decides}
 use Rattle.rtc_wire_text.specs.Fields.{first}
 use Rattle.rtc_wire_text.specs.Once.{IsApart}
 use Rattle.rtc_wire_text.proofs.TokenLemmas.{both}
-use Rattle.rtc_part_values.specs.Among.{Member}
-use Rattle.rtc_part_association.proofs.AmongLemmas.{member-append}
+use Rattle.rtc_parts.specs.Among.{Member}
+use Rattle.rtc_parts.proofs.AmongLemmas.{member-append}
 use Rattle.rtc_sdp_values.specs.Extension.{uri_of, of_uri, same_extension}
 use Rattle.rtc_sdp_values.specs.declared.extension.Extension.{Extension}
 use Rattle.rtc_sdp_values.proofs.ExtensionLemmas.{of_uri-uri_of}

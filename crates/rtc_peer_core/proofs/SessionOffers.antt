@@ -3,8 +3,8 @@ use Rattle.std.proofs.Common.{◌≡◌, ◌+◌, ℕ, Bool, true, false, cond, 
 use Rattle.std.specs.Prelude.{filter}
 use Rattle.std.specs.List.{AllByRecursion}
 use Rattle.std.proofs.lemmas.List.{append_assoc, append-nil}
-use Rattle.rtc_part_values.specs.Among.{Member}
-use Rattle.rtc_part_association.proofs.AmongLemmas.{member-append, member-left, member-right}
+use Rattle.rtc_parts.specs.Among.{Member}
+use Rattle.rtc_parts.proofs.AmongLemmas.{member-append, member-left, member-right}
 use Rattle.rtc_sdp_values.specs.declared.candidate.Candidate.{Candidate}
 use Rattle.rtc_sdp_values.specs.declared.extension.Extension.{Extension}
 use Rattle.rtc_sdp_values.specs.declared.line_row.LineRow.{LineRow}

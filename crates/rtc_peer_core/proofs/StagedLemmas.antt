@@ -20,7 +20,7 @@ use Rattle.rtc_change.proofs.AddedLemmas.{added_mids-append}
 use Rattle.rtc_peer_rows.specs.Table.{app_of, has_mid}
 use Rattle.rtc_sdp_values.specs.declared.line_row.LineRow.{LineRow}
 use Rattle.rtc_channels.specs.Channels.{Channels, MakesChannel}
-use Rattle.rtc_part_values.specs.Draws.{Draws}
+use Rattle.rtc_parts.specs.Draws.{Draws}
 use Rattle.rtc_peer_core.specs.Names.{free_mid, is_held, next_mid}
 use Rattle.rtc_peer_core.specs.Staging.{StagesChannel, lacks_app, lacking_app, after_app, is_kept_by_restart, with_restart}
 use Rattle.rtc_sdp_values.specs.declared.ice_creds.IceCreds.{IceCreds}

@@ -6,7 +6,7 @@ use Rattle.rtc_sctp_values.specs.InitHalves.{InitHalves}
 use Rattle.rtc_sctp_values.specs.declared.proto_error.ProtoError.TheVariants.{Fault as AssociationFault}
 use Rattle.rtc_sctp_values.specs.declared.sctp_error.SctpError.TheVariants.{Proto}
 use Rattle.rtc_channels.specs.Channels.{Channels, all_confirmed}
-use Rattle.rtc_part_dtls.specs.declared.dtls_error.DtlsError.TheVariants.{WouldBlock, Fault, Alloc as DtlsAlloc}
+use Rattle.rtc_parts.specs.declared.dtls_error.DtlsError.TheVariants.{WouldBlock, Fault, Alloc as DtlsAlloc}
 use Rattle.rtc_change.specs.declared.refusal.Refusal.TheVariants.{RemoteSdp as RefusedSdp, Sdp as RefusedText}
 use Rattle.rtc_change.specs.PendingOffer.{PendingOffer, staged_restart}
 use Rattle.rtc_change.specs.Plans.{no_credentials, asked_by, is_offer}

@@ -7,11 +7,11 @@ use Rattle.rtc_sdp_values.specs.Sdp.{creds_of}
 use Rattle.rtc_sdp_values.specs.declared.fingerprint.Fingerprint.{Fingerprint}
 use Rattle.rtc_sdp_values.specs.declared.ice_creds.IceCreds.{IceCreds}
 use Rattle.rtc_sdp_values.specs.declared.sdp.Sdp.{Sdp}
-use Rattle.rtc_part_values.specs.Draws.{Draws}
-use Rattle.rtc_part_ice.specs.IceMeaning.{IceSettings}
-use Rattle.rtc_part_media.specs.MediaLaws.{SameLines}
-use Rattle.rtc_part_media.specs.MediaUpdates.{line_after}
-use Rattle.rtc_part_media.specs.declared.media_update.MediaUpdate.{MediaUpdate}
+use Rattle.rtc_parts.specs.Draws.{Draws}
+use Rattle.rtc_parts.specs.IceMeaning.{IceSettings}
+use Rattle.rtc_parts.specs.MediaLaws.{SameLines}
+use Rattle.rtc_parts.specs.MediaUpdates.{line_after}
+use Rattle.rtc_parts.specs.declared.media_update.MediaUpdate.{MediaUpdate}
 use Rattle.rtc_sctp_values.specs.InitChunk.{drawn_chunk}
 use Rattle.rtc_sctp_values.specs.SnapHalves.{KeptHalves}
 use Rattle.rtc_channels.specs.declared.channel_row.ChannelRow.{ChannelRow}

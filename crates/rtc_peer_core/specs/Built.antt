@@ -4,7 +4,7 @@ use Rattle.std.specs.Prelude.{◌≡◌, ◌-◌, ℕ, Bool, true, false, List, 
 use Rattle.std.specs.Int.{to_be_bytes, w64}
 use Rattle.std.specs.declared.alloc.Global.{Global}
 use Rattle.rtc_sdp_values.specs.declared.ice_creds.IceCreds.{IceCreds}
-use Rattle.rtc_part_dtls.specs.DtlsState.{DtlsState, BeginsDtls}
+use Rattle.rtc_parts.specs.DtlsState.{DtlsState, BeginsDtls}
 use Rattle.rtc_config.specs.RtcConfig.{PeerConfig}
 use Rattle.rtc_sctp_values.specs.SnapHalves.{KeptHalves, nothing_kept, enabled_halves}
 use Rattle.rtc_sctp.specs.Streams.{SctpStreams, no_streams}
@@ -14,7 +14,7 @@ use Rattle.rtc_peer_core.specs.declared.phase.Phase.TheVariants.{Alive}
 use Rattle.rtc_peer_core.specs.Creds.{drawn_creds}
 use Rattle.rtc_peer_core.specs.Formats.{config_formats}
 use Rattle.rtc_peer_core.specs.Meanings.{Meanings}
-use Rattle.rtc_part_values.specs.Draws.{Draws}
+use Rattle.rtc_parts.specs.Draws.{Draws}
 
 module _ {N : Type 0} (draws : Draws N) where
   -- the credentials that are set, or else those that are drawn

@@ -41,7 +41,7 @@ use Rattle.rtc_change.specs.declared.change.Change.TheVariants.{AddMedia, AddCha
 use Rattle.rtc_change.specs.PendingOffer.{PendingOffer, do_offer, new_channels}
 use Rattle.rtc_peer_rows.specs.RowChanges.{RowChange, directed_row, stopped_row, is_changed, changed_of}
 use Rattle.rtc_peer_rows.specs.Table.{row_of}
-use Rattle.rtc_part_values.specs.Draws.{Later}
+use Rattle.rtc_parts.specs.Draws.{Later}
 use Rattle.rtc_sdp_values.specs.Sdp.{sdp_sctp_init}
 use Rattle.rtc_sctp_values.specs.InitChunk.{drawn_chunk}
 use Rattle.rtc_sctp_values.specs.InitHalves.{InitHalves, after_half}

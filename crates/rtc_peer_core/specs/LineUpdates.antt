@@ -13,7 +13,7 @@ use Rattle.rtc_sdp_values.specs.declared.media_kind.MediaKind.TheVariants.{Audio
 use Rattle.rtc_sdp_values.specs.declared.media_line.MediaLine.{MediaLine}
 use Rattle.rtc_sdp_values.specs.declared.simulcast.Simulcast.{Simulcast}
 use Rattle.rtc_sdp_codecs.specs.LineFormats.{matched_rows, shared_extensions}
-use Rattle.rtc_part_media.specs.declared.media_update.MediaUpdate.{MediaUpdate}
+use Rattle.rtc_parts.specs.declared.media_update.MediaUpdate.{MediaUpdate}
 use Rattle.rtc_change.specs.declared.add_media.AddMedia.{AddMedia as AddedMedia}
 use Rattle.rtc_change.specs.declared.change.Change.{Change}
 use Rattle.rtc_change.specs.declared.change.Change.TheVariants.{AddMedia, AddApp, AddChannel, Direction as SetDirection, IceRestart}
@@ -21,7 +21,7 @@ use Rattle.rtc_peer_core.specs.declared.formats.Formats.{Formats}
 use Rattle.rtc_peer_core.specs.declared.sending.Sending.{Sending}
 use Rattle.rtc_peer_core.specs.MadeSdp.{is_stopped}
 use Rattle.rtc_peer_core.specs.Sources.{Pair, pair_numbers, pair_count, next_pairs, after_pairs}
-use Rattle.rtc_part_values.specs.Draws.{Draws}
+use Rattle.rtc_parts.specs.Draws.{Draws}
 
 abbrev pub media_of_change : Change → Option AddedMedia
 media_of_change (AddMedia media) = Some media

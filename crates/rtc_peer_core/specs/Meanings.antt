@@ -1,13 +1,13 @@
 -- What the five parts of a peer mean, together.
-use Rattle.rtc_part_ice.specs.IceMeaning.{IceMeaning}
-use Rattle.rtc_part_ice.specs.IceLaws.{IceLaws}
-use Rattle.rtc_part_dtls.specs.DtlsMeaning.{DtlsMeaning}
-use Rattle.rtc_part_dtls.specs.DtlsLaws.{DtlsLaws}
-use Rattle.rtc_part_association.specs.AssociationMeaning.{AssociationMeaning}
-use Rattle.rtc_part_association.specs.AssociationLaws.{AssociationLaws}
-use Rattle.rtc_part_media.specs.MediaMeaning.{MediaMeaning}
-use Rattle.rtc_part_media.specs.MediaLaws.{MediaLaws}
-use Rattle.rtc_part_values.specs.Draws.{Draws}
+use Rattle.rtc_parts.specs.IceMeaning.{IceMeaning}
+use Rattle.rtc_parts.specs.IceLaws.{IceLaws}
+use Rattle.rtc_parts.specs.DtlsMeaning.{DtlsMeaning}
+use Rattle.rtc_parts.specs.DtlsLaws.{DtlsLaws}
+use Rattle.rtc_parts.specs.AssociationMeaning.{AssociationMeaning}
+use Rattle.rtc_parts.specs.AssociationLaws.{AssociationLaws}
+use Rattle.rtc_parts.specs.MediaMeaning.{MediaMeaning}
+use Rattle.rtc_parts.specs.MediaLaws.{MediaLaws}
+use Rattle.rtc_parts.specs.Draws.{Draws}
 
 -- I is the ICE agent, D the DTLS part, S the association and M the media part, whose events, streams and writers are E, X, T
 -- and W; N is the source of numbers

@@ -7,7 +7,7 @@ use Rattle.rtc_sdp_values.specs.declared.line_row.LineRow.{LineRow}
 use Rattle.rtc_change.specs.declared.change.Change.{Change}
 use Rattle.rtc_peer_rows.specs.Table.{has_mid}
 use Rattle.rtc_change.specs.PendingOffer.{added_mids, adds_mid}
-use Rattle.rtc_part_values.specs.Draws.{Draws}
+use Rattle.rtc_parts.specs.Draws.{Draws}
 
 -- the mid of a number: m and its decimal
 abbrev pub drawn_mid : ℕ → List ℕ
@@ -28,8 +28,8 @@ next_mid draws rows staged ids =
     free_mid (is_held rows staged) (length rows + length (added_mids staged)) (draws.drawn ids % 2 ^ 32)
 
 -- what is kept of a name that is given: its token bytes, at most 64
-abbrev pub kept_bytes : List ℕ → List ℕ
-kept_bytes name = take 64 (filter is_token_byte name)
+abbrev pub kept_token_bytes : List ℕ → List ℕ
+kept_token_bytes name = take 64 (filter is_token_byte name)
 
 abbrev pub some_bytes : List ℕ → Option (List ℕ)
 some_bytes [] = None
@@ -38,7 +38,7 @@ some_bytes (byte ∷ bytes) = Some (byte ∷ bytes)
 -- a given name, if something is kept of it
 abbrev pub kept_name : Option (List ℕ) → Option (List ℕ)
 kept_name None = None
-kept_name (Some name) = some_bytes (kept_bytes name)
+kept_name (Some name) = some_bytes (kept_token_bytes name)
 
 -- the name that is given, or else one that is drawn: a prefix and a decimal
 abbrev pub name_of : {N : Type 0} → Draws N → List ℕ → Option (List ℕ) → N → List ℕ

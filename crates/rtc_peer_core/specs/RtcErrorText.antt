@@ -4,8 +4,8 @@ use Rattle.rtc_wire.specs.declared.io_text.IoText.TheVariants.{EmptyDatagram, Un
 use Rattle.rtc_wire.specs.declared.net_error.NetError.{NetError}
 use Rattle.rtc_wire.specs.declared.net_error.NetError.TheVariants.{Stun, Io}
 use Rattle.rtc_sdp_values.specs.SdpErrorText.{sdp_error_text}
-use Rattle.rtc_part_dtls.specs.DtlsErrorText.{dtls_error_text}
-use Rattle.rtc_part_media.specs.MediaErrorText.{media_error_text}
+use Rattle.rtc_parts.specs.DtlsErrorText.{dtls_error_text}
+use Rattle.rtc_parts.specs.MediaErrorText.{media_error_text}
 use Rattle.rtc_sctp_values.specs.SctpErrorText.{sctp_error_text}
 use Rattle.rtc_peer_rows.specs.WhyText.{why_text}
 use Rattle.rtc_peer_core.specs.declared.rtc_error.RtcError.{RtcError}

@@ -4,7 +4,7 @@ use Rattle.std.specs.Option.{option_or}
 use Rattle.std.specs.List.{list_any}
 use Rattle.rtc_wire_text.specs.Fields.{first}
 use Rattle.rtc_wire_text.specs.Once.{IsApart}
-use Rattle.rtc_part_values.specs.Among.{Member}
+use Rattle.rtc_parts.specs.Among.{Member}
 use Rattle.rtc_sdp_values.specs.Extension.{same_extension}
 use Rattle.rtc_sdp_values.specs.declared.extension.Extension.{Extension}
 use Rattle.rtc_sdp_values.specs.declared.media_line.MediaLine.{MediaLine}

@@ -24,8 +24,8 @@ use Rattle.rtc_sdp_values.specs.declared.media_kind.MediaKind.{MediaKind}
 use Rattle.rtc_sdp_values.specs.declared.media_kind.MediaKind.TheVariants.{Audio, Video}
 use Rattle.rtc_sdp_values.specs.declared.ssrc.Ssrc.{Ssrc}
 use Rattle.rtc_sdp_values.specs.declared.simulcast.Simulcast.{Simulcast}
-use Rattle.rtc_part_media.specs.MediaMeaning.{MediaMeaning}
-use Rattle.rtc_part_values.specs.Draws.{Draws}
+use Rattle.rtc_parts.specs.MediaMeaning.{MediaMeaning}
+use Rattle.rtc_parts.specs.Draws.{Draws}
 
 -- an SSRC, with its RTX SSRC
 abbrev pub Pair : Type 0

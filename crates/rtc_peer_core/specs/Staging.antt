@@ -10,7 +10,7 @@ use Rattle.rtc_peer_rows.specs.Table.{app_of}
 use Rattle.rtc_change.specs.declared.change.Change.{Change}
 use Rattle.rtc_change.specs.declared.change.Change.TheVariants.{AddApp, AddChannel, IceRestart}
 use Rattle.rtc_change.specs.PendingOffer.{contains_add_app, restart_of}
-use Rattle.rtc_part_values.specs.Draws.{Draws}
+use Rattle.rtc_parts.specs.Draws.{Draws}
 use Rattle.rtc_peer_core.specs.Names.{is_held, next_mid}
 
 -- whether neither a row nor a staged line is one of data channels

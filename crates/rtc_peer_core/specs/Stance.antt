@@ -2,14 +2,14 @@
 use Rattle.std.specs.Prelude.{ℕ, Bool, List, Option, is_some}
 use Rattle.rtc_sdp_values.specs.declared.fingerprint.Fingerprint.{Fingerprint}
 use Rattle.rtc_sdp_values.specs.declared.line_row.LineRow.{LineRow}
-use Rattle.rtc_part_ice.specs.IceMeaning.{IceSettings}
+use Rattle.rtc_parts.specs.IceMeaning.{IceSettings}
 use Rattle.rtc_sctp_values.specs.InitHalves.{remote_text}
 use Rattle.rtc_sctp_values.specs.SnapHalves.{KeptHalves, text_in}
 use Rattle.rtc_channels.specs.Channels.{Channels}
 use Rattle.rtc_channels.specs.declared.channel_row.ChannelRow.{ChannelRow}
 use Rattle.rtc_change.specs.declared.change.Change.{Change}
 use Rattle.rtc_change.specs.Held.{Held}
-use Rattle.rtc_part_media.specs.declared.media_update.MediaUpdate.{MediaUpdate}
+use Rattle.rtc_parts.specs.declared.media_update.MediaUpdate.{MediaUpdate}
 use Rattle.rtc_peer_core.specs.declared.formats.Formats.{Formats}
 use Rattle.rtc_peer_core.specs.declared.peer.Peer.{Peer}
 use Rattle.rtc_peer_core.specs.ChannelRows.{channel_rows}

@@ -9,7 +9,7 @@ use Rattle.rtc_change.specs.declared.change.Change.{Change}
 use Rattle.rtc_change.specs.Held.{Asked}
 use Rattle.rtc_change.specs.Plans.{verdict, is_offer, may_take_init}
 use Rattle.rtc_change.specs.TableAfter.{table_after}
-use Rattle.rtc_part_values.specs.Draws.{Later}
+use Rattle.rtc_parts.specs.Draws.{Later}
 use Rattle.rtc_peer_core.specs.declared.peer.Peer.{Peer}
 use Rattle.rtc_peer_core.specs.MadeSdp.{role_for, role_after}
 use Rattle.rtc_peer_core.specs.Meanings.{Meanings}

@@ -7,7 +7,7 @@ ghost use Rattle.rtc_peer_core.specs.StagedIndex.{is_indexed_mid};
 use arrayvec::ArrayString;
 use itoa::Buffer;
 use rtc_change::Lines;
-use rtc_part_values::Ids;
+use rtc_parts::Ids;
 use rtc_sdp_values::Mid;
 use std::alloc::AllocError;
 use std::collections::BTreeSet;

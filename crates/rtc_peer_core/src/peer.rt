@@ -2,8 +2,7 @@
 use crate::{Formats, Phase, Staged, Undo};
 use rtc_change::Lines;
 use rtc_channels::ChannelHandler;
-use rtc_part_association::Association;
-use rtc_part_dtls::Dtls;
+use rtc_parts::{Association, Dtls};
 use rtc_sctp::RtcSctp;
 use rtc_sdp_values::Fingerprint;
 use rtc_wire::Moment;

@@ -8,8 +8,7 @@ ghost use Rattle.rtc_peer_core.specs.RtcErrorText.{net_error_text};
 
 use rtc_change::{Refusal, Why};
 use rtc_channels::ChannelError;
-use rtc_part_dtls::DtlsError;
-use rtc_part_media::MediaError;
+use rtc_parts::{DtlsError, MediaError};
 use rtc_sctp::SctpError;
 use rtc_sdp_values::SdpError;
 use rtc_wire::{IoText, NetError};

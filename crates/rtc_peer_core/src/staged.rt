@@ -3,14 +3,14 @@ ghost use Rattle.std.specs.Prelude.{◌≡◌, ◌≢◌, ◌↔◌, ◌+◌, �
 ghost use Rattle.std.specs.Prelude.{filter, length, vec_len, vec_capacity, IfOk, OnOk, OnErr, IsTrue};
 ghost use Rattle.rtc_change.specs.declared.change.Change.TheVariants.{AddMedia as MediaAdded, Direction as DirectionSet};
 ghost use Rattle.rtc_change.specs.PendingOffer.{added_mids, adds_mid, contains_add_app};
-ghost use Rattle.rtc_part_values.specs.Draws.{Later};
+ghost use Rattle.rtc_parts.specs.Draws.{Later};
 ghost use Rattle.rtc_peer_core.specs.Names.{is_held, next_mid};
 ghost use Rattle.rtc_peer_core.specs.Staging.{StagesChannel, is_kept_by_restart, with_restart};
 
 use crate::drawing::{count_lines, draw_mid, lacks_app};
 use rtc_change::{AddMedia, Change, Changes, Lines};
 use rtc_channels::{ChannelError, ChannelHandler};
-use rtc_part_values::Ids;
+use rtc_parts::Ids;
 use rtc_sdp_values::{Direction, IceCreds, Mid};
 use rtc_wire::{ChannelConfig, ChannelId, Seq};
 use std::alloc::{AllocError, Global};
@@ -133,7 +133,7 @@ impl Staged {
     }
 
     /// Draws a mid that no row and no staged line has.
-    #[tactic(auto, using(rtc_part_values::proofs::LaterLemmas::later_none, rtc_part_values::proofs::LaterLemmas::later_once))]
+    #[tactic(auto, using(rtc_parts::proofs::LaterLemmas::later_none, rtc_parts::proofs::LaterLemmas::later_once))]
     pub fn draw_mid<N: Ids>(&self, ids: &mut N, lines: &Lines) -> Result<Mid, AllocError>
         ensures mid { IfOk result (λ mid. mid ≡ next_mid N.ids lines.now self.now ids.old) }
         ensures free { IfOk result (λ mid. is_held lines.now self.now mid ≡ false) }

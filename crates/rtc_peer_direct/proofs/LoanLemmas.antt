@@ -2,8 +2,8 @@
 use Rattle.std.proofs.Common.{◌≡◌, ◌&&◌, ◌||◌, not, Bool, true, false, Option, Some, None, Result, Ok, Err, refl, ap}
 use Rattle.std.specs.Option.{IfSome}
 use Rattle.std.specs.Result.{IsOk, IfOk, OnErr}
-use Rattle.rtc_part_media.specs.declared.no_stream.NoStream.{NoStream}
-use Rattle.rtc_part_media.specs.NoStream.{StreamAnswers}
+use Rattle.rtc_parts.specs.declared.no_stream.NoStream.{NoStream}
+use Rattle.rtc_parts.specs.NoStream.{StreamAnswers}
 use Rattle.rtc_peer_transport.specs.declared.polled_peer.PolledPeer.{PolledPeer}
 use Rattle.rtc_peer_transport.specs.Connection.{with_media}
 

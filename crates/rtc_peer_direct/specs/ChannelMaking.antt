@@ -1,7 +1,7 @@
 -- How a user starts the association and makes channels without session descriptions.
 use Rattle.std.specs.Prelude.{◌≡◌, ℕ, Bool, true, false, not, Option, None, Result, Ok, Err}
 use Rattle.rtc_wire.specs.declared.channel_config.ChannelConfig.{ChannelConfig}
-use Rattle.rtc_part_association.specs.AssociationMeaning.{AssociationMeaning}
+use Rattle.rtc_parts.specs.AssociationMeaning.{AssociationMeaning}
 use Rattle.rtc_sctp_values.specs.declared.sctp_error.SctpError.{SctpError}
 use Rattle.rtc_sctp_values.specs.InitHalves.{InitHalves}
 use Rattle.rtc_channels.specs.Channels.{Channels, is_bad_channel, with_channel, confirmed}

@@ -5,7 +5,7 @@ use Rattle.rtc_sdp_values.specs.declared.line_row.LineRow.{LineRow}
 use Rattle.rtc_sdp_values.specs.declared.media_kind.MediaKind.{MediaKind}
 use Rattle.rtc_peer_rows.specs.DeclaredMedia.{Declares, media_place, rows_without}
 use Rattle.rtc_peer_rows.specs.Table.{row_of}
-use Rattle.rtc_part_media.specs.MediaMeaning.{MediaMeaning}
+use Rattle.rtc_parts.specs.MediaMeaning.{MediaMeaning}
 use Rattle.rtc_peer_transport.specs.declared.polled_peer.PolledPeer.{PolledPeer}
 
 -- whether a row of media has a mid

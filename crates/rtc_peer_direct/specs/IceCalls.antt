@@ -2,7 +2,7 @@
 use Rattle.std.specs.Prelude.{◌≡◌, Bool}
 use Rattle.rtc_sdp_values.specs.declared.candidate.Candidate.{Candidate}
 use Rattle.rtc_sdp_values.specs.declared.ice_creds.IceCreds.{IceCreds}
-use Rattle.rtc_part_ice.specs.IceMeaning.{IceMeaning}
+use Rattle.rtc_parts.specs.IceMeaning.{IceMeaning}
 use Rattle.rtc_peer_transport.specs.declared.polled_peer.PolledPeer.{PolledPeer}
 use Rattle.rtc_peer_transport.specs.Connection.{with_ice}
 

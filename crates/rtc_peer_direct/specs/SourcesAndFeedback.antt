@@ -2,8 +2,8 @@
 use Rattle.std.specs.Prelude.{◌≡◌, ℕ, Bool, List, [], Result}
 use Rattle.std.specs.declared.alloc.AllocError.{AllocError}
 use Rattle.rtc_sdp_values.specs.declared.ssrc.Ssrc.{Ssrc}
-use Rattle.rtc_part_values.specs.Draws.{Draws}
-use Rattle.rtc_part_media.specs.MediaMeaning.{MediaMeaning}
+use Rattle.rtc_parts.specs.Draws.{Draws}
+use Rattle.rtc_parts.specs.MediaMeaning.{MediaMeaning}
 use Rattle.rtc_peer_core.specs.Sources.{has_source, next_source}
 use Rattle.rtc_peer_transport.specs.declared.polled_peer.PolledPeer.{PolledPeer}
 use Rattle.rtc_peer_transport.specs.Connection.{with_media}

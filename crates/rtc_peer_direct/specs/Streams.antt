@@ -2,7 +2,7 @@
 -- it was lent, what was left there, and the peer after it: whatever is written there, nothing but the media part changes.
 use Rattle.std.specs.Prelude.{◌≡◌, ◌||◌, ◌&&◌, ℕ, Bool, not, List, Option}
 use Rattle.rtc_sdp_values.specs.declared.ssrc.Ssrc.{Ssrc}
-use Rattle.rtc_part_media.specs.MediaMeaning.{MediaMeaning}
+use Rattle.rtc_parts.specs.MediaMeaning.{MediaMeaning}
 use Rattle.rtc_peer_transport.specs.declared.polled_peer.PolledPeer.{PolledPeer}
 use Rattle.rtc_peer_transport.specs.ChannelCalls.{is_phase_open}
 use Rattle.rtc_peer_transport.specs.Connection.{with_media}

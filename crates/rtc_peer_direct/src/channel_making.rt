@@ -4,7 +4,7 @@ ghost use Rattle.rtc_peer_core.specs.PartMoves.{StartsWhere, remote_limit};
 ghost use Rattle.rtc_peer_direct.specs.ChannelMaking.{start_answer, StartsStreams, CreatesChannel};
 
 use rtc_channels::ChannelError;
-use rtc_part_association::Association;
+use rtc_parts::Association;
 use rtc_peer_core::RtcError;
 use rtc_peer_transport::PolledPeer;
 use rtc_sctp::{RtcSctp, SctpError, SctpInitData};

@@ -2,8 +2,7 @@
 ghost use Rattle.std.specs.Prelude.{◌≡◌};
 ghost use Rattle.rtc_peer_direct.specs.DtlsCalls.{with_fingerprint, role_answer, TakesDtlsRole};
 
-use rtc_part_association::Association;
-use rtc_part_dtls::{DtlsError, DtlsInstance};
+use rtc_parts::{Association, DtlsError, DtlsInstance};
 use rtc_peer_core::RtcError;
 use rtc_peer_transport::PolledPeer;
 use rtc_sdp_values::Fingerprint;

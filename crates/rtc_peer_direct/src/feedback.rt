@@ -1,10 +1,8 @@
 //! SSRCs that are drawn, and what is sent to the media of the other side.
 ghost use Rattle.rtc_peer_direct.specs.SourcesAndFeedback.{DrawsSource, SetsRed, EnablesTwcc, SendsAppFeedback, SendsPli};
 
-use rtc_part_association::Association;
-use rtc_part_media::MediaSession;
-use rtc_part_values::Ids;
-use rtc_peer_draws::{EarlierNumbers, draw_source};
+use rtc_parts::{Association, Ids, MediaSession};
+use rtc_peer_sdp::{EarlierNumbers, draw_source};
 use rtc_peer_transport::PolledPeer;
 use rtc_sdp_values::{Mid, Ssrc};
 use std::alloc::AllocError;

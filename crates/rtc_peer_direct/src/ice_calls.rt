@@ -2,8 +2,7 @@
 ghost use Rattle.std.specs.Prelude.{◌≡◌, IfOk};
 ghost use Rattle.rtc_peer_direct.specs.IceCalls.{SetsControlling, SetsLite, SetsLocalCreds, SetsRemoteCreds, InvalidatesCandidate};
 
-use rtc_part_association::Association;
-use rtc_part_ice::IceAgent;
+use rtc_parts::{Association, IceAgent};
 use rtc_peer_transport::PolledPeer;
 use rtc_sdp_values::{Candidate, IceCreds};
 use rtc_wire::TryCopy;

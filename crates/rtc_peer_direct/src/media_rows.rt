@@ -3,8 +3,7 @@ ghost use Rattle.std.specs.Prelude.{◌≡◌};
 ghost use Rattle.rtc_peer_direct.specs.DeclaredRows.{has_media_row, DeclaresMedia, RemovesMedia};
 
 use rtc_change::Lines;
-use rtc_part_association::Association;
-use rtc_part_media::MediaSession;
+use rtc_parts::{Association, MediaSession};
 use rtc_peer_core::count_lines;
 use rtc_peer_transport::PolledPeer;
 use rtc_sdp_values::{LineRow, MediaKind, Mid};

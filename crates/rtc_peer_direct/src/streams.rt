@@ -1,15 +1,14 @@
 //! Streams and writers that are made, dropped and lent.
 ghost use Rattle.std.specs.Prelude.{◌≡◌, IfOk, IfSome, is_some};
 ghost use Rattle.std.specs.Borrow.{LendsSo, LendsSoOk, sem};
-ghost use Rattle.rtc_part_media.specs.NoStream.{StreamAnswers};
+ghost use Rattle.rtc_parts.specs.NoStream.{StreamAnswers};
 ghost use Rattle.rtc_peer_transport.specs.contracts.polled_peer.PolledPeer.{the_row};
 ghost use Rattle.rtc_peer_transport.specs.ChannelCalls.{is_phase_open};
 ghost use Rattle.rtc_peer_direct.specs.Streams.{RemovesRx, RemovesTx, gives_no_rx, gives_no_tx, gives_writer};
 ghost use Rattle.rtc_peer_direct.specs.Streams.{ExpectsRx, DeclaresTx, LendsRx, LendsTx, LendsNamedRx, LendsNamedTx, ResetsTx, LendsWriter};
 
 use crate::media_rows::has_media;
-use rtc_part_association::Association;
-use rtc_part_media::{MediaSession, NoStream};
+use rtc_parts::{Association, MediaSession, NoStream};
 use rtc_peer_core::Phase;
 use rtc_peer_transport::PolledPeer;
 use rtc_sdp_values::{Mid, Rid, Ssrc};

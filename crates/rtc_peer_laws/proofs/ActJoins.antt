@@ -2,20 +2,20 @@
 use Rattle.std.proofs.Common.{◌≡◌, ◌++◌, inl, inr, ℕ, Bool, List, [], map, Option, append-nil, refl, sym, ap, subst, ◌∙◌}
 use Rattle.std.proofs.lemmas.List.{map-append}
 use Rattle.rtc_wire.specs.declared.transmit.Transmit.{Transmit}
-use Rattle.rtc_part_values.specs.Among.{Member, Among}
-use Rattle.rtc_part_association.proofs.AmongLemmas.{member-append, member-left, member-right, among_none, among_self}
-use Rattle.rtc_part_association.specs.AssociationActs.{moved-append}
-use Rattle.rtc_part_association.specs.AssociationLaws.{AssociationLaws}
-use Rattle.rtc_part_association.specs.AssociationWords.{given, taken}
-use Rattle.rtc_part_association.proofs.AssociationLemmas.{given-append, taken-append}
-use Rattle.rtc_part_ice.specs.IceActs.{IceAct, IceMoved, ice_moved-append}
-use Rattle.rtc_part_ice.specs.IceWords.{ice_given, ice_taken}
-use Rattle.rtc_part_ice.proofs.IceLemmas.{ice_given-append}
-use Rattle.rtc_part_dtls.specs.DtlsActs.{DtlsAct, DtlsMoved, dtls_moved-append}
-use Rattle.rtc_part_dtls.specs.DtlsState.{DtlsState}
-use Rattle.rtc_part_dtls.specs.DtlsWords.{dtls_given, dtls_taken, dtls_sent, dtls_got}
-use Rattle.rtc_part_dtls.proofs.DtlsLemmas.{dtls_given-append, dtls_sent-append, dtls_got-append}
-use Rattle.rtc_part_media.specs.MediaActs.{MediaAct, MediaMoved, media_moved-append}
+use Rattle.rtc_parts.specs.Among.{Member, Among}
+use Rattle.rtc_parts.proofs.AmongLemmas.{member-append, member-left, member-right, among_none, among_self}
+use Rattle.rtc_parts.specs.AssociationActs.{moved-append}
+use Rattle.rtc_parts.specs.AssociationLaws.{AssociationLaws}
+use Rattle.rtc_parts.specs.AssociationWords.{given, taken}
+use Rattle.rtc_parts.proofs.AssociationLemmas.{given-append, taken-append}
+use Rattle.rtc_parts.specs.IceActs.{IceAct, IceMoved, ice_moved-append}
+use Rattle.rtc_parts.specs.IceWords.{ice_given, ice_taken}
+use Rattle.rtc_parts.proofs.IceLemmas.{ice_given-append}
+use Rattle.rtc_parts.specs.DtlsActs.{DtlsAct, DtlsMoved, dtls_moved-append}
+use Rattle.rtc_parts.specs.DtlsState.{DtlsState}
+use Rattle.rtc_parts.specs.DtlsWords.{dtls_given, dtls_taken, dtls_sent, dtls_got}
+use Rattle.rtc_parts.proofs.DtlsLemmas.{dtls_given-append, dtls_sent-append, dtls_got-append}
+use Rattle.rtc_parts.specs.MediaActs.{MediaAct, MediaMoved, media_moved-append}
 use Rattle.rtc_sctp_laws.specs.StreamActs.{AssociationDid}
 use Rattle.rtc_sctp_laws.specs.StreamMessages.{StreamMessage, write_act, read_act, writes_of, reads_of, pushed_packets}
 use Rattle.rtc_sctp_laws.proofs.ActLemmas.{named-append}

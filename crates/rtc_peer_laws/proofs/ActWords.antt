@@ -2,17 +2,17 @@
 use Rattle.std.proofs.Common.{◌≡◌, ◌++◌, ◌∷◌, inl, inr, ℕ, Bool, List, [], append_assoc, map, Option, refl, sym, ap, subst, ◌∙◌}
 use Rattle.std.proofs.lemmas.List.{map-append}
 use Rattle.rtc_wire.specs.declared.transmit.Transmit.{Transmit}
-use Rattle.rtc_part_values.specs.Why.{Timed}
-use Rattle.rtc_part_values.specs.Among.{Member, Among}
-use Rattle.rtc_part_association.proofs.AmongLemmas.{member-append, member-left, member-right}
-use Rattle.rtc_part_association.specs.AssociationActs.{AssociationAct, Wrote, Read}
-use Rattle.rtc_part_ice.specs.IceActs.{IceAct, Stirred as IceStirred, TimedAt as IceTimed}
-use Rattle.rtc_part_ice.specs.IceWords.{ice_taken}
-use Rattle.rtc_part_ice.proofs.IceLemmas.{ice_taken-append}
-use Rattle.rtc_part_dtls.specs.DtlsActs.{DtlsAct, Stirred as DtlsStirred, TimedAt as DtlsTimed}
-use Rattle.rtc_part_dtls.specs.DtlsWords.{dtls_taken}
-use Rattle.rtc_part_dtls.proofs.DtlsLemmas.{dtls_taken-append}
-use Rattle.rtc_part_media.specs.MediaActs.{MediaAct, MediaGiven, MediaTaken, MediaStirred}
+use Rattle.rtc_parts.specs.Why.{Timed}
+use Rattle.rtc_parts.specs.Among.{Member, Among}
+use Rattle.rtc_parts.proofs.AmongLemmas.{member-append, member-left, member-right}
+use Rattle.rtc_parts.specs.AssociationActs.{AssociationAct, Wrote, Read}
+use Rattle.rtc_parts.specs.IceActs.{IceAct, Stirred as IceStirred, TimedAt as IceTimed}
+use Rattle.rtc_parts.specs.IceWords.{ice_taken}
+use Rattle.rtc_parts.proofs.IceLemmas.{ice_taken-append}
+use Rattle.rtc_parts.specs.DtlsActs.{DtlsAct, Stirred as DtlsStirred, TimedAt as DtlsTimed}
+use Rattle.rtc_parts.specs.DtlsWords.{dtls_taken}
+use Rattle.rtc_parts.proofs.DtlsLemmas.{dtls_taken-append}
+use Rattle.rtc_parts.specs.MediaActs.{MediaAct, MediaGiven, MediaTaken, MediaStirred}
 use Rattle.rtc_sctp_laws.specs.StreamMessages.{writes_of, reads_of}
 use Rattle.rtc_peer_laws.specs.PeerActs.{acts_with, PeerActs, media_given, media_taken, ice_moments, dtls_moments, media_moments, contents_taken}
 use Rattle.rtc_peer_laws.specs.PeerActs.{dtls_roles, first_role, role_of_act, roles_after}

@@ -1,9 +1,9 @@
 -- What adding a candidate does to the parts of a peer.
 use Rattle.std.proofs.Common.{[], ◌∷◌, Bool, Result, refl}
 use Rattle.std.specs.declared.alloc.AllocError.{AllocError}
-use Rattle.rtc_part_association.proofs.AmongLemmas.{among_none, among_self, member-right}
+use Rattle.rtc_parts.proofs.AmongLemmas.{among_none, among_self, member-right}
 use Rattle.rtc_sdp_values.specs.declared.candidate.Candidate.{Candidate}
-use Rattle.rtc_part_ice.specs.IceActs.{Stirred as IceStirred, LocalAdded, RemoteAdded, ice_moved-one}
+use Rattle.rtc_parts.specs.IceActs.{Stirred as IceStirred, LocalAdded, RemoteAdded, ice_moved-one}
 use Rattle.rtc_sctp_laws.specs.StreamMessages.{pushed_packets}
 use Rattle.rtc_peer_core.specs.Meanings.{Meanings}
 use Rattle.rtc_peer_transport.specs.declared.polled_peer.PolledPeer.{PolledPeer}

@@ -2,10 +2,10 @@
 use Rattle.std.proofs.Common.{◌≡◌, ◌++◌, ◌∷◌, ℕ, Bool, true, false, not, List, [], Option, Some, None, Result, Ok, Err, refl, sym, ap, subst, ◌∙◌}
 use Rattle.std.specs.declared.alloc.AllocError.{AllocError}
 use Rattle.rtc_wire.specs.declared.channel_config.ChannelConfig.{ChannelConfig}
-use Rattle.rtc_part_values.specs.Among.{Among}
-use Rattle.rtc_part_association.proofs.AmongLemmas.{member-right, among_none}
-use Rattle.rtc_part_association.specs.AssociationWords.{given, taken}
-use Rattle.rtc_part_dtls.specs.DtlsState.{DtlsState}
+use Rattle.rtc_parts.specs.Among.{Among}
+use Rattle.rtc_parts.proofs.AmongLemmas.{member-right, among_none}
+use Rattle.rtc_parts.specs.AssociationWords.{given, taken}
+use Rattle.rtc_parts.specs.DtlsState.{DtlsState}
 use Rattle.rtc_sdp_values.specs.declared.direction.Direction.{Direction}
 use Rattle.rtc_sdp_values.specs.declared.ice_creds.IceCreds.{IceCreds}
 use Rattle.rtc_sdp_values.specs.declared.sdp.Sdp.{Sdp}

@@ -1,14 +1,14 @@
 -- What closing does to the parts of a peer.
 use Rattle.std.proofs.Common.{◌≡◌, ◌∷◌, ℕ, List, [], Result, Ok, Err, alloc_error, append-nil, refl, sym, ap, subst, ◌∙◌}
 use Rattle.std.specs.declared.alloc.AllocError.{AllocError}
-use Rattle.rtc_part_values.specs.Why.{Shut}
-use Rattle.rtc_part_values.specs.Among.{Among}
-use Rattle.rtc_part_association.proofs.AmongLemmas.{among_none, among_self}
-use Rattle.rtc_part_association.specs.AssociationLaws.{AssociationLaws}
-use Rattle.rtc_part_dtls.specs.declared.dtls_error.DtlsError.{DtlsError}
-use Rattle.rtc_part_dtls.specs.declared.dtls_error.DtlsError.TheVariants.{Fault, Alloc as DtlsAlloc}
-use Rattle.rtc_part_dtls.specs.DtlsActs.{Stirred, Closed as DtlsClosed, dtls_moved-one}
-use Rattle.rtc_part_media.specs.MediaActs.{MediaStirred, media_moved-one}
+use Rattle.rtc_parts.specs.Why.{Shut}
+use Rattle.rtc_parts.specs.Among.{Among}
+use Rattle.rtc_parts.proofs.AmongLemmas.{among_none, among_self}
+use Rattle.rtc_parts.specs.AssociationLaws.{AssociationLaws}
+use Rattle.rtc_parts.specs.declared.dtls_error.DtlsError.{DtlsError}
+use Rattle.rtc_parts.specs.declared.dtls_error.DtlsError.TheVariants.{Fault, Alloc as DtlsAlloc}
+use Rattle.rtc_parts.specs.DtlsActs.{Stirred, Closed as DtlsClosed, dtls_moved-one}
+use Rattle.rtc_parts.specs.MediaActs.{MediaStirred, media_moved-one}
 use Rattle.rtc_sctp_laws.specs.StreamActs.{CallDid}
 use Rattle.rtc_sctp_laws.specs.StreamMessages.{StreamMessage, pushed_packets}
 use Rattle.rtc_sctp_laws.proofs.CallActs.{shuts_did}

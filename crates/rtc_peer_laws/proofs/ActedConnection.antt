@@ -1,16 +1,16 @@
 -- What a poll does to the DTLS part, and what it hands the association.
 use Rattle.std.proofs.Common.{◌≡◌, ◌++◌, ◌∷◌, inl, inr, ℕ, Bool, true, false, List, [], Option, Some, None, Result, Ok, Err, alloc_error, append-nil, refl, sym, ap, subst, ◌∙◌}
 use Rattle.std.specs.declared.alloc.AllocError.{AllocError}
-use Rattle.rtc_part_values.specs.Among.{Member, Among}
-use Rattle.rtc_part_association.proofs.AmongLemmas.{member-append, member-left, member-right, among_none, among_self}
-use Rattle.rtc_part_association.specs.AssociationWords.{given, taken}
-use Rattle.rtc_part_dtls.specs.declared.dtls_output.DtlsOutput.{DtlsOutput}
-use Rattle.rtc_part_dtls.specs.declared.dtls_output.DtlsOutput.TheVariants as outputs
-use Rattle.rtc_part_dtls.specs.DtlsActs.{DtlsAct, DtlsCall, DtlsMoved, Got, Stirred, Showed, dtls_moved-append, dtls_moved-one}
-use Rattle.rtc_part_dtls.specs.DtlsDrawn.{DrewConnected, DrewKeying, DrewCert, DrewClose}
-use Rattle.rtc_part_dtls.specs.DtlsState.{DtlsState, PollsOutput}
-use Rattle.rtc_part_dtls.specs.DtlsWords.{dtls_given, dtls_taken, dtls_sent, dtls_got, takes}
-use Rattle.rtc_part_dtls.proofs.DtlsLemmas.{dtls_given-append, dtls_taken-append, dtls_sent-append, dtls_got-append}
+use Rattle.rtc_parts.specs.Among.{Member, Among}
+use Rattle.rtc_parts.proofs.AmongLemmas.{member-append, member-left, member-right, among_none, among_self}
+use Rattle.rtc_parts.specs.AssociationWords.{given, taken}
+use Rattle.rtc_parts.specs.declared.dtls_output.DtlsOutput.{DtlsOutput}
+use Rattle.rtc_parts.specs.declared.dtls_output.DtlsOutput.TheVariants as outputs
+use Rattle.rtc_parts.specs.DtlsActs.{DtlsAct, DtlsCall, DtlsMoved, Got, Stirred, Showed, dtls_moved-append, dtls_moved-one}
+use Rattle.rtc_parts.specs.DtlsDrawn.{DrewConnected, DrewKeying, DrewCert, DrewClose}
+use Rattle.rtc_parts.specs.DtlsState.{DtlsState, PollsOutput}
+use Rattle.rtc_parts.specs.DtlsWords.{dtls_given, dtls_taken, dtls_sent, dtls_got, takes}
+use Rattle.rtc_parts.proofs.DtlsLemmas.{dtls_given-append, dtls_taken-append, dtls_sent-append, dtls_got-append}
 use Rattle.rtc_sctp_laws.specs.StreamActs.{CallDid, given_packet}
 use Rattle.rtc_sctp_laws.specs.StreamMessages.{pushed_packets}
 use Rattle.rtc_sctp_laws.proofs.CallActs.{input_did}

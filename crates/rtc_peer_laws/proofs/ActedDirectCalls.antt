@@ -1,9 +1,9 @@
 -- What calls without session descriptions do to the parts of a peer.
 use Rattle.std.proofs.Common.{◌≡◌, ◌∷◌, inl, inr, ℕ, Bool, true, false, not, List, [], Option, None, Result, Ok, Err, refl, sym, ap, subst, ◌∙◌}
 use Rattle.rtc_wire.specs.declared.channel_config.ChannelConfig.{ChannelConfig}
-use Rattle.rtc_part_values.specs.Why.{Other}
-use Rattle.rtc_part_media.specs.MediaActs.{ChangesLines, LendsMedia, LineRemoved, MediaStirred, StirsMedia, media_moved-one}
-use Rattle.rtc_part_media.specs.MediaMeaning.{MediaMeaning}
+use Rattle.rtc_parts.specs.Why.{Other}
+use Rattle.rtc_parts.specs.MediaActs.{ChangesLines, LendsMedia, LineRemoved, MediaStirred, StirsMedia, media_moved-one}
+use Rattle.rtc_parts.specs.MediaMeaning.{MediaMeaning}
 use Rattle.rtc_sctp_values.specs.InitHalves.{InitHalves}
 use Rattle.rtc_peer_core.specs.declared.rtc_error.RtcError.{RtcError}
 use Rattle.rtc_peer_core.specs.declared.rtc_error.RtcError.TheVariants.{RemoteSdp, Sdp as SdpRefused, Dtls, Sctp, Net, Media as MediaFailed, ChangesOutOfOrder, BadChannel, Alloc, Glare}

@@ -4,18 +4,18 @@ use Rattle.std.specs.declared.alloc.AllocError.{AllocError}
 use Rattle.rtc_wire.specs.declared.datagram_recv.DatagramRecv.{DatagramRecv}
 use Rattle.rtc_wire.specs.declared.datagram_recv.DatagramRecv.TheVariants as datagrams
 use Rattle.rtc_wire.specs.declared.receive.Receive.{Receive}
-use Rattle.rtc_part_values.specs.Why.{Timed, Other}
-use Rattle.rtc_part_values.specs.Among.{Among}
-use Rattle.rtc_part_association.proofs.AmongLemmas.{among_none, among_self}
-use Rattle.rtc_part_association.specs.AssociationLaws.{AssociationLaws}
-use Rattle.rtc_part_dtls.specs.declared.dtls_error.DtlsError.{DtlsError}
-use Rattle.rtc_part_dtls.specs.declared.dtls_error.DtlsError.TheVariants.{Fault, Alloc as DtlsAlloc}
-use Rattle.rtc_part_dtls.specs.DtlsActs.{Given as DtlsGiven, dtls_moved-one}
-use Rattle.rtc_part_dtls.specs.DtlsState.{DtlsState, HandsOn}
-use Rattle.rtc_part_ice.specs.IceActs.{Given as IceGiven, Stirred as IceStirred, TimedAt as IceTimed, ByPacket, ice_moved-one}
-use Rattle.rtc_part_media.specs.declared.media_error.MediaError.{MediaError}
-use Rattle.rtc_part_media.specs.declared.media_error.MediaError.TheVariants.{Alloc as MediaAlloc}
-use Rattle.rtc_part_media.specs.MediaActs.{MediaGiven, MediaStirred, MediaMoved, StatsVisited, media_moved-one}
+use Rattle.rtc_parts.specs.Why.{Timed, Other}
+use Rattle.rtc_parts.specs.Among.{Among}
+use Rattle.rtc_parts.proofs.AmongLemmas.{among_none, among_self}
+use Rattle.rtc_parts.specs.AssociationLaws.{AssociationLaws}
+use Rattle.rtc_parts.specs.declared.dtls_error.DtlsError.{DtlsError}
+use Rattle.rtc_parts.specs.declared.dtls_error.DtlsError.TheVariants.{Fault, Alloc as DtlsAlloc}
+use Rattle.rtc_parts.specs.DtlsActs.{Given as DtlsGiven, dtls_moved-one}
+use Rattle.rtc_parts.specs.DtlsState.{DtlsState, HandsOn}
+use Rattle.rtc_parts.specs.IceActs.{Given as IceGiven, Stirred as IceStirred, TimedAt as IceTimed, ByPacket, ice_moved-one}
+use Rattle.rtc_parts.specs.declared.media_error.MediaError.{MediaError}
+use Rattle.rtc_parts.specs.declared.media_error.MediaError.TheVariants.{Alloc as MediaAlloc}
+use Rattle.rtc_parts.specs.MediaActs.{MediaGiven, MediaStirred, MediaMoved, StatsVisited, media_moved-one}
 use Rattle.rtc_ready.specs.Signals.{both}
 use Rattle.rtc_sctp_laws.specs.StreamMessages.{StreamMessage}
 use Rattle.rtc_sctp_values.specs.declared.sctp_error.SctpError.{SctpError}

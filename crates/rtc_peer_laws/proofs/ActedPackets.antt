@@ -1,12 +1,12 @@
 -- What a poll sends of the packets of the association over the DTLS connection.
 use Rattle.std.proofs.Common.{◌≡◌, ◌++◌, ◌∷◌, ◌⊎◌, inl, inr, ℕ, Bool, true, false, List, [], Option, Some, None, Ok, Err, refl, sym, ap, subst, ◌∙◌}
-use Rattle.rtc_part_values.specs.Among.{Member, Among}
-use Rattle.rtc_part_association.proofs.AmongLemmas.{member-append, member-right, among_none, among_self}
-use Rattle.rtc_part_dtls.specs.declared.dtls_error.DtlsError.{DtlsError}
-use Rattle.rtc_part_dtls.specs.declared.dtls_error.DtlsError.TheVariants.{Fault, Alloc as DtlsAlloc}
-use Rattle.rtc_part_dtls.specs.DtlsActs.{DtlsAct, DtlsMoved, Sent, Stirred, SendRefused, dtls_moved-one}
-use Rattle.rtc_part_dtls.specs.DtlsState.{DtlsState, SendsData, can_send}
-use Rattle.rtc_part_dtls.specs.DtlsWords.{dtls_given, dtls_taken, dtls_sent, dtls_got}
+use Rattle.rtc_parts.specs.Among.{Member, Among}
+use Rattle.rtc_parts.proofs.AmongLemmas.{member-append, member-right, among_none, among_self}
+use Rattle.rtc_parts.specs.declared.dtls_error.DtlsError.{DtlsError}
+use Rattle.rtc_parts.specs.declared.dtls_error.DtlsError.TheVariants.{Fault, Alloc as DtlsAlloc}
+use Rattle.rtc_parts.specs.DtlsActs.{DtlsAct, DtlsMoved, Sent, Stirred, SendRefused, dtls_moved-one}
+use Rattle.rtc_parts.specs.DtlsState.{DtlsState, SendsData, can_send}
+use Rattle.rtc_parts.specs.DtlsWords.{dtls_given, dtls_taken, dtls_sent, dtls_got}
 use Rattle.rtc_sctp.specs.Streams.{SctpStreams}
 use Rattle.rtc_sctp_laws.specs.StreamMessages.{pushed_packets}
 use Rattle.rtc_peer_core.specs.declared.rtc_error.RtcError.TheVariants.{Dtls, Alloc}

@@ -1,19 +1,19 @@
 -- What a poll does to the ICE agent, and what it does with the moment, the keys, the certificate and the end of the connection.
 use Rattle.std.proofs.Common.{◌≡◌, ◌∷◌, inr, ℕ, Bool, true, false, List, [], Option, Some, None, Result, Ok, Err, alloc_error, refl, sym, ap, subst}
 use Rattle.std.specs.declared.alloc.AllocError.{AllocError}
-use Rattle.rtc_part_values.specs.Why.{Other}
-use Rattle.rtc_part_values.specs.declared.srtp_profile.SrtpProfile.{SrtpProfile}
-use Rattle.rtc_part_values.specs.Among.{Among}
-use Rattle.rtc_part_association.proofs.AmongLemmas.{among_none, among_self}
-use Rattle.rtc_part_association.specs.AssociationWords.{taken}
-use Rattle.rtc_part_dtls.specs.declared.dtls_error.DtlsError.{DtlsError}
-use Rattle.rtc_part_dtls.specs.declared.dtls_error.DtlsError.TheVariants.{Fault, Alloc as DtlsAlloc}
-use Rattle.rtc_part_dtls.specs.DtlsActs.{Stirred, TimedAt, dtls_moved-one}
-use Rattle.rtc_part_dtls.specs.DtlsState.{DtlsState, HandsOn}
-use Rattle.rtc_part_ice.specs.declared.ice_event.IceEvent.{IceEvent}
-use Rattle.rtc_part_ice.specs.declared.ice_event.IceEvent.TheVariants.{IceRestart, StateChange, DiscoveredRecv, NominatedSend}
-use Rattle.rtc_part_ice.specs.IceActs.{Stirred as IceStirred, Told as IceTold, ice_moved-one}
-use Rattle.rtc_part_media.specs.MediaActs.{MediaStirred, Keyed, media_moved-one}
+use Rattle.rtc_parts.specs.Why.{Other}
+use Rattle.rtc_parts.specs.declared.srtp_profile.SrtpProfile.{SrtpProfile}
+use Rattle.rtc_parts.specs.Among.{Among}
+use Rattle.rtc_parts.proofs.AmongLemmas.{among_none, among_self}
+use Rattle.rtc_parts.specs.AssociationWords.{taken}
+use Rattle.rtc_parts.specs.declared.dtls_error.DtlsError.{DtlsError}
+use Rattle.rtc_parts.specs.declared.dtls_error.DtlsError.TheVariants.{Fault, Alloc as DtlsAlloc}
+use Rattle.rtc_parts.specs.DtlsActs.{Stirred, TimedAt, dtls_moved-one}
+use Rattle.rtc_parts.specs.DtlsState.{DtlsState, HandsOn}
+use Rattle.rtc_parts.specs.declared.ice_event.IceEvent.{IceEvent}
+use Rattle.rtc_parts.specs.declared.ice_event.IceEvent.TheVariants.{IceRestart, StateChange, DiscoveredRecv, NominatedSend}
+use Rattle.rtc_parts.specs.IceActs.{Stirred as IceStirred, Told as IceTold, ice_moved-one}
+use Rattle.rtc_parts.specs.MediaActs.{MediaStirred, Keyed, media_moved-one}
 use Rattle.rtc_peer_core.specs.declared.rtc_error.RtcError.{RtcError}
 use Rattle.rtc_peer_core.specs.declared.rtc_error.RtcError.TheVariants.{RemoteSdp, Dtls, Alloc}
 use Rattle.rtc_peer_core.specs.Meanings.{Meanings, PartsLaws}

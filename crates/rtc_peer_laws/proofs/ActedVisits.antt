@@ -1,12 +1,12 @@
 -- What one visit of all parts does to them.
 use Rattle.std.proofs.Common.{if◌then◌else◌, ◌≡◌, ◌∷◌, inr, ℕ, Bool, true, false, List, [], Option, Some, None, Ok, Err, refl, sym, ap, subst, ◌∙◌}
-use Rattle.rtc_part_values.specs.Why.{Other}
-use Rattle.rtc_part_values.specs.Among.{Among}
-use Rattle.rtc_part_association.proofs.AmongLemmas.{among_none, among_self}
-use Rattle.rtc_part_dtls.specs.DtlsState.{DtlsState, GivesPacket}
-use Rattle.rtc_part_ice.specs.IceActs.{Taken as IceTaken, ice_moved-one}
-use Rattle.rtc_part_media.specs.declared.media_error.MediaError.TheVariants.{Alloc as MediaAlloc}
-use Rattle.rtc_part_media.specs.MediaActs.{MediaTaken, MediaStirred, EventTold, FallibleTold, FeedbackCleared, StirsMedia, media_moved-one}
+use Rattle.rtc_parts.specs.Why.{Other}
+use Rattle.rtc_parts.specs.Among.{Among}
+use Rattle.rtc_parts.proofs.AmongLemmas.{among_none, among_self}
+use Rattle.rtc_parts.specs.DtlsState.{DtlsState, GivesPacket}
+use Rattle.rtc_parts.specs.IceActs.{Taken as IceTaken, ice_moved-one}
+use Rattle.rtc_parts.specs.declared.media_error.MediaError.TheVariants.{Alloc as MediaAlloc}
+use Rattle.rtc_parts.specs.MediaActs.{MediaTaken, MediaStirred, EventTold, FallibleTold, FeedbackCleared, StirsMedia, media_moved-one}
 use Rattle.rtc_sctp_laws.specs.StreamMessages.{pushed_packets}
 use Rattle.rtc_peer_core.specs.declared.rtc_error.RtcError.TheVariants.{Media, Alloc}
 use Rattle.rtc_peer_core.specs.Meanings.{Meanings, PartsLaws}
@@ -18,8 +18,8 @@ use Rattle.rtc_peer_transport.specs.declared.send_addr.SendAddr.{SendAddr}
 use Rattle.rtc_peer_polling.specs.DtlsStages.{is_dtls_due}
 use Rattle.rtc_peer_polling.specs.MediaStages.{TellsMedia, TellsFallibleMedia}
 use Rattle.rtc_peer_polling.specs.SendStages.{SendsChecks, SendsDtlsPacket, SendsMediaDatagram, SendsBy, SendsByPair}
-use Rattle.rtc_part_media.specs.declared.stats_event.StatsEvent.{StatsEvent}
-use Rattle.rtc_part_media.specs.declared.stats_event.StatsEvent.TheVariants as reports
+use Rattle.rtc_parts.specs.declared.stats_event.StatsEvent.{StatsEvent}
+use Rattle.rtc_parts.specs.declared.stats_event.StatsEvent.TheVariants as reports
 use Rattle.rtc_config.specs.Stats.{Reporting}
 use Rattle.rtc_peer_transport.specs.Statistics.{TellsReport, TellsReportOf, TellsStatistics}
 use Rattle.rtc_peer_polling.specs.StreamStages.{TellsStreams}

@@ -1,10 +1,10 @@
 -- Changes of channels and of the entries of their streams, one after the other.
 use Rattle.std.proofs.Common.{◌≡◌, ◌⊎◌, ◌++◌, inl, inr, ℕ, zero, suc, Bool, true, false, true≢false, List, [], Option, refl, sym, ap, subst, ◌∙◌}
-use Rattle.rtc_part_association.specs.AssociationActs.{AssociationAct, Moved, moved-append}
-use Rattle.rtc_part_association.specs.AssociationLaws.{AssociationLaws}
-use Rattle.rtc_part_association.specs.AssociationMeaning.{AssociationMeaning}
-use Rattle.rtc_part_association.specs.AssociationWords.{given, told}
-use Rattle.rtc_part_association.proofs.AssociationLemmas.{given-append, told-append}
+use Rattle.rtc_parts.specs.AssociationActs.{AssociationAct, Moved, moved-append}
+use Rattle.rtc_parts.specs.AssociationLaws.{AssociationLaws}
+use Rattle.rtc_parts.specs.AssociationMeaning.{AssociationMeaning}
+use Rattle.rtc_parts.specs.AssociationWords.{given, told}
+use Rattle.rtc_parts.proofs.AssociationLemmas.{given-append, told-append}
 use Rattle.rtc_sctp.specs.declared.rtc_sctp_state.RtcSctpState.{RtcSctpState}
 use Rattle.rtc_sctp.specs.Streams.{SctpStreams, is_established}
 use Rattle.rtc_sctp_laws.proofs.ClosingPolls.{started_moved}

@@ -2,7 +2,7 @@
 use Rattle.std.proofs.Common.{◌≡◌, ◌∷◌, ℕ, Bool, true, false, List, [], Result, Ok, Err, refl, ap, ◌∙◌}
 use Rattle.rtc_wire.specs.declared.channel_config.ChannelConfig.{ChannelConfig}
 use Rattle.rtc_sdp_values.specs.declared.direction.Direction.TheVariants.{Inactive}
-use Rattle.rtc_part_association.specs.AssociationLaws.{AssociationLaws}
+use Rattle.rtc_parts.specs.AssociationLaws.{AssociationLaws}
 use Rattle.rtc_peer_rows.specs.RowChanges.{directed_row, stopped_row}
 use Rattle.rtc_peer_core.specs.declared.peer.Peer.{Peer}
 use Rattle.rtc_peer_core.specs.declared.phase.Phase.TheVariants.{Closed}

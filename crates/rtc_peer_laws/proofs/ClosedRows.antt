@@ -14,7 +14,7 @@ use Rattle.rtc_sctp_values.specs.declared.sctp_error.SctpError.TheVariants as sc
 use Rattle.rtc_sctp.specs.Streams.{SctpStreams}
 use Rattle.rtc_sctp.specs.Calls.{ShutBy, Shuts, is_ended}
 use Rattle.rtc_sctp_laws.proofs.CallUses.{shut_entries}
-use Rattle.rtc_part_association.specs.AssociationLaws.{AssociationLaws}
+use Rattle.rtc_parts.specs.AssociationLaws.{AssociationLaws}
 use Rattle.rtc_sctp.specs.declared.rtc_sctp_state.RtcSctpState.{RtcSctpState}
 use Rattle.rtc_sctp_laws.proofs.AsideActs.{shuts_aside}
 use Rattle.rtc_sctp_laws.proofs.CallActs.{shuts_did}

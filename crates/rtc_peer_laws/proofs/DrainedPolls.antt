@@ -1,8 +1,8 @@
 -- A peer that answered a timeout answers it again.
 use Rattle.std.proofs.Common.{◌≡◌, ◌≢◌, ◌≤◌, ◌-◌, ◌^◌, inl, inr, ℕ, Bool, true, false, Result, Ok, Err, refl, sym, ap, subst, ◌∙◌, arith}
 use Rattle.std.specs.Prelude.{max}
-use Rattle.rtc_part_values.specs.declared.reason.Reason.{Reason}
-use Rattle.rtc_part_values.specs.declared.reason.Reason.TheVariants.{NotHappening}
+use Rattle.rtc_parts.specs.declared.reason.Reason.{Reason}
+use Rattle.rtc_parts.specs.declared.reason.Reason.TheVariants.{NotHappening}
 use Rattle.rtc_peer_core.specs.declared.phase.Phase.{Phase}
 use Rattle.rtc_peer_core.specs.declared.phase.Phase.TheVariants.{Alive, Closing, Closed}
 use Rattle.rtc_peer_core.specs.declared.rtc_error.RtcError.{RtcError}
@@ -17,10 +17,10 @@ use Rattle.rtc_peer_transport.specs.Closing.{is_closing_complete}
 use Rattle.rtc_peer_transport.specs.Deadlines.{least_deadline, wake_moment}
 use Rattle.rtc_peer_polling.specs.Walk.{VisitsParts, Waits, WaitsIf, AnswersMet, Walks, PollsPeerFrom, PollsPeer, with_reason}
 use Rattle.rtc_peer_laws.specs.Drained.{AnswersAgain}
-use Rattle.rtc_peer_resting.proofs.RestingConnection.{Rests, repeats_rest}
-use Rattle.rtc_peer_resting.proofs.RestingStages.{Drained, drained_rests}
-use Rattle.rtc_peer_resting.proofs.KeptTurns.{phase_of_peer, turns_keep, visits_kept}
-use Rattle.rtc_peer_resting.proofs.Draining.{visit_drains}
+use Rattle.rtc_peer_polling.proofs.RestingConnection.{Rests, repeats_rest}
+use Rattle.rtc_peer_polling.proofs.RestingStages.{Drained, drained_rests}
+use Rattle.rtc_peer_polling.proofs.KeptTurns.{phase_of_peer, turns_keep, visits_kept}
+use Rattle.rtc_peer_polling.proofs.Draining.{visit_drains}
 
 module _ {I D S M E X T W N : Type 0} (m : Meanings I D S M E X T W N) where
   -- how a poll that answered a timeout ended: the peer is closed, or a visit met nothing and it waits

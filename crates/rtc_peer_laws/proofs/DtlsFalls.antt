@@ -1,13 +1,13 @@
 -- The connection lowers what a peer weighs: a moment that was due pays for the packets that it makes, and an output for what it adds.
 use Rattle.std.proofs.Common.{◌≡◌, ◌≢◌, ◌⊎◌, inl, inr, ℕ, ◌+◌, ◌*◌, ◌-◌, ◌^◌, ◌≤◌, ◌||◌, Bool, true, false, List, [], ◌∷◌, length, length-append, Option, Some, None, Result, Ok, Err, refl, sym, ◌∙◌, ap, subst, arith}
 use Rattle.std.specs.declared.alloc.AllocError.{AllocError}
-use Rattle.rtc_part_values.specs.declared.srtp_profile.SrtpProfile.{SrtpProfile}
-use Rattle.rtc_part_dtls.specs.declared.dtls_output.DtlsOutput.{DtlsOutput}
-use Rattle.rtc_part_dtls.specs.declared.dtls_output.DtlsOutput.TheVariants as outputs
-use Rattle.rtc_part_dtls.specs.DtlsActs.{DtlsMoved}
-use Rattle.rtc_part_dtls.specs.DtlsDrawn.{DrewPacket, drawn_units}
-use Rattle.rtc_part_dtls.specs.DtlsState.{DtlsState, PollsOutput, HandsOn, drawn_by}
-use Rattle.rtc_part_dtls.specs.DtlsWords.{takes}
+use Rattle.rtc_parts.specs.declared.srtp_profile.SrtpProfile.{SrtpProfile}
+use Rattle.rtc_parts.specs.declared.dtls_output.DtlsOutput.{DtlsOutput}
+use Rattle.rtc_parts.specs.declared.dtls_output.DtlsOutput.TheVariants as outputs
+use Rattle.rtc_parts.specs.DtlsActs.{DtlsMoved}
+use Rattle.rtc_parts.specs.DtlsDrawn.{DrewPacket, drawn_units}
+use Rattle.rtc_parts.specs.DtlsState.{DtlsState, PollsOutput, HandsOn, drawn_by}
+use Rattle.rtc_parts.specs.DtlsWords.{takes}
 use Rattle.rtc_sctp.specs.Streams.{SctpStreams}
 use Rattle.rtc_sctp.specs.Calls.{InputIf}
 use Rattle.rtc_peer_core.specs.Meanings.{Meanings, PartsLaws}

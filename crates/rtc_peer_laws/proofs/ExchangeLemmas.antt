@@ -1,6 +1,6 @@
 -- Two peers over plain parts that exchange datagrams stay joined.
 use Rattle.std.proofs.Common.{◌++◌, ℕ, List}
-use Rattle.rtc_part_dtls.specs.DtlsWords.{dtls_taken}
+use Rattle.rtc_parts.specs.DtlsWords.{dtls_taken}
 use Rattle.rtc_plain_ice.specs.Contents.{IceContents}
 use Rattle.rtc_plain_ice.specs.PlainMeaning.{plain_ice}
 use Rattle.rtc_plain_dtls.specs.Contents.{DtlsContents}
@@ -10,10 +10,10 @@ use Rattle.rtc_assoc_state.specs.PlainMeaning.{plain_meaning}
 use Rattle.rtc_assoc.specs.Unread.{IsPrefix}
 use Rattle.rtc_assoc.proofs.DirectedLemmas.{directed_prefix}
 use Rattle.rtc_assoc.proofs.RunLemmas.{both_run}
-use Rattle.rtc_part_association.specs.AssociationWords.{written, read}
+use Rattle.rtc_parts.specs.AssociationWords.{written, read}
 use Rattle.rtc_plain_media.specs.MediaContents.{MediaContents}
 use Rattle.rtc_plain_media.specs.PlainMediaMeaning.{plain_media_meaning}
-use Rattle.rtc_part_values.specs.Draws.{Draws}
+use Rattle.rtc_parts.specs.Draws.{Draws}
 use Rattle.rtc_sctp_laws.specs.StreamMessages.{StreamMessage}
 use Rattle.rtc_peer_core.specs.Meanings.{meanings}
 use Rattle.rtc_peer_transport.specs.declared.polled_peer.PolledPeer.{PolledPeer}

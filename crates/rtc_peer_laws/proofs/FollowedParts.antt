@@ -1,24 +1,24 @@
 -- What negotiation does to each part, as lists of acts.
 use Rattle.std.proofs.Common.{◌≡◌, ◌++◌, ◌∷◌, inl, inr, ℕ, Bool, true, false, List, [], Option, Some, None, Result, Ok, Err, refl, ap, sym, ◌∙◌}
 use Rattle.std.specs.declared.alloc.AllocError.{AllocError}
-use Rattle.rtc_part_values.specs.Why.{Other}
-use Rattle.rtc_part_values.specs.Among.{Among}
-use Rattle.rtc_part_association.proofs.AmongLemmas.{among_none, among_self}
+use Rattle.rtc_parts.specs.Why.{Other}
+use Rattle.rtc_parts.specs.Among.{Among}
+use Rattle.rtc_parts.proofs.AmongLemmas.{among_none, among_self}
 use Rattle.rtc_sdp_values.specs.declared.candidate.Candidate.{Candidate}
 use Rattle.rtc_sdp_values.specs.declared.ice_creds.IceCreds.{IceCreds}
-use Rattle.rtc_part_ice.specs.IceMeaning.{IceMeaning}
-use Rattle.rtc_part_ice.specs.IceActs.{IceAct, IceCall, IceMoved, IceCalled, Stirred as IceStirred, ControllingSet, RemoteSet, Restarted, RemoteAdded, ice_moved-append, ice_moved-one}
-use Rattle.rtc_part_ice.specs.IceWords.{ice_given, ice_taken}
-use Rattle.rtc_part_ice.proofs.IceLemmas.{ice_given-append, ice_taken-append}
-use Rattle.rtc_part_dtls.specs.declared.dtls_error.DtlsError.{DtlsError}
-use Rattle.rtc_part_dtls.specs.DtlsMeaning.{DtlsMeaning}
-use Rattle.rtc_part_dtls.specs.DtlsActs.{DtlsAct, DtlsMoved, Given, Stirred, Activated, TimedAt}
-use Rattle.rtc_part_dtls.specs.DtlsState.{DtlsState}
-use Rattle.rtc_part_dtls.specs.DtlsWords.{dtls_given, dtls_taken, dtls_sent, dtls_got}
-use Rattle.rtc_part_association.specs.AssociationMeaning.{AssociationMeaning}
-use Rattle.rtc_part_media.specs.declared.media_update.MediaUpdate.{MediaUpdate}
-use Rattle.rtc_part_media.specs.MediaMeaning.{MediaMeaning}
-use Rattle.rtc_part_media.specs.MediaActs.{MediaAct, MediaMoved, MediaStirred, Committed, Prepared, media_moved-one}
+use Rattle.rtc_parts.specs.IceMeaning.{IceMeaning}
+use Rattle.rtc_parts.specs.IceActs.{IceAct, IceCall, IceMoved, IceCalled, Stirred as IceStirred, ControllingSet, RemoteSet, Restarted, RemoteAdded, ice_moved-append, ice_moved-one}
+use Rattle.rtc_parts.specs.IceWords.{ice_given, ice_taken}
+use Rattle.rtc_parts.proofs.IceLemmas.{ice_given-append, ice_taken-append}
+use Rattle.rtc_parts.specs.declared.dtls_error.DtlsError.{DtlsError}
+use Rattle.rtc_parts.specs.DtlsMeaning.{DtlsMeaning}
+use Rattle.rtc_parts.specs.DtlsActs.{DtlsAct, DtlsMoved, Given, Stirred, Activated, TimedAt}
+use Rattle.rtc_parts.specs.DtlsState.{DtlsState}
+use Rattle.rtc_parts.specs.DtlsWords.{dtls_given, dtls_taken, dtls_sent, dtls_got}
+use Rattle.rtc_parts.specs.AssociationMeaning.{AssociationMeaning}
+use Rattle.rtc_parts.specs.declared.media_update.MediaUpdate.{MediaUpdate}
+use Rattle.rtc_parts.specs.MediaMeaning.{MediaMeaning}
+use Rattle.rtc_parts.specs.MediaActs.{MediaAct, MediaMoved, MediaStirred, Committed, Prepared, media_moved-one}
 use Rattle.rtc_sctp_values.specs.declared.sctp_error.SctpError.{SctpError}
 use Rattle.rtc_sctp_values.specs.InitHalves.{InitHalves}
 use Rattle.rtc_sctp.specs.Streams.{SctpStreams}

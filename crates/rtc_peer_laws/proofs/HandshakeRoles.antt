@@ -1,9 +1,9 @@
 -- The handshake of a plain DTLS part is finished only with a part that has the other role.
 use Rattle.std.proofs.Common.{◌≡◌, ◌∙◌, ◌∷◌, inl, inr, ℕ, Bool, true, false, List, [], Option, Some, refl, sym, ap, subst}
-use Rattle.rtc_part_values.specs.Among.{Member}
-use Rattle.rtc_part_dtls.specs.DtlsDrawn.{DrewPacket}
-use Rattle.rtc_part_dtls.specs.DtlsActs.{DtlsAct, Given, Taken, Sent, Got, Stirred, DtlsActed, DtlsMoved}
-use Rattle.rtc_part_dtls.specs.DtlsWords.{dtls_given, dtls_taken}
+use Rattle.rtc_parts.specs.Among.{Member}
+use Rattle.rtc_parts.specs.DtlsDrawn.{DrewPacket}
+use Rattle.rtc_parts.specs.DtlsActs.{DtlsAct, Given, Taken, Sent, Got, Stirred, DtlsActed, DtlsMoved}
+use Rattle.rtc_parts.specs.DtlsWords.{dtls_given, dtls_taken}
 use Rattle.rtc_plain_dtls.specs.declared.output.Output.{Output}
 use Rattle.rtc_plain_dtls.specs.declared.output.Output.TheVariants.{PeerCert, Keying, Connected, Data, Close}
 use Rattle.rtc_plain_dtls.specs.declared.phase.Phase.{Phase}

@@ -1,11 +1,11 @@
 -- What each act of a plain DTLS part leaves of its role, of what it got of the handshake, and of what it queues.
 use Rattle.std.proofs.Common.{◌≡◌, ◌∙◌, ◌∷◌, inl, inr, ℕ, Bool, true, false, if◌then◌else◌, List, [], Option, Some, Ok, Err, refl, sym, ap, subst, arith}
 use Rattle.std.specs.Prelude.{nat_le}
-use Rattle.rtc_part_values.specs.Among.{Member}
-use Rattle.rtc_part_association.proofs.AmongLemmas.{member-append}
-use Rattle.rtc_part_dtls.specs.DtlsDrawn.{DtlsDrawn, DrewPacket, DrewData}
-use Rattle.rtc_part_dtls.specs.DtlsActs.{DtlsAct, DtlsCall, Given, Taken, Sent, Got, Stirred, CertificateSet, Activated, VersionSet, SendRefused, TimedAt, Closed, Showed, DtlsActed}
-use Rattle.rtc_part_dtls.specs.DtlsWords.{dtls_given}
+use Rattle.rtc_parts.specs.Among.{Member}
+use Rattle.rtc_parts.proofs.AmongLemmas.{member-append}
+use Rattle.rtc_parts.specs.DtlsDrawn.{DtlsDrawn, DrewPacket, DrewData}
+use Rattle.rtc_parts.specs.DtlsActs.{DtlsAct, DtlsCall, Given, Taken, Sent, Got, Stirred, CertificateSet, Activated, VersionSet, SendRefused, TimedAt, Closed, Showed, DtlsActed}
+use Rattle.rtc_parts.specs.DtlsWords.{dtls_given}
 use Rattle.rtc_plain_dtls.specs.declared.output.Output.{Output}
 use Rattle.rtc_plain_dtls.specs.declared.output.Output.TheVariants.{PeerCert, Keying, Connected, Data}
 use Rattle.rtc_plain_dtls.specs.declared.phase.Phase.{Phase}

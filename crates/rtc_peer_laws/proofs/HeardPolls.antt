@@ -17,8 +17,8 @@ use Rattle.rtc_peer_transport.proofs.StageLemmas.{went_through}
 use Rattle.rtc_peer_polling.proofs.StreamTurns.{kept_stay}
 use Rattle.rtc_peer_laws.specs.Drained.{AllHeard}
 use Rattle.rtc_peer_laws.proofs.HeardStreams.{poll_hears}
-use Rattle.rtc_peer_resting.proofs.DrainingStreams.{kept_packets}
-use Rattle.rtc_peer_resting.proofs.Draining.{arrivals_drain, datagrams_drain}
+use Rattle.rtc_peer_polling.proofs.DrainingStreams.{kept_packets}
+use Rattle.rtc_peer_polling.proofs.Draining.{arrivals_drain, datagrams_drain}
 use Rattle.rtc_peer_laws.proofs.DrainedPolls.{Ends, AtRest, Waiting, poll_ends}
 
 module _ {I D S M E X T W N : Type 0} (m : Meanings I D S M E X T W N) (laws : PartsLaws m) where

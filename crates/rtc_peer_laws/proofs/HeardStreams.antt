@@ -1,11 +1,11 @@
 -- A poll of the streams that gave nothing has heard every stream in use.
 use Rattle.std.proofs.Common.{◌≡◌, ◌⊎◌, inl, inr, ℕ, Bool, true, false, true≢false, List, [], ◌∷◌, Option, Some, None, Result, Ok, Err, refl, sym, ap, subst, ◌∙◌, arith}
 use Rattle.std.specs.Prelude.{◌&&◌, ◌||◌, is_some, nat_le, nat_lt}
-use Rattle.rtc_part_association.specs.declared.assoc_error.AssocError.{AssocError}
-use Rattle.rtc_part_association.specs.declared.assoc_error.AssocError.TheVariants.{StreamExists, ResetPending, Closing}
-use Rattle.rtc_part_association.specs.AssociationNeeds.{need}
-use Rattle.rtc_part_association.specs.AssociationMeaning.{AssociationMeaning}
-use Rattle.rtc_part_association.specs.AssociationLaws.{AssociationLaws}
+use Rattle.rtc_parts.specs.declared.assoc_error.AssocError.{AssocError}
+use Rattle.rtc_parts.specs.declared.assoc_error.AssocError.TheVariants.{StreamExists, ResetPending, Closing}
+use Rattle.rtc_parts.specs.AssociationNeeds.{need}
+use Rattle.rtc_parts.specs.AssociationMeaning.{AssociationMeaning}
+use Rattle.rtc_parts.specs.AssociationLaws.{AssociationLaws}
 use Rattle.rtc_sctp_entries.specs.declared.buffered_threshold_config.BufferedThresholdConfig.{BufferedThresholdConfig}
 use Rattle.rtc_sctp_entries.specs.declared.buffered_threshold_config.BufferedThresholdConfig.TheVariants.{Unconfigured, Desired, Configured}
 use Rattle.rtc_sctp_entries.specs.declared.opening.Opening.{Opening}
@@ -27,7 +27,7 @@ use Rattle.rtc_sctp_entries.proofs.StillVisits.{Idle, attends_still}
 use Rattle.rtc_sctp.specs.Rest.{AreUnclosed}
 use Rattle.rtc_sctp.proofs.CallsTended.{unclosed_left}
 use Rattle.rtc_sctp.proofs.RestingLemmas.{else_nothing, poll_rests}
-use Rattle.rtc_peer_resting.proofs.RestingStreams.{GaveNoEvent, transmit_nothing, event_nothing}
+use Rattle.rtc_peer_polling.proofs.RestingStreams.{GaveNoEvent, transmit_nothing, event_nothing}
 
 first_of_and : (x y : Bool) → (x && y) ≡ true → x ≡ true
 first_of_and true y h = refl

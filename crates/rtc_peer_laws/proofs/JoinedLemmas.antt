@@ -1,13 +1,13 @@
 -- Two peers stay joined: what came over one DTLS part was sent over the other.
 use Rattle.std.proofs.Common.{◌≡◌, ◌++◌, ◌∷◌, ◌==◌, ◌&&◌, inl, inr, ℕ, Bool, true, false, List, [], map, if◌then◌else◌, append-nil, refl, sym, ap, subst, ◌∙◌}
-use Rattle.rtc_part_values.specs.Among.{Member, Among}
-use Rattle.rtc_part_association.proofs.AmongLemmas.{member-append, member-left, member-right, among_none}
-use Rattle.rtc_part_association.specs.AssociationActs.{AssociationAct, Moved, Wrote, Read}
-use Rattle.rtc_part_association.specs.AssociationWords.{given, taken, written, read}
-use Rattle.rtc_part_association.proofs.AssociationLemmas.{taken-append, written-append, read-append}
-use Rattle.rtc_part_dtls.specs.DtlsActs.{DtlsAct, DtlsMoved, Given, Taken, Sent, Got, Stirred, dtls_moved-append}
-use Rattle.rtc_part_dtls.specs.DtlsWords.{dtls_given, dtls_taken, dtls_sent, dtls_got}
-use Rattle.rtc_part_dtls.proofs.DtlsLemmas.{dtls_given-append, dtls_taken-append, dtls_sent-append, dtls_got-append}
+use Rattle.rtc_parts.specs.Among.{Member, Among}
+use Rattle.rtc_parts.proofs.AmongLemmas.{member-append, member-left, member-right, among_none}
+use Rattle.rtc_parts.specs.AssociationActs.{AssociationAct, Moved, Wrote, Read}
+use Rattle.rtc_parts.specs.AssociationWords.{given, taken, written, read}
+use Rattle.rtc_parts.proofs.AssociationLemmas.{taken-append, written-append, read-append}
+use Rattle.rtc_parts.specs.DtlsActs.{DtlsAct, DtlsMoved, Given, Taken, Sent, Got, Stirred, dtls_moved-append}
+use Rattle.rtc_parts.specs.DtlsWords.{dtls_given, dtls_taken, dtls_sent, dtls_got}
+use Rattle.rtc_parts.proofs.DtlsLemmas.{dtls_given-append, dtls_taken-append, dtls_sent-append, dtls_got-append}
 use Rattle.rtc_plain_dtls.specs.Contents.{DtlsContents, fresh_dtls}
 use Rattle.rtc_plain_dtls.specs.PlainMeaning.{plain_dtls}
 use Rattle.rtc_plain_dtls.proofs.DataLemmas.{got_came, taken_sent}

@@ -1,6 +1,6 @@
 -- A start of the association leaves the entries of streams, and is beside them.
 use Rattle.std.proofs.Common.{◌≡◌, inl, inr, ℕ, Bool, true, false, true≢false, [], Option, Some, None, Result, Ok, Err, refl, sym, ap, ◌∙◌}
-use Rattle.rtc_part_association.specs.AssociationLaws.{AssociationLaws}
+use Rattle.rtc_parts.specs.AssociationLaws.{AssociationLaws}
 use Rattle.rtc_sctp_values.specs.InitHalves.{InitHalves}
 use Rattle.rtc_sctp_values.specs.declared.proto_error.ProtoError.TheVariants.{Fault as AssociationFault, Started, SnapHalf}
 use Rattle.rtc_sctp_values.specs.declared.sctp_error.SctpError.{SctpError}

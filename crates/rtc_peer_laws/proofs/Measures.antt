@@ -1,10 +1,10 @@
 -- What a peer weighs while a poll goes on: its weight, with what is told of its handshake, and the stages that change no moment of DTLS.
 use Rattle.std.proofs.Common.{◌≡◌, ℕ, ◌+◌, ◌*◌, ◌-◌, ◌^◌, ◌≤◌, ◌||◌, if◌then◌else◌, Bool, true, false, List, [], ◌∷◌, length, Option, Some, None, refl, sym, ap, subst, arith}
-use Rattle.rtc_part_ice.specs.declared.ice_event.IceEvent.{IceEvent}
-use Rattle.rtc_part_ice.specs.declared.ice_event.IceEvent.TheVariants as ice_events
-use Rattle.rtc_part_dtls.specs.DtlsState.{DtlsState, GivesPacket}
-use Rattle.rtc_part_media.specs.MediaMeaning.{held_media}
-use Rattle.rtc_part_media.specs.declared.stats_event.StatsEvent.{StatsEvent}
+use Rattle.rtc_parts.specs.declared.ice_event.IceEvent.{IceEvent}
+use Rattle.rtc_parts.specs.declared.ice_event.IceEvent.TheVariants as ice_events
+use Rattle.rtc_parts.specs.DtlsState.{DtlsState, GivesPacket}
+use Rattle.rtc_parts.specs.MediaMeaning.{held_media}
+use Rattle.rtc_parts.specs.declared.stats_event.StatsEvent.{StatsEvent}
 use Rattle.rtc_config.specs.Stats.{Reporting}
 use Rattle.rtc_peer_core.specs.Meanings.{Meanings, PartsLaws}
 use Rattle.rtc_peer_core.specs.declared.rtc_error.RtcError.TheVariants.{Media as MediaFailed, Alloc}

@@ -1,6 +1,6 @@
 -- Changes of channels and of the entries of their streams by polls, one after the other: none confirms or adds a channel.
 use Rattle.std.proofs.Common.{◌≡◌, ℕ, zero, suc, refl, sym, subst}
-use Rattle.rtc_part_association.specs.AssociationMeaning.{AssociationMeaning}
+use Rattle.rtc_parts.specs.AssociationMeaning.{AssociationMeaning}
 use Rattle.rtc_sctp.specs.Streams.{SctpStreams}
 use Rattle.rtc_channels.specs.Channels.{Channels}
 use Rattle.rtc_peer_laws.specs.RowsChanged.{ChangeRows, ConfirmsNone, OnlyActs, PollRows, RowsChange, RowsChanged, RowsPolled, Stayed}

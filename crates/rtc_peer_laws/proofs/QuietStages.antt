@@ -1,7 +1,7 @@
 -- Stages of a poll beside the connection, and closing, leave the handshake of a peer as it was.
 use Rattle.std.proofs.Common.{◌≡◌, inl, ℕ, Bool, List, [], ◌∷◌, Option, Some, None, Result, Ok, Err, refl, ◌∙◌, ap}
 use Rattle.std.specs.declared.alloc.AllocError.{AllocError}
-use Rattle.rtc_part_media.specs.declared.stats_event.StatsEvent.{StatsEvent}
+use Rattle.rtc_parts.specs.declared.stats_event.StatsEvent.{StatsEvent}
 use Rattle.rtc_config.specs.Stats.{Reporting}
 use Rattle.rtc_sctp_entries.specs.declared.sctp_event.SctpEvent.{SctpEvent}
 use Rattle.rtc_sctp_entries.specs.declared.sctp_event.SctpEvent.TheVariants as event

@@ -1,13 +1,13 @@
 -- Calls that relay, one after the other; what each call does is seen in its acts.
 use Rattle.std.proofs.Common.{◌++◌, ℕ, List, [], refl, sym, subst}
-use Rattle.rtc_part_values.specs.Among.{Member, Among}
-use Rattle.rtc_part_association.proofs.AmongLemmas.{member-left, member-right, among_none, among_self}
-use Rattle.rtc_part_association.specs.AssociationActs.{moved-append}
-use Rattle.rtc_part_association.specs.AssociationWords.{given, taken}
-use Rattle.rtc_part_association.proofs.AssociationLemmas.{given-append, taken-append}
-use Rattle.rtc_part_dtls.specs.DtlsActs.{dtls_moved-append}
-use Rattle.rtc_part_dtls.specs.DtlsWords.{dtls_sent, dtls_got}
-use Rattle.rtc_part_dtls.proofs.DtlsLemmas.{dtls_sent-append, dtls_got-append}
+use Rattle.rtc_parts.specs.Among.{Member, Among}
+use Rattle.rtc_parts.proofs.AmongLemmas.{member-left, member-right, among_none, among_self}
+use Rattle.rtc_parts.specs.AssociationActs.{moved-append}
+use Rattle.rtc_parts.specs.AssociationWords.{given, taken}
+use Rattle.rtc_parts.proofs.AssociationLemmas.{given-append, taken-append}
+use Rattle.rtc_parts.specs.DtlsActs.{dtls_moved-append}
+use Rattle.rtc_parts.specs.DtlsWords.{dtls_sent, dtls_got}
+use Rattle.rtc_parts.proofs.DtlsLemmas.{dtls_sent-append, dtls_got-append}
 use Rattle.rtc_sctp_laws.specs.StreamMessages.{StreamMessage, pushed_packets}
 use Rattle.rtc_peer_core.specs.Meanings.{Meanings}
 use Rattle.rtc_peer_transport.specs.declared.polled_peer.PolledPeer.{PolledPeer}

@@ -1,8 +1,8 @@
 -- Every call of a peer relays packets.
 use Rattle.std.proofs.Common.{◌≡◌, ◌∷◌, List, [], refl, ap}
-use Rattle.rtc_part_ice.specs.IceActs.{IceCall, IceCalled, Stirred as IceStirred, ControllingSet, Invalidated, LiteSet, LocalAdded, LocalSet, RemoteAdded, RemoteSet}
-use Rattle.rtc_part_media.specs.MediaActs.{AppFed, LendsMedia, PliFed, RedSet, RxExpected, RxLent, RxNamedLent, RxRemoved, StirsMedia}
-use Rattle.rtc_part_media.specs.MediaActs.{TwccEnabled, TxDeclared, TxLent, TxNamedLent, TxRemoved, TxReset, WriterLent}
+use Rattle.rtc_parts.specs.IceActs.{IceCall, IceCalled, Stirred as IceStirred, ControllingSet, Invalidated, LiteSet, LocalAdded, LocalSet, RemoteAdded, RemoteSet}
+use Rattle.rtc_parts.specs.MediaActs.{AppFed, LendsMedia, PliFed, RedSet, RxExpected, RxLent, RxNamedLent, RxRemoved, StirsMedia}
+use Rattle.rtc_parts.specs.MediaActs.{TwccEnabled, TxDeclared, TxLent, TxNamedLent, TxRemoved, TxReset, WriterLent}
 use Rattle.rtc_sdp_values.specs.declared.direction.Direction.TheVariants.{Inactive}
 use Rattle.rtc_peer_rows.specs.RowChanges.{directed_row, stopped_row}
 use Rattle.rtc_peer_core.specs.declared.peer.Peer.{Peer}

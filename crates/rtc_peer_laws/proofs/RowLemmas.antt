@@ -37,11 +37,11 @@ use Rattle.rtc_sdp_values.specs.declared.line_row.LineRow.{LineRow}
 use Rattle.rtc_sdp_values.specs.declared.line_row.LineRow.TheVariants.{Media, App}
 use Rattle.rtc_sdp_values.specs.declared.media_line.MediaLine.{MediaLine}
 use Rattle.rtc_sdp_values.specs.declared.sdp.Sdp.{Sdp}
-use Rattle.rtc_part_values.specs.Among.{Member}
-use Rattle.rtc_part_values.specs.Draws.{Draws}
-use Rattle.rtc_part_media.specs.declared.media_update.MediaUpdate.{MediaUpdate}
-use Rattle.rtc_part_media.specs.MediaLaws.{MediaLaws}
-use Rattle.rtc_part_media.specs.MediaUpdates.{same_mid, update_mid, latest, line_after}
+use Rattle.rtc_parts.specs.Among.{Member}
+use Rattle.rtc_parts.specs.Draws.{Draws}
+use Rattle.rtc_parts.specs.declared.media_update.MediaUpdate.{MediaUpdate}
+use Rattle.rtc_parts.specs.MediaLaws.{MediaLaws}
+use Rattle.rtc_parts.specs.MediaUpdates.{same_mid, update_mid, latest, line_after}
 use Rattle.rtc_peer_rows.specs.Table.{IsTable, Distinct, has_mid, is_app}
 use Rattle.rtc_peer_rows.proofs.DeclaredLemmas.{table_take}
 use Rattle.rtc_peer_rows.specs.ParsedLines.{parsed_lines}

@@ -1,8 +1,8 @@
 -- Calls that set no threshold, each by its relation.
 use Rattle.std.proofs.Common.{ℕ, Bool, List, Option, Result, refl, ap, arith}
 use Rattle.std.specs.declared.alloc.Global.{Global}
-use Rattle.rtc_part_values.specs.Why.{Other}
-use Rattle.rtc_part_association.specs.AssociationActs.{LimitsSet, Stirred}
+use Rattle.rtc_parts.specs.Why.{Other}
+use Rattle.rtc_parts.specs.AssociationActs.{LimitsSet, Stirred}
 use Rattle.rtc_config.specs.RtcConfig.{PeerConfig}
 use Rattle.rtc_sctp.specs.Streams.{SctpStreams}
 use Rattle.rtc_peer_core.specs.Built.{Builds}

@@ -1,12 +1,12 @@
 -- Of what a peer over plain parts shows, packets of application data are of the DTLS part.
 use Rattle.std.proofs.Common.{◌≡◌, ◌++◌, ◌∷◌, ◌⊎◌, ◌<◌, ◌≤◌, inl, inr, ℕ, List, [], map, append-nil, refl, sym, ap, subst, arith}
 use Rattle.rtc_wire.specs.declared.transmit.Transmit.{Transmit}
-use Rattle.rtc_part_values.specs.Among.{Member, Among}
-use Rattle.rtc_part_association.proofs.AmongLemmas.{member-append, member-left}
-use Rattle.rtc_part_ice.specs.IceActs.{IceMoved, ice_moved-append}
-use Rattle.rtc_part_ice.specs.IceWords.{ice_taken}
-use Rattle.rtc_part_dtls.specs.DtlsWords.{dtls_taken}
-use Rattle.rtc_part_media.specs.MediaActs.{MediaAct, MediaGiven, MediaTaken, MediaStirred, MediaMoved, media_moved-append}
+use Rattle.rtc_parts.specs.Among.{Member, Among}
+use Rattle.rtc_parts.proofs.AmongLemmas.{member-append, member-left}
+use Rattle.rtc_parts.specs.IceActs.{IceMoved, ice_moved-append}
+use Rattle.rtc_parts.specs.IceWords.{ice_taken}
+use Rattle.rtc_parts.specs.DtlsWords.{dtls_taken}
+use Rattle.rtc_parts.specs.MediaActs.{MediaAct, MediaGiven, MediaTaken, MediaStirred, MediaMoved, media_moved-append}
 use Rattle.rtc_plain_ice.specs.Contents.{IceContents, fresh_ice}
 use Rattle.rtc_plain_ice.specs.Datagrams.{BeginsBelowTwo}
 use Rattle.rtc_plain_ice.specs.PlainMeaning.{plain_ice}

@@ -12,7 +12,7 @@ use Rattle.rtc_sctp_laws.proofs.ActLemmas.{did_none, did_join}
 use Rattle.rtc_sctp_laws.proofs.CallActs.{closes_did, opens_did}
 use Rattle.rtc_channels.specs.Channels.{Channel, Channels}
 use Rattle.rtc_channels.specs.Openings.{ClosesChannel, OpensChannel, OpensAll, Following, Progresses, MeetsMoment}
-use Rattle.rtc_part_association.specs.AssociationMeaning.{AssociationMeaning}
+use Rattle.rtc_parts.specs.AssociationMeaning.{AssociationMeaning}
 use Rattle.rtc_peer_transport.specs.ChannelCalls.{SetsThresholdIf}
 
 module _ {S : Type 0} (m : AssociationMeaning S) where

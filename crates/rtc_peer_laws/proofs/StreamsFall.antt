@@ -1,9 +1,9 @@
 -- The stages of streams lower what a peer weighs.
 use Rattle.std.proofs.Common.{◌≡◌, ℕ, ◌+◌, ◌*◌, ◌≤◌, ◌⊎◌, inl, inr, Bool, true, false, List, [], ◌∷◌, length, Option, Some, None, Result, Ok, Err, refl, sym, ap, subst, arith}
 use Rattle.std.specs.declared.alloc.AllocError.{AllocError}
-use Rattle.rtc_part_dtls.specs.declared.dtls_error.DtlsError.{DtlsError}
-use Rattle.rtc_part_dtls.specs.declared.dtls_error.DtlsError.TheVariants.{Fault}
-use Rattle.rtc_part_dtls.specs.DtlsState.{DtlsState, SendsData, can_send}
+use Rattle.rtc_parts.specs.declared.dtls_error.DtlsError.{DtlsError}
+use Rattle.rtc_parts.specs.declared.dtls_error.DtlsError.TheVariants.{Fault}
+use Rattle.rtc_parts.specs.DtlsState.{DtlsState, SendsData, can_send}
 use Rattle.rtc_peer_core.specs.declared.rtc_error.RtcError.TheVariants.{Dtls, Alloc}
 use Rattle.rtc_sctp_entries.specs.declared.sctp_event.SctpEvent.{SctpEvent}
 use Rattle.rtc_sctp_entries.specs.declared.sctp_event.SctpEvent.TheVariants as event

@@ -6,7 +6,7 @@ use Rattle.rtc_wire.specs.declared.datagram_recv.DatagramRecv.{DatagramRecv}
 use Rattle.rtc_wire.specs.declared.datagram_recv.DatagramRecv.TheVariants as datagrams
 use Rattle.rtc_wire.specs.declared.receive.Receive.{Receive}
 use Rattle.rtc_sdp_values.specs.declared.sdp.Sdp.{Sdp}
-use Rattle.rtc_part_dtls.specs.declared.dtls_error.DtlsError.TheVariants.{WouldBlock, Fault, Alloc as DtlsAlloc}
+use Rattle.rtc_parts.specs.declared.dtls_error.DtlsError.TheVariants.{WouldBlock, Fault, Alloc as DtlsAlloc}
 use Rattle.rtc_peer_rows.specs.declared.why.Why.{Why}
 use Rattle.rtc_peer_rows.specs.declared.why.Why.TheVariants.{NoFingerprint, NoLines, BothLite, NoCredentials, UnaskedRestart, SctpInitChanged, SctpInitMissing}
 use Rattle.rtc_peer_rows.specs.declared.why.Why.TheVariants.{MovedLine, PlaceTaken, AnswerRecycles, WrongNewLines, NoMatch, UnknownHash, NoneAnnounced}

@@ -12,7 +12,7 @@ use Rattle.rtc_peer_transport.specs.declared.polled_peer.PolledPeer.{PolledPeer}
 use Rattle.rtc_peer_transport.specs.Closing.{is_closing_complete}
 use Rattle.rtc_peer_transport.specs.Connection.{closed_peer}
 use Rattle.rtc_peer_transport.specs.Deadlines.{least_deadline}
-use Rattle.rtc_part_values.specs.declared.reason.Reason.TheVariants.{NotHappening}
+use Rattle.rtc_parts.specs.declared.reason.Reason.TheVariants.{NotHappening}
 use Rattle.rtc_peer_polling.specs.StreamStages.{TellsStreams}
 use Rattle.rtc_peer_polling.specs.Walk.{TellsConnection, TellsArrivals, SendsDatagrams, StartsOverWhenDue, VisitsParts, WaitsIf, AnswersMet, Walks, PollsPeerFrom, PollsPeer, with_reason}
 use Rattle.rtc_peer_laws.proofs.Measures.{whole, Fit, Lowered, Lowers, followed_lowers, repeats_lowers, arrivals_lower, datagrams_lower, start_lowers}

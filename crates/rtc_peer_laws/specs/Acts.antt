@@ -1,9 +1,9 @@
 -- What each call of a peer does to its parts, as lists of acts, and what of that it shows.
 use Rattle.std.specs.Prelude.{ℕ, ◌≡◌, ◌++◌, ◌∷◌, Bool, true, false, List, [], map, Some, None, Result, Ok, Err}
-use Rattle.rtc_part_values.specs.Among.{Among}
-use Rattle.rtc_part_ice.specs.IceWords.{ice_given}
-use Rattle.rtc_part_dtls.specs.DtlsWords.{dtls_given, dtls_sent, dtls_got}
-use Rattle.rtc_part_association.specs.AssociationWords.{given, taken}
+use Rattle.rtc_parts.specs.Among.{Among}
+use Rattle.rtc_parts.specs.IceWords.{ice_given}
+use Rattle.rtc_parts.specs.DtlsWords.{dtls_given, dtls_sent, dtls_got}
+use Rattle.rtc_parts.specs.AssociationWords.{given, taken}
 use Rattle.rtc_sctp_entries.specs.declared.sctp_event.SctpEvent.{SctpEvent}
 use Rattle.rtc_sctp_entries.specs.declared.sctp_event.SctpEvent.TheVariants as event
 use Rattle.rtc_sctp.specs.Calls.{written_ppi, is_nil}

@@ -1,6 +1,6 @@
 -- What polls leave of the streams of channels: of what was written and read of them, and of those whose entry is open in a generation.
 use Rattle.std.specs.Prelude.{ℕ, ◌≡◌, ◌<◌, ◌≤◌, ◌-◌, ◌^◌, ◌⊎◌, ◌++◌, Bool, true, List, [], ◌∷◌, map, Option, Some, Result, Ok, Err}
-use Rattle.rtc_part_association.specs.AssociationLaws.{AssociationLaws}
+use Rattle.rtc_parts.specs.AssociationLaws.{AssociationLaws}
 use Rattle.rtc_sctp_laws.specs.StreamMessages.{StreamMessage}
 use Rattle.rtc_sctp_laws.specs.GenerationLaws.{GenerationLaws}
 use Rattle.rtc_sctp_laws.specs.StreamUses.{HasOpenInBand, IsLive, IsShutDown, WereOpened, are_of_generation, entries_of, messages_of}

@@ -1,10 +1,10 @@
 -- Two peers over plain DTLS parts and associations, each of which was given application data that the DTLS part of the other one had sent.
 use Rattle.std.specs.Prelude.{ℕ, ◌≡◌, ◌++◌, List, []}
-use Rattle.rtc_part_values.specs.Among.{Member, Among}
-use Rattle.rtc_part_dtls.specs.DtlsActs.{DtlsAct, DtlsMoved}
-use Rattle.rtc_part_dtls.specs.DtlsWords.{dtls_given, dtls_taken, dtls_sent}
-use Rattle.rtc_part_association.specs.AssociationActs.{AssociationAct, Moved}
-use Rattle.rtc_part_association.specs.AssociationWords.{given, taken}
+use Rattle.rtc_parts.specs.Among.{Member, Among}
+use Rattle.rtc_parts.specs.DtlsActs.{DtlsAct, DtlsMoved}
+use Rattle.rtc_parts.specs.DtlsWords.{dtls_given, dtls_taken, dtls_sent}
+use Rattle.rtc_parts.specs.AssociationActs.{AssociationAct, Moved}
+use Rattle.rtc_parts.specs.AssociationWords.{given, taken}
 use Rattle.rtc_plain_dtls.specs.Contents.{DtlsContents, fresh_dtls}
 use Rattle.rtc_plain_dtls.specs.Frames.{data_packet}
 use Rattle.rtc_plain_dtls.specs.PlainMeaning.{plain_dtls}

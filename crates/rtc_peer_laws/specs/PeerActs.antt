@@ -3,14 +3,14 @@ use Rattle.std.specs.Prelude.{ℕ, ◌++◌, ◌∷◌, Bool, List, [], map, Opt
 use Rattle.rtc_wire.specs.declared.transmit.Transmit.{Transmit}
 use Rattle.rtc_wire.specs.declared.datagram_recv.DatagramRecv.{DatagramRecv}
 use Rattle.rtc_wire.specs.declared.datagram_recv.DatagramRecv.TheVariants as datagrams
-use Rattle.rtc_part_values.specs.Why.{Timed}
-use Rattle.rtc_part_ice.specs.IceActs.{IceAct, IceMoved, TimedAt as IceTimed, Stirred as IceStirred}
-use Rattle.rtc_part_ice.specs.IceWords.{ice_taken}
-use Rattle.rtc_part_dtls.specs.DtlsActs.{DtlsAct, DtlsMoved, Activated, TimedAt as DtlsTimed, Stirred as DtlsStirred}
-use Rattle.rtc_part_dtls.specs.DtlsState.{DtlsState}
-use Rattle.rtc_part_dtls.specs.DtlsWords.{dtls_taken}
-use Rattle.rtc_part_association.specs.AssociationActs.{AssociationAct, Moved}
-use Rattle.rtc_part_media.specs.MediaActs.{MediaAct, MediaGiven, MediaTaken, MediaStirred, MediaMoved}
+use Rattle.rtc_parts.specs.Why.{Timed}
+use Rattle.rtc_parts.specs.IceActs.{IceAct, IceMoved, TimedAt as IceTimed, Stirred as IceStirred}
+use Rattle.rtc_parts.specs.IceWords.{ice_taken}
+use Rattle.rtc_parts.specs.DtlsActs.{DtlsAct, DtlsMoved, Activated, TimedAt as DtlsTimed, Stirred as DtlsStirred}
+use Rattle.rtc_parts.specs.DtlsState.{DtlsState}
+use Rattle.rtc_parts.specs.DtlsWords.{dtls_taken}
+use Rattle.rtc_parts.specs.AssociationActs.{AssociationAct, Moved}
+use Rattle.rtc_parts.specs.MediaActs.{MediaAct, MediaGiven, MediaTaken, MediaStirred, MediaMoved}
 use Rattle.rtc_peer_core.specs.Meanings.{Meanings}
 use Rattle.rtc_peer_transport.specs.declared.input.Input.{Input}
 use Rattle.rtc_peer_transport.specs.declared.input.Input.TheVariants.{Timeout, Receive as Datagram}

@@ -1,10 +1,10 @@
 -- What a call of a peer does to its association and to its DTLS connection, and how packets go from one to the other.
 use Rattle.std.specs.Prelude.{◌++◌, List}
-use Rattle.rtc_part_values.specs.Among.{Among}
-use Rattle.rtc_part_dtls.specs.DtlsActs.{DtlsAct, DtlsMoved}
-use Rattle.rtc_part_dtls.specs.DtlsWords.{dtls_sent, dtls_got}
-use Rattle.rtc_part_association.specs.AssociationActs.{AssociationAct, Moved}
-use Rattle.rtc_part_association.specs.AssociationWords.{given, taken}
+use Rattle.rtc_parts.specs.Among.{Among}
+use Rattle.rtc_parts.specs.DtlsActs.{DtlsAct, DtlsMoved}
+use Rattle.rtc_parts.specs.DtlsWords.{dtls_sent, dtls_got}
+use Rattle.rtc_parts.specs.AssociationActs.{AssociationAct, Moved}
+use Rattle.rtc_parts.specs.AssociationWords.{given, taken}
 use Rattle.rtc_sctp_laws.specs.StreamMessages.{pushed_packets}
 use Rattle.rtc_peer_core.specs.Meanings.{Meanings}
 use Rattle.rtc_peer_transport.specs.declared.polled_peer.PolledPeer.{PolledPeer}

@@ -1,8 +1,8 @@
 -- What a peer over plain parts shows in datagrams.
 use Rattle.std.specs.Prelude.{ℕ, ◌++◌, List}
-use Rattle.rtc_part_values.specs.Among.{Among}
-use Rattle.rtc_part_ice.specs.IceActs.{IceMoved}
-use Rattle.rtc_part_media.specs.MediaActs.{MediaMoved}
+use Rattle.rtc_parts.specs.Among.{Among}
+use Rattle.rtc_parts.specs.IceActs.{IceMoved}
+use Rattle.rtc_parts.specs.MediaActs.{MediaMoved}
 use Rattle.rtc_plain_ice.specs.Contents.{IceContents, fresh_ice}
 use Rattle.rtc_plain_ice.specs.PlainMeaning.{plain_ice}
 use Rattle.rtc_plain_media.specs.MediaContents.{MediaContents, fresh_media}

@@ -3,7 +3,7 @@ use Rattle.std.specs.Prelude.{ℕ, ◌+◌, ◌*◌, ◌-◌, ◌^◌, ◌≡◌
 use Rattle.std.specs.Prelude.{List, [], ◌∷◌, length, Option, Some, None, Ok}
 use Rattle.std.specs.List.{sum_by}
 use Rattle.rtc_config.specs.Stats.{Reporting}
-use Rattle.rtc_part_media.specs.MediaMeaning.{held_media}
+use Rattle.rtc_parts.specs.MediaMeaning.{held_media}
 use Rattle.rtc_wire.specs.declared.channel_config.ChannelConfig.{ChannelConfig}
 use Rattle.rtc_sctp_entries.specs.declared.stream_entry_state.StreamEntryState.{StreamEntryState}
 use Rattle.rtc_sctp_entries.specs.declared.stream_entry_state.StreamEntryState.TheVariants.{AwaitOpen, AwaitConfig, AwaitDcepAck}

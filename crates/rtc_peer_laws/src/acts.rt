@@ -15,11 +15,7 @@ ghost use Rattle.rtc_peer_polling.specs.Inputs.{HandlesInput};
 ghost use Rattle.rtc_peer_polling.specs.Walk.{PollsPeer};
 ghost use Rattle.rtc_peer_laws.specs.Acts.{CallActs, InputActs, NegotiationActs, PollActs, message_of_write, with_agent, with_core};
 
-use rtc_part_association::Association;
-use rtc_part_dtls::DtlsInstance;
-use rtc_part_ice::IceAgent;
-use rtc_part_media::MediaSession;
-use rtc_part_values::Ids;
+use rtc_parts::{Association, DtlsInstance, IceAgent, Ids, MediaSession};
 
 /// Each call is a list of acts of each part. A poll gives the parts nothing from outside, and returns only what they
 /// gave. It reports at most the last message that it read for a channel: the last of its stream, in the generation that

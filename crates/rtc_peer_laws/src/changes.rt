@@ -8,11 +8,7 @@ ghost use Rattle.rtc_peer_core.specs.Meanings.{meanings};
 ghost use Rattle.rtc_peer_transport.specs.declared.polled_peer.PolledPeer.{PolledPeer as Polled};
 ghost use Rattle.rtc_peer_laws.specs.Acts.{CallActs, with_core};
 
-use rtc_part_association::Association;
-use rtc_part_dtls::DtlsInstance;
-use rtc_part_ice::IceAgent;
-use rtc_part_media::MediaSession;
-use rtc_part_values::Ids;
+use rtc_parts::{Association, DtlsInstance, IceAgent, Ids, MediaSession};
 
 /// Staging and applying are lists of acts of each part. Nothing is received from outside, no message is written or read,
 /// and the agent, the DTLS part and the media part are given no moment. By the calls' own relations, staging leaves the

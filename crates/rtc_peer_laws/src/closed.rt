@@ -6,11 +6,7 @@ ghost use Rattle.rtc_peer_transport.specs.declared.polled_peer.PolledPeer.{Polle
 ghost use Rattle.rtc_peer_laws.specs.PeerCalls.{CalledInTurn, ChannelCalled, DirectlyCalled, LoanCalled, MediaCalled, NegotiationCalled};
 ghost use Rattle.rtc_peer_laws.specs.PeerCalls.{PeerCalled, TransportCalled};
 
-use rtc_part_association::Association;
-use rtc_part_dtls::DtlsInstance;
-use rtc_part_ice::IceAgent;
-use rtc_part_media::MediaSession;
-use rtc_part_values::Ids;
+use rtc_parts::{Association, DtlsInstance, IceAgent, Ids, MediaSession};
 
 /// No public call makes a closed peer alive, and no number of them one after the other: it is closed behind each poll,
 /// input and close, each call on a data channel, all that negotiates, candidates that are added, each call without

@@ -18,11 +18,7 @@ ghost use Rattle.rtc_peer_direct.specs.Streams.{DeclaresTx, ExpectsRx, LendsName
 ghost use Rattle.rtc_peer_direct.specs.Streams.{RemovesRx, RemovesTx, ResetsTx};
 ghost use Rattle.rtc_peer_laws.specs.Acts.{CallActs, NegotiationActs};
 
-use rtc_part_association::Association;
-use rtc_part_dtls::DtlsInstance;
-use rtc_part_ice::IceAgent;
-use rtc_part_media::MediaSession;
-use rtc_part_values::Ids;
+use rtc_parts::{Association, DtlsInstance, IceAgent, Ids, MediaSession};
 
 /// Each call is a list of acts of each part. No packet is received from outside, no message is written or read, and the
 /// agent and the media part are given no moment. If a DTLS role is taken, the DTLS part may be given the greatest

@@ -7,11 +7,7 @@ ghost use Rattle.rtc_peer_transport.specs.declared.polled_peer.PolledPeer.{Polle
 ghost use Rattle.rtc_peer_polling.specs.Walk.{PollsPeer};
 ghost use Rattle.rtc_peer_laws.specs.Drained.{AllHeard, AnswersAgain};
 
-use rtc_part_association::Association;
-use rtc_part_dtls::DtlsInstance;
-use rtc_part_ice::IceAgent;
-use rtc_part_media::MediaSession;
-use rtc_part_values::Ids;
+use rtc_parts::{Association, DtlsInstance, IceAgent, Ids, MediaSession};
 
 /// A peer that returned a timeout, and is polled again without a call between, returns the same timeout for the same
 /// reason, and nothing changes. Only out of memory may replace it, and not once the peer is closed.

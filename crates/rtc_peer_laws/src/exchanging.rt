@@ -1,6 +1,6 @@
 //! Two peers over plain parts that exchange datagrams, and what their associations read.
 ghost use Rattle.std.specs.Prelude.{◌++◌, ℕ, List};
-ghost use Rattle.rtc_part_association.specs.AssociationWords.{written, read};
+ghost use Rattle.rtc_parts.specs.AssociationWords.{written, read};
 ghost use Rattle.rtc_plain_ice.specs.Contents.{IceContents};
 ghost use Rattle.rtc_plain_ice.specs.PlainMeaning.{plain_ice};
 ghost use Rattle.rtc_plain_dtls.specs.Contents.{DtlsContents};
@@ -18,7 +18,7 @@ ghost use Rattle.rtc_peer_laws.specs.PeerActs.{Came, PeerActs, acts_with};
 ghost use Rattle.rtc_peer_laws.specs.Exchanging.{PeersExchange};
 ghost use Rattle.rtc_peer_laws.specs.JoinedPeers.{CarriesData};
 
-use rtc_part_values::Ids;
+use rtc_parts::Ids;
 
 /// Two peers over plain parts that exchange datagrams stay so by every call of one of them whose DTLS part receives
 /// application data only in datagrams that the other one sent. This holds whatever is lost, repeated or reordered. What

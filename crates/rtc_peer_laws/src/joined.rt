@@ -1,7 +1,7 @@
 //! How calls of two peers join their associations, and what these then read.
 ghost use Rattle.std.specs.Prelude.{◌≡◌, ◌++◌, ℕ, List, false, map};
-ghost use Rattle.rtc_part_dtls.specs.DtlsWords.{dtls_taken};
-ghost use Rattle.rtc_part_association.specs.AssociationWords.{written, read, ended};
+ghost use Rattle.rtc_parts.specs.DtlsWords.{dtls_taken};
+ghost use Rattle.rtc_parts.specs.AssociationWords.{written, read, ended};
 ghost use Rattle.rtc_plain_dtls.specs.Contents.{DtlsContents};
 ghost use Rattle.rtc_plain_dtls.specs.PlainMeaning.{plain_dtls};
 ghost use Rattle.rtc_assoc_state.specs.Contents.{Contents};
@@ -15,11 +15,7 @@ ghost use Rattle.rtc_peer_laws.specs.Acts.{PeerDid, begun_here};
 ghost use Rattle.rtc_peer_laws.specs.PeerActs.{Came, nothing_came};
 ghost use Rattle.rtc_peer_laws.specs.JoinedPeers.{AreUnused, CarriesData, PartsPast, PeersJoined, PacketParts, past_with, packet_parts};
 
-use rtc_part_association::Association;
-use rtc_part_dtls::DtlsInstance;
-use rtc_part_ice::IceAgent;
-use rtc_part_media::MediaSession;
-use rtc_part_values::Ids;
+use rtc_parts::{Association, DtlsInstance, IceAgent, Ids, MediaSession};
 
 /// Two peers whose parts were not used yet are joined. They stay so by every call of one of them whose DTLS part
 /// receives application data only in packets that the other one's DTLS part gave before. This holds whatever is lost,

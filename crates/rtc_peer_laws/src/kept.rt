@@ -19,11 +19,7 @@ ghost use Rattle.rtc_peer_laws.specs.Acts.{message_of_write, with_core};
 ghost use Rattle.rtc_peer_laws.specs.KeptChannels.{CallKeepsStreams, CallLeavesStreams};
 ghost use Rattle.rtc_sctp_laws.specs.StreamMessages.{StreamMessage};
 
-use rtc_part_association::Association;
-use rtc_part_dtls::DtlsInstance;
-use rtc_part_ice::IceAgent;
-use rtc_part_media::MediaSession;
-use rtc_part_values::Ids;
+use rtc_parts::{Association, DtlsInstance, IceAgent, Ids, MediaSession};
 
 /// An input, a close, a write, a channel that is closed and a threshold keep the use of each stream, by the message that was written,
 /// if one was; and each channel that is live on a stream. A message that is taken on a live channel is written to its generation.

@@ -5,11 +5,7 @@ ghost use Rattle.rtc_peer_transport.specs.declared.polled_peer.PolledPeer.{Polle
 ghost use Rattle.rtc_peer_laws.specs.PeerCalls.{CalledInTurn, PeerCalled};
 ghost use Rattle.rtc_peer_laws.specs.Relay.{Relays};
 
-use rtc_part_association::Association;
-use rtc_part_dtls::DtlsInstance;
-use rtc_part_ice::IceAgent;
-use rtc_part_media::MediaSession;
-use rtc_part_values::Ids;
+use rtc_parts::{Association, DtlsInstance, IceAgent, Ids, MediaSession};
 
 /// In each public call, each packet that is given to the association was received over the DTLS connection in that
 /// call. Each packet that is sent over it in the call, or waits to be sent after it, was taken from the association in

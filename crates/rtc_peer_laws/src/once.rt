@@ -12,11 +12,7 @@ ghost use Rattle.rtc_sctp_entries.specs.declared.stream_entry.StreamEntry.{Strea
 ghost use Rattle.rtc_peer_laws.specs.ChannelStreams.{AreNumberedChannels, IsGone, IsLiveChannel, IsUsedStream, OpensStreamOf};
 ghost use Rattle.rtc_peer_laws.specs.KeptChannels.{IsSettledStream};
 
-use rtc_part_association::Association;
-use rtc_part_dtls::DtlsInstance;
-use rtc_part_ice::IceAgent;
-use rtc_part_media::MediaSession;
-use rtc_part_values::Ids;
+use rtc_parts::{Association, DtlsInstance, IceAgent, Ids, MediaSession};
 
 /// If a channel is reported as open, its stream was opened out-of-band, or a message that opens a channel was read in
 /// its generation, and none before this poll; the channel is live after the poll. A live channel is not reported as

@@ -2,11 +2,7 @@
 ghost use Rattle.rtc_peer_core.specs.Meanings.{meanings};
 ghost use Rattle.rtc_peer_laws.specs.MediaRows.{OffersLeaveRows, AnswersLeaveRows};
 
-use rtc_part_association::Association;
-use rtc_part_dtls::DtlsInstance;
-use rtc_part_ice::IceAgent;
-use rtc_part_media::MediaSession;
-use rtc_part_values::Ids;
+use rtc_parts::{Association, DtlsInstance, IceAgent, Ids, MediaSession};
 
 /// Once an offer or an answer is accepted, the media part has, at the mid of each media line that it names, the row of the peer.
 pub fn named_rows_are_media_lines<

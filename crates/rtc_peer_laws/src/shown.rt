@@ -1,6 +1,6 @@
 //! Which datagrams of a peer over plain parts carry application data.
 ghost use Rattle.std.specs.Prelude.{◌++◌, ℕ, List};
-ghost use Rattle.rtc_part_dtls.specs.DtlsWords.{dtls_taken};
+ghost use Rattle.rtc_parts.specs.DtlsWords.{dtls_taken};
 ghost use Rattle.rtc_plain_ice.specs.Contents.{IceContents};
 ghost use Rattle.rtc_plain_ice.specs.PlainMeaning.{plain_ice};
 ghost use Rattle.rtc_plain_media.specs.MediaContents.{MediaContents};
@@ -13,9 +13,7 @@ ghost use Rattle.rtc_peer_laws.specs.PeerActs.{Came, PeerActs, acts_with};
 ghost use Rattle.rtc_peer_laws.specs.JoinedPeers.{CarriesData};
 ghost use Rattle.rtc_peer_laws.specs.ShownData.{HasShown, ShownSince};
 
-use rtc_part_association::Association;
-use rtc_part_dtls::DtlsInstance;
-use rtc_part_values::Ids;
+use rtc_parts::{Association, DtlsInstance, Ids};
 
 /// What a peer over a plain agent and a plain media part has shown grows by what its calls show. Of all of that, each datagram that
 /// is a packet of application data of the plain DTLS part was given by the DTLS part.

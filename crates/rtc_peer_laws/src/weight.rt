@@ -18,11 +18,7 @@ ghost use Rattle.rtc_peer_polling.specs.Inputs.{HandlesInput};
 ghost use Rattle.rtc_peer_polling.specs.Walk.{PollsPeer};
 ghost use Rattle.rtc_peer_laws.specs.Weight.{FallsBy, HasNoThreshold, IsHandshakeTold, IsMoment, IsTimely, PutsOut, load, weight};
 
-use rtc_part_association::Association;
-use rtc_part_dtls::DtlsInstance;
-use rtc_part_ice::IceAgent;
-use rtc_part_media::MediaSession;
-use rtc_part_values::Ids;
+use rtc_parts::{Association, DtlsInstance, IceAgent, Ids, MediaSession};
 
 /// Each datagram and each event that a poll returns lowers the load of a peer at which no threshold is set, and a
 /// timeout does not raise it. After a poll the end of the handshake is reported. So fewer outputs than the weight are

@@ -11,9 +11,9 @@ use Rattle.rtc_change.specs.Plans.{PlansSdp, verdict}
 use Rattle.rtc_change.specs.TableAfter.{table_after}
 use Rattle.rtc_change.specs.declared.refusal.Refusal.{Refusal}
 use Rattle.rtc_change.specs.declared.refusal.Refusal.TheVariants.{RemoteSdp as RefusedSdp, Sdp as RefusedText, Alloc as NoMemory}
-use Rattle.rtc_part_dtls.specs.declared.dtls_error.DtlsError.TheVariants.{WouldBlock, Fault, Alloc as DtlsAlloc}
-use Rattle.rtc_part_dtls.specs.DtlsState.{DtlsState}
-use Rattle.rtc_part_media.specs.declared.media_update.MediaUpdate.{MediaUpdate}
+use Rattle.rtc_parts.specs.declared.dtls_error.DtlsError.TheVariants.{WouldBlock, Fault, Alloc as DtlsAlloc}
+use Rattle.rtc_parts.specs.DtlsState.{DtlsState}
+use Rattle.rtc_parts.specs.declared.media_update.MediaUpdate.{MediaUpdate}
 use Rattle.rtc_sctp.specs.Streams.{SctpStreams}
 use Rattle.rtc_peer_core.specs.declared.peer.Peer.{Peer}
 use Rattle.rtc_peer_core.specs.declared.rtc_error.RtcError.{RtcError}

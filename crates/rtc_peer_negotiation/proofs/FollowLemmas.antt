@@ -2,10 +2,10 @@
 use Rattle.std.proofs.Common.{◌≡◌, ◌∙◌, ℕ, List, [], ◌∷◌, Bool, true, Option, Some, None, Result, Ok, Err, length, refl, ap, subst, arith}
 use Rattle.std.specs.declared.alloc.AllocError.{AllocError}
 use Rattle.rtc_sdp_values.specs.declared.candidate.Candidate.{Candidate}
-use Rattle.rtc_part_ice.specs.IceMeaning.{IceMeaning}
-use Rattle.rtc_part_dtls.specs.declared.dtls_error.DtlsError.{DtlsError}
-use Rattle.rtc_part_dtls.specs.DtlsMeaning.{DtlsMeaning}
-use Rattle.rtc_part_dtls.specs.DtlsState.{DtlsState, SetsRole, HandsOn}
+use Rattle.rtc_parts.specs.IceMeaning.{IceMeaning}
+use Rattle.rtc_parts.specs.declared.dtls_error.DtlsError.{DtlsError}
+use Rattle.rtc_parts.specs.DtlsMeaning.{DtlsMeaning}
+use Rattle.rtc_parts.specs.DtlsState.{DtlsState, SetsRole, HandsOn}
 use Rattle.rtc_peer_core.specs.PartMoves.{TakesCandidates, begun_answer, BeginsHandshake, BeginsTimed, TakesRole}
 
 -- what is taken of the candidates that are left is taken of all

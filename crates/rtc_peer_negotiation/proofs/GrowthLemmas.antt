@@ -5,11 +5,11 @@ use Rattle.std.specs.Option.{option_or}
 use Rattle.rtc_sdp_values.specs.Sdp.{creds_of, sdp_fingerprint}
 use Rattle.rtc_sdp_values.specs.declared.ice_creds.IceCreds.{IceCreds}
 use Rattle.rtc_sdp_values.specs.declared.sdp.Sdp.{Sdp}
-use Rattle.rtc_part_media.specs.declared.media_update.MediaUpdate.{MediaUpdate}
+use Rattle.rtc_parts.specs.declared.media_update.MediaUpdate.{MediaUpdate}
 use Rattle.rtc_change.specs.declared.change.Change.{Change}
 use Rattle.rtc_change.specs.Plans.{is_restart}
-use Rattle.rtc_part_values.specs.Draws.{Draws, Later}
-use Rattle.rtc_part_values.proofs.LaterLemmas.{later_none, later_twice, later_join}
+use Rattle.rtc_parts.specs.Draws.{Draws, Later}
+use Rattle.rtc_parts.proofs.LaterLemmas.{later_none, later_twice, later_join}
 use Rattle.rtc_sctp.specs.Calls.{are_whole}
 use Rattle.rtc_sctp_values.specs.InitHalves.{InitHalves, after_half}
 use Rattle.rtc_sctp_values.specs.SnapHalves.{KeptHalves, halves_or_none, halves_of, after_halves_of}

@@ -5,10 +5,10 @@ use Rattle.rtc_sdp_values.specs.Sdp.{sdp_setup, max_message_size_of}
 use Rattle.rtc_sdp_values.specs.declared.line_row.LineRow.{LineRow}
 use Rattle.rtc_sdp_values.specs.declared.sdp.Sdp.{Sdp}
 use Rattle.rtc_peer_rows.specs.Table.{app_of}
-use Rattle.rtc_part_ice.specs.IceMeaning.{IceMeaning}
-use Rattle.rtc_part_dtls.specs.DtlsMeaning.{DtlsMeaning}
-use Rattle.rtc_part_dtls.specs.DtlsState.{DtlsState}
-use Rattle.rtc_part_association.specs.AssociationMeaning.{AssociationMeaning}
+use Rattle.rtc_parts.specs.IceMeaning.{IceMeaning}
+use Rattle.rtc_parts.specs.DtlsMeaning.{DtlsMeaning}
+use Rattle.rtc_parts.specs.DtlsState.{DtlsState}
+use Rattle.rtc_parts.specs.AssociationMeaning.{AssociationMeaning}
 use Rattle.rtc_sctp.specs.Streams.{SctpStreams}
 use Rattle.rtc_sctp.specs.Calls.{are_whole}
 use Rattle.rtc_sctp_values.specs.declared.proto_error.ProtoError.TheVariants.{Started, SnapHalf, TooLong, NoStream, Fault as AssociationFault}

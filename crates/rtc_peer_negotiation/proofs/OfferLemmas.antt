@@ -7,8 +7,8 @@ use Rattle.rtc_peer_core.specs.declared.sdp_head.SdpHead.{SdpHead}
 use Rattle.rtc_peer_core.specs.declared.told_row.ToldRow.{ToldRow}
 use Rattle.rtc_peer_core.specs.MadeSdp.{sdp_of_rows, offer_head, offered_told, offer_sdp}
 use Rattle.std.specs.Prelude.{◌&&◌, not, is_some}
-use Rattle.rtc_part_values.specs.Draws.{Later}
-use Rattle.rtc_part_values.proofs.LaterLemmas.{later_none, later_twice}
+use Rattle.rtc_parts.specs.Draws.{Later}
+use Rattle.rtc_parts.proofs.LaterLemmas.{later_none, later_twice}
 use Rattle.rtc_sctp_values.specs.InitHalves.{after_half}
 use Rattle.rtc_peer_core.specs.declared.peer.Peer.{Peer}
 use Rattle.rtc_peer_core.specs.Calls.{LacksOffer, halves_pending, ids_after_told}

@@ -9,7 +9,7 @@ use Rattle.rtc_change.specs.PendingOffer.{staged_restart}
 use Rattle.rtc_change.specs.declared.change.Change.{Change}
 use Rattle.rtc_peer_core.specs.declared.peer.Peer.{Peer}
 use Rattle.rtc_peer_core.specs.Acceptances.{followed_restart, answer_ids, updates_for, halves_for, ids_after_halves, init_answered}
-use Rattle.rtc_part_values.specs.Draws.{Later}
+use Rattle.rtc_parts.specs.Draws.{Later}
 use Rattle.rtc_peer_core.specs.Calls.{control_for}
 use Rattle.rtc_peer_core.specs.MadeSdp.{answer_sdp}
 use Rattle.rtc_peer_core.specs.Meanings.{Meanings}

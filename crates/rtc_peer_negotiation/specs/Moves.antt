@@ -3,12 +3,12 @@ use Rattle.std.specs.Prelude.{◌≡◌, ℕ, List, Result, Ok, Err}
 use Rattle.rtc_sdp_values.specs.Sdp.{sdp_setup, max_message_size_of}
 use Rattle.rtc_sdp_values.specs.declared.line_row.LineRow.{LineRow}
 use Rattle.rtc_sdp_values.specs.declared.sdp.Sdp.{Sdp}
-use Rattle.rtc_part_ice.specs.IceMeaning.{IceMeaning}
-use Rattle.rtc_part_dtls.specs.declared.dtls_error.DtlsError.{DtlsError}
-use Rattle.rtc_part_dtls.specs.declared.dtls_error.DtlsError.TheVariants.{WouldBlock, Fault, Alloc as DtlsAlloc}
-use Rattle.rtc_part_dtls.specs.DtlsMeaning.{DtlsMeaning}
-use Rattle.rtc_part_dtls.specs.DtlsState.{DtlsState}
-use Rattle.rtc_part_association.specs.AssociationMeaning.{AssociationMeaning}
+use Rattle.rtc_parts.specs.IceMeaning.{IceMeaning}
+use Rattle.rtc_parts.specs.declared.dtls_error.DtlsError.{DtlsError}
+use Rattle.rtc_parts.specs.declared.dtls_error.DtlsError.TheVariants.{WouldBlock, Fault, Alloc as DtlsAlloc}
+use Rattle.rtc_parts.specs.DtlsMeaning.{DtlsMeaning}
+use Rattle.rtc_parts.specs.DtlsState.{DtlsState}
+use Rattle.rtc_parts.specs.AssociationMeaning.{AssociationMeaning}
 use Rattle.rtc_sctp.specs.Streams.{SctpStreams}
 use Rattle.rtc_sctp_values.specs.declared.proto_error.ProtoError.TheVariants.{Fault as AssociationFault}
 use Rattle.rtc_sctp_values.specs.declared.sctp_error.SctpError.{SctpError}

@@ -7,11 +7,7 @@ ghost use Rattle.rtc_peer_core.specs.Meanings.{meanings};
 ghost use Rattle.rtc_peer_core.specs.Stance.{stance_of};
 
 use crate::copying::lend_restart;
-use rtc_part_association::Association;
-use rtc_part_dtls::DtlsInstance;
-use rtc_part_ice::IceAgent;
-use rtc_part_media::{MediaSession, MediaUpdate};
-use rtc_part_values::Ids;
+use rtc_parts::{Association, DtlsInstance, IceAgent, Ids, MediaSession, MediaUpdate};
 use rtc_peer_core::{Peer, SdpHead};
 use rtc_peer_sdp::{make_head, make_sdp, role_after, setup_of_role, tell_rows};
 use rtc_sdp_values::{IceCreds, LineRow, Sdp};

@@ -1,7 +1,7 @@
 //! What is drawn as an offer or an answer is accepted.
 ghost use Rattle.std.specs.Prelude.{◌≡◌, ◌≤◌, length, true, take, IfOk, OnOk, OnErr};
 ghost use Rattle.rtc_sdp_values.specs.Sdp.{sdp_sctp_init};
-ghost use Rattle.rtc_part_values.specs.Draws.{Later};
+ghost use Rattle.rtc_parts.specs.Draws.{Later};
 ghost use Rattle.rtc_change.specs.TableAfter.{table_after};
 ghost use Rattle.rtc_peer_rows.specs.ParsedLines.{parsed_lines};
 ghost use Rattle.rtc_sctp.specs.Calls.{are_whole};
@@ -12,11 +12,7 @@ ghost use Rattle.rtc_peer_core.specs.SdpHalves.{told_chunk};
 ghost use Rattle.rtc_peer_negotiation.specs.Growths.{DrawsAlong};
 
 use rtc_change::Change;
-use rtc_part_association::Association;
-use rtc_part_dtls::DtlsInstance;
-use rtc_part_ice::IceAgent;
-use rtc_part_media::{MediaSession, MediaUpdate};
-use rtc_part_values::Ids;
+use rtc_parts::{Association, DtlsInstance, IceAgent, Ids, MediaSession, MediaUpdate};
 use rtc_peer_core::Peer;
 use rtc_peer_sdp::list_updates;
 use rtc_sctp_values::SctpInitData;

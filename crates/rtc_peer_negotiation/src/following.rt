@@ -1,11 +1,10 @@
 //! The ICE agent and the DTLS part as an offer or an answer is followed.
 ghost use Rattle.std.specs.Prelude.{◌≡◌, ◌≢◌, OnOk, OnErr, Some, None, Ok, Err, true};
-ghost use Rattle.rtc_part_dtls.specs.declared.dtls_error.DtlsError.TheVariants.{WouldBlock};
+ghost use Rattle.rtc_parts.specs.declared.dtls_error.DtlsError.TheVariants.{WouldBlock};
 ghost use Rattle.rtc_peer_core.specs.PartMoves.{RestartsIce, TakesCreds, TakesCandidates, TakesControl};
 ghost use Rattle.rtc_peer_core.specs.PartMoves.{FollowsSdp, StopsFollowing, StartsDtls, TakesRole, BeginsHandshake};
 
-use rtc_part_dtls::{Dtls, DtlsError, DtlsInstance};
-use rtc_part_ice::IceAgent;
+use rtc_parts::{Dtls, DtlsError, DtlsInstance, IceAgent};
 use rtc_sdp_values::{Candidate, IceCreds};
 use rtc_wire::{Moment, Seq};
 use std::alloc::AllocError;

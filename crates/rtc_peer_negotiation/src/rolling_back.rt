@@ -8,7 +8,7 @@ ghost use Rattle.rtc_peer_core.specs.RollingBack.{RollsBack};
 use crate::accepting::is_latest;
 use rtc_change::{Change, Lines, SdpPendingOffer};
 use rtc_channels::ChannelHandler;
-use rtc_part_association::Association;
+use rtc_parts::Association;
 use rtc_peer_core::{Peer, RtcError};
 use rtc_sdp_values::{Direction, Mid};
 use rtc_wire::ChannelId;

@@ -6,7 +6,7 @@ ghost use Rattle.rtc_sctp.specs.Calls.{limit_or_default};
 ghost use Rattle.rtc_peer_core.specs.PartMoves.{StartsSctp, remote_limit, dropped_halves, needs_start as NeedsStart};
 
 use crate::starting::Starting;
-use rtc_part_association::Association;
+use rtc_parts::Association;
 use rtc_peer_rows::find_app;
 use rtc_sctp::{RtcSctp, SctpError};
 use rtc_sdp_values::{LineRow, Sdp};

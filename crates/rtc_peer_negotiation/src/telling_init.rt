@@ -5,7 +5,7 @@ ghost use Rattle.rtc_sctp_values.specs.InitHalves.{local_text};
 ghost use Rattle.rtc_sctp_values.specs.SnapHalves.{text_in};
 ghost use Rattle.rtc_peer_core.specs.SdpHalves.{answer_init};
 
-use rtc_part_association::Association;
+use rtc_parts::Association;
 use rtc_sctp::RtcSctp;
 use rtc_sctp_values::SctpInitData;
 use rtc_wire::Text;

@@ -2,15 +2,15 @@
 use Rattle.std.proofs.Common.{◌≡◌, ◌<◌, ◌≤◌, ◌-◌, ◌^◌, ℕ, zero, suc, Bool, true, false, List, [], ◌∷◌, Option, Some, None, Result, Ok, Err}
 use Rattle.std.proofs.Common.{refl, sym, ap, subst, ◌∙◌, arith}
 use Rattle.std.specs.declared.alloc.AllocError.{AllocError}
-use Rattle.rtc_part_dtls.specs.declared.dtls_output.DtlsOutput.{DtlsOutput}
-use Rattle.rtc_part_dtls.specs.declared.dtls_output.DtlsOutput.TheVariants as outputs
-use Rattle.rtc_part_dtls.specs.DtlsActs.{DtlsMoved}
-use Rattle.rtc_part_dtls.specs.DtlsDrawn.{DrewPacket, draws_output, drawn_units}
-use Rattle.rtc_part_dtls.specs.DtlsLaws.{DtlsLaws}
-use Rattle.rtc_part_dtls.specs.DtlsMeaning.{DtlsMeaning}
-use Rattle.rtc_part_dtls.specs.DtlsState.{DtlsState, HandsOn, PollsOutput, drawn_by}
-use Rattle.rtc_part_dtls.specs.DtlsWords.{takes}
-use Rattle.rtc_part_ice.specs.declared.ice_event.IceEvent.{IceEvent}
+use Rattle.rtc_parts.specs.declared.dtls_output.DtlsOutput.{DtlsOutput}
+use Rattle.rtc_parts.specs.declared.dtls_output.DtlsOutput.TheVariants as outputs
+use Rattle.rtc_parts.specs.DtlsActs.{DtlsMoved}
+use Rattle.rtc_parts.specs.DtlsDrawn.{DrewPacket, draws_output, drawn_units}
+use Rattle.rtc_parts.specs.DtlsLaws.{DtlsLaws}
+use Rattle.rtc_parts.specs.DtlsMeaning.{DtlsMeaning}
+use Rattle.rtc_parts.specs.DtlsState.{DtlsState, HandsOn, PollsOutput, drawn_by}
+use Rattle.rtc_parts.specs.DtlsWords.{takes}
+use Rattle.rtc_parts.specs.declared.ice_event.IceEvent.{IceEvent}
 use Rattle.rtc_peer_core.specs.Meanings.{Meanings}
 use Rattle.rtc_peer_transport.specs.declared.handshake.Handshake.{Handshake}
 use Rattle.rtc_peer_transport.specs.declared.handshake.Handshake.TheVariants.{Pending, Finished, Told}

@@ -1,10 +1,10 @@
 -- Calls on the DTLS connection that leave its role and the fingerprint of this side.
 use Rattle.std.proofs.Common.{◌≡◌, Bool, true, false, ℕ, List, [], ◌∷◌, Option, Some, None, Result, refl, sym, subst}
 use Rattle.std.specs.declared.alloc.AllocError.{AllocError}
-use Rattle.rtc_part_dtls.specs.declared.dtls_error.DtlsError.{DtlsError}
-use Rattle.rtc_part_dtls.specs.declared.dtls_output.DtlsOutput.{DtlsOutput}
-use Rattle.rtc_part_dtls.specs.DtlsMeaning.{DtlsMeaning}
-use Rattle.rtc_part_dtls.specs.DtlsState.{DtlsState, HandsOn, PollsOutput, GivesPacket, SendsData}
+use Rattle.rtc_parts.specs.declared.dtls_error.DtlsError.{DtlsError}
+use Rattle.rtc_parts.specs.declared.dtls_output.DtlsOutput.{DtlsOutput}
+use Rattle.rtc_parts.specs.DtlsMeaning.{DtlsMeaning}
+use Rattle.rtc_parts.specs.DtlsState.{DtlsState, HandsOn, PollsOutput, GivesPacket, SendsData}
 
 -- a connection with the same role and fingerprint of this side
 abbrev pub KeepsRole : {D : Type 0} → DtlsState D → DtlsState D → Type 0

@@ -2,14 +2,14 @@
 use Rattle.std.proofs.Common.{◌≡◌, ◌<◌, ◌≤◌, ◌-◌, ◌^◌, ℕ, Bool, true, false, List, [], ◌∷◌, Option, Some, None, Result, Ok, Err}
 use Rattle.std.proofs.Common.{refl, sym, ap, subst, arith}
 use Rattle.std.specs.declared.alloc.AllocError.{AllocError}
-use Rattle.rtc_part_dtls.specs.declared.dtls_output.DtlsOutput.{DtlsOutput}
-use Rattle.rtc_part_dtls.specs.declared.dtls_output.DtlsOutput.TheVariants as outputs
-use Rattle.rtc_part_dtls.specs.DtlsActs.{DtlsMoved}
-use Rattle.rtc_part_dtls.specs.DtlsDrawn.{DrewPacket, draws_output}
-use Rattle.rtc_part_dtls.specs.DtlsLaws.{DtlsLaws}
-use Rattle.rtc_part_dtls.specs.DtlsMeaning.{DtlsMeaning}
-use Rattle.rtc_part_dtls.specs.DtlsState.{DtlsState, PollsOutput, drawn_by}
-use Rattle.rtc_part_dtls.specs.DtlsWords.{takes}
+use Rattle.rtc_parts.specs.declared.dtls_output.DtlsOutput.{DtlsOutput}
+use Rattle.rtc_parts.specs.declared.dtls_output.DtlsOutput.TheVariants as outputs
+use Rattle.rtc_parts.specs.DtlsActs.{DtlsMoved}
+use Rattle.rtc_parts.specs.DtlsDrawn.{DrewPacket, draws_output}
+use Rattle.rtc_parts.specs.DtlsLaws.{DtlsLaws}
+use Rattle.rtc_parts.specs.DtlsMeaning.{DtlsMeaning}
+use Rattle.rtc_parts.specs.DtlsState.{DtlsState, PollsOutput, drawn_by}
+use Rattle.rtc_parts.specs.DtlsWords.{takes}
 use Rattle.rtc_peer_core.specs.Meanings.{Meanings}
 use Rattle.rtc_peer_transport.specs.declared.met.Met.{Met}
 use Rattle.rtc_peer_transport.specs.declared.met.Met.TheVariants.{Again}

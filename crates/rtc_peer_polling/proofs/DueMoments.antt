@@ -1,9 +1,9 @@
 -- The moments by which a timer of DTLS is due, and what keeps them.
 use Rattle.std.proofs.Common.{◌≡◌, ◌-◌, ◌^◌, ◌&&◌, ◌==◌, inl, inr, nat_le, not, ℕ, Bool, true, false}
 use Rattle.std.proofs.Common.{Option, Some, None, refl, sym, ap, subst, ◌∙◌, arith}
-use Rattle.rtc_part_ice.specs.declared.ice_event.IceEvent.{IceEvent}
-use Rattle.rtc_part_ice.specs.declared.ice_event.IceEvent.TheVariants as events
-use Rattle.rtc_part_dtls.specs.DtlsLaws.{IsLater}
+use Rattle.rtc_parts.specs.declared.ice_event.IceEvent.{IceEvent}
+use Rattle.rtc_parts.specs.declared.ice_event.IceEvent.TheVariants as events
+use Rattle.rtc_parts.specs.DtlsLaws.{IsLater}
 use Rattle.rtc_peer_core.specs.Meanings.{Meanings}
 use Rattle.rtc_peer_transport.specs.declared.handshake.Handshake.{Handshake}
 use Rattle.rtc_peer_transport.specs.declared.handshake.Handshake.TheVariants.{Pending, Finished, Told}

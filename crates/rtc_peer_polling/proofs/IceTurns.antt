@@ -1,7 +1,7 @@
 -- Events of the ICE agent that a poll takes.
 use Rattle.std.proofs.Common.{◌<◌, Option, Some, None, sym, ap, subst}
-use Rattle.rtc_part_ice.specs.declared.ice_event.IceEvent.{IceEvent}
-use Rattle.rtc_part_ice.specs.IceLaws.{IceLaws}
+use Rattle.rtc_parts.specs.declared.ice_event.IceEvent.{IceEvent}
+use Rattle.rtc_parts.specs.IceLaws.{IceLaws}
 use Rattle.rtc_peer_core.specs.Meanings.{Meanings}
 use Rattle.rtc_peer_transport.specs.declared.met.Met.TheVariants.{Again}
 use Rattle.rtc_peer_transport.specs.declared.polled_peer.PolledPeer.{PolledPeer}

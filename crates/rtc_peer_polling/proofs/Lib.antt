@@ -1,3 +1,12 @@
+pub mod RestingStreams
+pub mod PushedAgain
+pub mod RestingConnection
+pub mod RestingStages
+pub mod KeptTurns
+pub mod DrainingStreams
+pub mod Draining
+pub mod QuietStreams
+pub mod QuietVisits
 pub mod IceTurns
 pub mod DtlsTurns
 pub mod ShortPackets

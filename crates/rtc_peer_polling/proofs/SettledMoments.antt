@@ -2,14 +2,14 @@
 use Rattle.std.proofs.Common.{if◌then◌else◌, ◌≡◌, ◌-◌, ◌^◌, ◌++◌, ℕ, Bool, true, false, List, []}
 use Rattle.std.proofs.Common.{◌∷◌, Option, Some, None, Result, Ok, Err, refl, sym, ap, subst, ◌∙◌}
 use Rattle.std.specs.declared.alloc.AllocError.{AllocError}
-use Rattle.rtc_part_dtls.specs.declared.dtls_output.DtlsOutput.{DtlsOutput}
-use Rattle.rtc_part_dtls.specs.declared.dtls_output.DtlsOutput.TheVariants as outputs
-use Rattle.rtc_part_dtls.specs.DtlsActs.{DtlsAct, DtlsActed, DtlsMoved, Taken, Got, Stirred, Showed, dtls_moved-append, dtls_moved-one}
-use Rattle.rtc_part_dtls.specs.DtlsDrawn.{DtlsDrawn, DrewPacket, DrewConnected, DrewKeying, DrewCert, DrewData, DrewTimeout, DrewClose, draws_output}
-use Rattle.rtc_part_dtls.specs.DtlsLaws.{DtlsLaws, IsLater}
-use Rattle.rtc_part_dtls.specs.DtlsMeaning.{DtlsMeaning}
-use Rattle.rtc_part_dtls.specs.DtlsState.{DtlsState, PollsOutput, HandsOn, drawn_by}
-use Rattle.rtc_part_dtls.specs.DtlsWords.{takes}
+use Rattle.rtc_parts.specs.declared.dtls_output.DtlsOutput.{DtlsOutput}
+use Rattle.rtc_parts.specs.declared.dtls_output.DtlsOutput.TheVariants as outputs
+use Rattle.rtc_parts.specs.DtlsActs.{DtlsAct, DtlsActed, DtlsMoved, Taken, Got, Stirred, Showed, dtls_moved-append, dtls_moved-one}
+use Rattle.rtc_parts.specs.DtlsDrawn.{DtlsDrawn, DrewPacket, DrewConnected, DrewKeying, DrewCert, DrewData, DrewTimeout, DrewClose, draws_output}
+use Rattle.rtc_parts.specs.DtlsLaws.{DtlsLaws, IsLater}
+use Rattle.rtc_parts.specs.DtlsMeaning.{DtlsMeaning}
+use Rattle.rtc_parts.specs.DtlsState.{DtlsState, PollsOutput, HandsOn, drawn_by}
+use Rattle.rtc_parts.specs.DtlsWords.{takes}
 use Rattle.rtc_peer_core.specs.Meanings.{Meanings}
 use Rattle.rtc_peer_transport.specs.declared.handshake.Handshake.{Handshake}
 use Rattle.rtc_peer_transport.specs.declared.handshake.Handshake.TheVariants.{Pending, Finished, Told}

@@ -1,10 +1,10 @@
 -- The packets of the association that a poll of the streams gives are short enough for a datagram of DTLS.
 use Rattle.std.proofs.Common.{◌≡◌, ◌≤◌, ◌∷◌, [], ◌++◌, ℕ, All, List, length, drop, Option, Some, None, Ok, sym, ap, subst, slice_get}
 use Rattle.std.proofs.lemmas.List.Elements.{All-nil, All-cons, All-head, All-tail, All-append}
-use Rattle.rtc_part_association.specs.AssociationMeaning.{AssociationMeaning}
-use Rattle.rtc_part_association.specs.AssociationLaws.{AssociationLaws}
-use Rattle.rtc_part_association.specs.AssociationActs.{AssociationAct, Moved, Started, Opened, Wrote, Ended, Given, Taken, Read, Told, Stirred}
-use Rattle.rtc_part_association.specs.AssociationWords.{taken}
+use Rattle.rtc_parts.specs.AssociationMeaning.{AssociationMeaning}
+use Rattle.rtc_parts.specs.AssociationLaws.{AssociationLaws}
+use Rattle.rtc_parts.specs.AssociationActs.{AssociationAct, Moved, Started, Opened, Wrote, Ended, Given, Taken, Read, Told, Stirred}
+use Rattle.rtc_parts.specs.AssociationWords.{taken}
 use Rattle.rtc_sctp_entries.specs.declared.sctp_event.SctpEvent.{SctpEvent}
 use Rattle.rtc_sctp_entries.specs.declared.sctp_event.SctpEvent.TheVariants as event
 use Rattle.rtc_sctp.specs.Streams.{SctpStreams, ArePushedShort}

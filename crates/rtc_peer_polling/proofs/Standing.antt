@@ -1,14 +1,14 @@
 -- A poll leaves what negotiation reads of the parts of a peer.
 use Rattle.std.proofs.Common.{ℕ, Bool, true, false, List, Option, Some, None, Result, Ok, Err, alloc_error, refl, ap}
 use Rattle.std.specs.declared.alloc.AllocError.{AllocError}
-use Rattle.rtc_part_ice.specs.declared.ice_event.IceEvent.{IceEvent}
-use Rattle.rtc_part_ice.specs.IceLaws.{IceLaws}
-use Rattle.rtc_part_dtls.specs.declared.dtls_error.DtlsError.TheVariants.{Fault, Alloc as DtlsAlloc}
-use Rattle.rtc_part_dtls.specs.declared.dtls_output.DtlsOutput.{DtlsOutput}
-use Rattle.rtc_part_dtls.specs.declared.dtls_output.DtlsOutput.TheVariants as outputs
-use Rattle.rtc_part_media.specs.declared.media_error.MediaError.TheVariants.{Alloc as MediaAlloc}
-use Rattle.rtc_part_media.specs.MediaActs.{ByTaken, ByOther, Keyed, EventTold, FallibleTold, FeedbackCleared}
-use Rattle.rtc_part_media.specs.MediaLaws.{MediaLaws}
+use Rattle.rtc_parts.specs.declared.ice_event.IceEvent.{IceEvent}
+use Rattle.rtc_parts.specs.IceLaws.{IceLaws}
+use Rattle.rtc_parts.specs.declared.dtls_error.DtlsError.TheVariants.{Fault, Alloc as DtlsAlloc}
+use Rattle.rtc_parts.specs.declared.dtls_output.DtlsOutput.{DtlsOutput}
+use Rattle.rtc_parts.specs.declared.dtls_output.DtlsOutput.TheVariants as outputs
+use Rattle.rtc_parts.specs.declared.media_error.MediaError.TheVariants.{Alloc as MediaAlloc}
+use Rattle.rtc_parts.specs.MediaActs.{ByTaken, ByOther, Keyed, EventTold, FallibleTold, FeedbackCleared}
+use Rattle.rtc_parts.specs.MediaLaws.{MediaLaws}
 use Rattle.rtc_peer_core.specs.declared.phase.Phase.{Phase}
 use Rattle.rtc_peer_core.specs.declared.phase.Phase.TheVariants.{Alive, Closing, Closed}
 use Rattle.rtc_peer_core.specs.Meanings.{Meanings}
@@ -39,7 +39,7 @@ use Rattle.rtc_peer_polling.proofs.StandingStreams.{streams_stand}
 use Rattle.rtc_peer_polling.proofs.StreamSizes.{input_size}
 use Rattle.rtc_peer_transport.proofs.StatisticsTurns.{statistics_told}
 use Rattle.rtc_peer_polling.proofs.StreamStarts.{start_self, input_start}
-use Rattle.rtc_part_association.specs.AssociationLaws.{AssociationLaws}
+use Rattle.rtc_parts.specs.AssociationLaws.{AssociationLaws}
 
 module _ {I D S M E X T W N : Type 0} (m : Meanings I D S M E X T W N) (laws : IceLaws m.ice) (media : MediaLaws m.media) (streams : AssociationLaws m.association) where
   taken_event_stands : (event : Option IceEvent) (ice : I) (p : PolledPeer I D S M N) (r : Met E) (q : PolledPeer I D S M N)

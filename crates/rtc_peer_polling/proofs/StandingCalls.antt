@@ -2,9 +2,9 @@
 use Rattle.std.proofs.Common.{◌≡◌, Result, Ok, Err, refl, sym, subst, ◌∙◌}
 use Rattle.std.specs.Prelude.{alloc_error}
 use Rattle.std.proofs.Math.Path.{fun_ext}
-use Rattle.rtc_part_association.specs.AssociationLaws.{AssociationLaws}
-use Rattle.rtc_part_media.specs.MediaActs.{KeepsLines, ByShut}
-use Rattle.rtc_part_media.specs.MediaLaws.{MediaLaws}
+use Rattle.rtc_parts.specs.AssociationLaws.{AssociationLaws}
+use Rattle.rtc_parts.specs.MediaActs.{KeepsLines, ByShut}
+use Rattle.rtc_parts.specs.MediaLaws.{MediaLaws}
 use Rattle.rtc_sctp_values.specs.declared.proto_error.ProtoError.TheVariants as proto
 use Rattle.rtc_sctp_values.specs.declared.sctp_error.SctpError.TheVariants as sctp
 use Rattle.rtc_peer_core.specs.declared.phase.Phase.{Phase}

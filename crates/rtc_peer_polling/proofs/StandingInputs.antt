@@ -5,13 +5,13 @@ use Rattle.rtc_wire.specs.declared.datagram_recv.DatagramRecv.{DatagramRecv}
 use Rattle.rtc_wire.specs.declared.datagram_recv.DatagramRecv.TheVariants as datagrams
 use Rattle.rtc_wire.specs.declared.receive.Receive.{Receive}
 use Rattle.rtc_sdp_values.specs.declared.fingerprint.Fingerprint.{Fingerprint}
-use Rattle.rtc_part_ice.specs.IceLaws.{IceLaws}
-use Rattle.rtc_part_ice.specs.IceMeaning.{IceSettings}
-use Rattle.rtc_part_dtls.specs.declared.dtls_error.DtlsError.TheVariants.{Fault, Alloc as DtlsAlloc}
-use Rattle.rtc_part_media.specs.declared.media_error.MediaError.TheVariants.{Alloc as MediaAlloc}
-use Rattle.rtc_part_media.specs.declared.media_update.MediaUpdate.{MediaUpdate}
-use Rattle.rtc_part_media.specs.MediaActs.{KeepsLines, ByGiven, ByTime, ByOther, StatsVisited}
-use Rattle.rtc_part_media.specs.MediaLaws.{MediaLaws}
+use Rattle.rtc_parts.specs.IceLaws.{IceLaws}
+use Rattle.rtc_parts.specs.IceMeaning.{IceSettings}
+use Rattle.rtc_parts.specs.declared.dtls_error.DtlsError.TheVariants.{Fault, Alloc as DtlsAlloc}
+use Rattle.rtc_parts.specs.declared.media_error.MediaError.TheVariants.{Alloc as MediaAlloc}
+use Rattle.rtc_parts.specs.declared.media_update.MediaUpdate.{MediaUpdate}
+use Rattle.rtc_parts.specs.MediaActs.{KeepsLines, ByGiven, ByTime, ByOther, StatsVisited}
+use Rattle.rtc_parts.specs.MediaLaws.{MediaLaws}
 use Rattle.rtc_peer_core.specs.declared.phase.Phase.{Phase}
 use Rattle.rtc_peer_core.specs.declared.phase.Phase.TheVariants.{Alive, Closing, Closed}
 use Rattle.rtc_peer_core.specs.Meanings.{Meanings}
@@ -31,7 +31,7 @@ use Rattle.rtc_peer_transport.specs.Statistics.{TimesStatistics}
 use Rattle.rtc_peer_transport.proofs.StatisticsTurns.{VisitedOnce, statistics_timed}
 use Rattle.rtc_peer_polling.proofs.StreamStarts.{start_self, started_same, timed_start, moment_start}
 use Rattle.rtc_sctp_values.specs.SnapHalves.{KeptHalves}
-use Rattle.rtc_part_association.specs.AssociationLaws.{AssociationLaws}
+use Rattle.rtc_parts.specs.AssociationLaws.{AssociationLaws}
 use Rattle.rtc_peer_polling.proofs.StandingCalls.{CallStands, stands_on, stands_by, dtls_stand, turn_stands, lines_same}
 
 module _ {I D S M E X T W N : Type 0} (m : Meanings I D S M E X T W N) (laws : IceLaws m.ice) (media : MediaLaws m.media) (streams : AssociationLaws m.association) where

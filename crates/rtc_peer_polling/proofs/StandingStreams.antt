@@ -1,10 +1,10 @@
 -- What a poll takes from the streams leaves what negotiation reads of the parts of a peer.
 use Rattle.std.proofs.Common.{◌≡◌, ◌⊎◌, inl, inr, ℕ, Bool, true, List, [], ◌∷◌, Option, Some, None, Result, Ok, Err, refl}
 use Rattle.std.specs.declared.alloc.AllocError.{AllocError}
-use Rattle.rtc_part_dtls.specs.declared.dtls_error.DtlsError.TheVariants.{Fault, Alloc as DtlsAlloc}
-use Rattle.rtc_part_dtls.specs.DtlsState.{SendsData, can_send}
-use Rattle.rtc_part_association.specs.AssociationLaws.{AssociationLaws}
-use Rattle.rtc_part_media.specs.MediaLaws.{MediaLaws}
+use Rattle.rtc_parts.specs.declared.dtls_error.DtlsError.TheVariants.{Fault, Alloc as DtlsAlloc}
+use Rattle.rtc_parts.specs.DtlsState.{SendsData, can_send}
+use Rattle.rtc_parts.specs.AssociationLaws.{AssociationLaws}
+use Rattle.rtc_parts.specs.MediaLaws.{MediaLaws}
 use Rattle.rtc_peer_core.specs.declared.phase.Phase.TheVariants.{Closed}
 use Rattle.rtc_peer_core.specs.Meanings.{Meanings}
 use Rattle.rtc_sctp_entries.specs.declared.sctp_event.SctpEvent.{SctpEvent}

@@ -2,9 +2,9 @@
 -- association was sent, or a moment of DTLS has come that is handed over next.
 use Rattle.std.proofs.Common.{if◌then◌else◌, ◌≡◌, ◌<◌, ◌≤◌, ◌+◌, ◌*◌, ◌⊎◌, inl, inr, ℕ, Bool, true, false, List, []}
 use Rattle.std.proofs.Common.{◌∷◌, Option, Some, None, Result, refl, sym, ap, subst, ◌∙◌, arith}
-use Rattle.rtc_part_dtls.specs.DtlsLaws.{DtlsLaws}
-use Rattle.rtc_part_dtls.specs.DtlsState.{DtlsState, GivesPacket}
-use Rattle.rtc_part_dtls.specs.declared.dtls_error.DtlsError.{DtlsError}
+use Rattle.rtc_parts.specs.DtlsLaws.{DtlsLaws}
+use Rattle.rtc_parts.specs.DtlsState.{DtlsState, GivesPacket}
+use Rattle.rtc_parts.specs.declared.dtls_error.DtlsError.{DtlsError}
 use Rattle.rtc_peer_transport.specs.declared.transport.Transport.{Transport}
 use Rattle.rtc_peer_core.specs.Meanings.{Meanings}
 use Rattle.rtc_peer_transport.specs.declared.met.Met.{Met}
@@ -20,7 +20,7 @@ use Rattle.rtc_peer_transport.proofs.StatisticsTurns.{statistics_told, statistic
 use Rattle.rtc_peer_polling.specs.Walk.{StartsOverWhenDue, TellsConnection, TellsArrivals, SendsDatagrams, VisitsParts}
 use Rattle.rtc_peer_transport.proofs.StageLemmas.{NeverAgain, repeats_never, went_through, else_again, else_never}
 use Rattle.rtc_peer_polling.proofs.DueMoments.{KeepsMoments, due_kept, keeps_as, keeps_join, arrivals_keep, datagrams_keep}
-use Rattle.rtc_part_association.specs.AssociationLaws.{AssociationLaws}
+use Rattle.rtc_parts.specs.AssociationLaws.{AssociationLaws}
 use Rattle.rtc_sctp.specs.Streams.{SctpStreams}
 use Rattle.rtc_peer_polling.specs.StreamStages.{PollsStreamEvent, PollsStreamEvents, SendsKeptPackets, TellsStreams}
 use Rattle.rtc_peer_polling.proofs.SettledMoments.{connection_settles, connection_never}

@@ -2,12 +2,12 @@
 use Rattle.std.specs.Prelude.{ℕ, ◌≡◌, ◌-◌, ◌^◌, ◌==◌, ◌&&◌, not, nat_le, unwrap_or, Bool, true, false, List}
 use Rattle.std.specs.Prelude.{Option, Some, None, Result, Ok, Err, alloc_error}
 use Rattle.std.specs.declared.alloc.AllocError.{AllocError}
-use Rattle.rtc_part_values.specs.declared.srtp_profile.SrtpProfile.{SrtpProfile}
+use Rattle.rtc_parts.specs.declared.srtp_profile.SrtpProfile.{SrtpProfile}
 use Rattle.rtc_sdp_values.specs.declared.fingerprint.Fingerprint.{Fingerprint}
-use Rattle.rtc_part_dtls.specs.declared.dtls_error.DtlsError.TheVariants.{Fault, Alloc as DtlsAlloc}
-use Rattle.rtc_part_dtls.specs.declared.dtls_output.DtlsOutput.{DtlsOutput}
-use Rattle.rtc_part_dtls.specs.declared.dtls_output.DtlsOutput.TheVariants as outputs
-use Rattle.rtc_part_dtls.specs.DtlsState.{DtlsState, HandsOn, PollsOutput}
+use Rattle.rtc_parts.specs.declared.dtls_error.DtlsError.TheVariants.{Fault, Alloc as DtlsAlloc}
+use Rattle.rtc_parts.specs.declared.dtls_output.DtlsOutput.{DtlsOutput}
+use Rattle.rtc_parts.specs.declared.dtls_output.DtlsOutput.TheVariants as outputs
+use Rattle.rtc_parts.specs.DtlsState.{DtlsState, HandsOn, PollsOutput}
 use Rattle.rtc_sctp.specs.Calls.{TakesInput}
 use Rattle.rtc_peer_core.specs.Meanings.{Meanings}
 use Rattle.rtc_peer_transport.specs.declared.event.Event.TheVariants.{Connected, Closed as ClosedEvent}

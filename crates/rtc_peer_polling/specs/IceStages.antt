@@ -1,7 +1,7 @@
 -- What a poll takes from the ICE agent.
 use Rattle.std.specs.Prelude.{◌≡◌, Option, Some, None}
-use Rattle.rtc_part_ice.specs.declared.ice_event.IceEvent.{IceEvent}
-use Rattle.rtc_part_ice.specs.declared.ice_event.IceEvent.TheVariants.{IceRestart, StateChange, DiscoveredRecv, NominatedSend}
+use Rattle.rtc_parts.specs.declared.ice_event.IceEvent.{IceEvent}
+use Rattle.rtc_parts.specs.declared.ice_event.IceEvent.TheVariants.{IceRestart, StateChange, DiscoveredRecv, NominatedSend}
 use Rattle.rtc_peer_core.specs.Meanings.{Meanings}
 use Rattle.rtc_peer_transport.specs.declared.event.Event.TheVariants.{IceConnectionStateChange}
 use Rattle.rtc_peer_transport.specs.declared.met.Met.{Met}

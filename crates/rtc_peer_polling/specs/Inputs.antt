@@ -4,15 +4,15 @@ use Rattle.std.specs.declared.alloc.AllocError.{AllocError}
 use Rattle.rtc_wire.specs.declared.datagram_recv.DatagramRecv.{DatagramRecv}
 use Rattle.rtc_wire.specs.declared.datagram_recv.DatagramRecv.TheVariants as datagrams
 use Rattle.rtc_wire.specs.declared.receive.Receive.{Receive}
-use Rattle.rtc_part_dtls.specs.declared.dtls_error.DtlsError.TheVariants.{Fault, Alloc as DtlsAlloc}
-use Rattle.rtc_part_dtls.specs.DtlsState.{HandsOn}
+use Rattle.rtc_parts.specs.declared.dtls_error.DtlsError.TheVariants.{Fault, Alloc as DtlsAlloc}
+use Rattle.rtc_parts.specs.DtlsState.{HandsOn}
 use Rattle.rtc_ready.specs.Signals.{Signals, both}
-use Rattle.rtc_part_association.specs.AssociationMeaning.{AssociationMeaning}
+use Rattle.rtc_parts.specs.AssociationMeaning.{AssociationMeaning}
 use Rattle.rtc_sctp.specs.Streams.{SctpStreams}
 use Rattle.rtc_sctp.specs.Calls.{TakesTimeout}
 use Rattle.rtc_channels.specs.Channels.{Channels}
 use Rattle.rtc_channels.specs.Openings.{MeetsMoment, is_progress_due}
-use Rattle.rtc_part_media.specs.declared.media_error.MediaError.TheVariants.{Alloc as MediaAlloc}
+use Rattle.rtc_parts.specs.declared.media_error.MediaError.TheVariants.{Alloc as MediaAlloc}
 use Rattle.rtc_peer_core.specs.declared.phase.Phase.{Phase}
 use Rattle.rtc_peer_core.specs.declared.phase.Phase.TheVariants.{Alive, Closing, Closed}
 use Rattle.rtc_peer_core.specs.Meanings.{Meanings}

@@ -1,6 +1,6 @@
 -- What a poll takes from the media part.
 use Rattle.std.specs.Prelude.{◌≡◌, ◌≢◌, Some, None, Ok, Err}
-use Rattle.rtc_part_media.specs.declared.media_error.MediaError.TheVariants.{Alloc as MediaAlloc}
+use Rattle.rtc_parts.specs.declared.media_error.MediaError.TheVariants.{Alloc as MediaAlloc}
 use Rattle.rtc_peer_core.specs.Meanings.{Meanings}
 use Rattle.rtc_peer_transport.specs.declared.event.Event.TheVariants.{Media as MediaTold}
 use Rattle.rtc_peer_transport.specs.declared.met.Met.TheVariants.{Nothing, Event, Error}

@@ -1,7 +1,7 @@
 -- Which datagrams a poll sends.
 use Rattle.std.specs.Prelude.{ℕ, ◌≡◌, ◌+◌, ◌-◌, ◌^◌, min, length, List, Option, Some, None}
 use Rattle.rtc_wire.specs.declared.transmit.Transmit.{Transmit}
-use Rattle.rtc_part_dtls.specs.DtlsState.{GivesPacket}
+use Rattle.rtc_parts.specs.DtlsState.{GivesPacket}
 use Rattle.rtc_peer_core.specs.Meanings.{Meanings}
 use Rattle.rtc_peer_transport.specs.declared.met.Met.TheVariants.{Nothing, Transmit as Sent}
 use Rattle.rtc_peer_transport.specs.declared.polled_peer.PolledPeer.{PolledPeer}

@@ -3,11 +3,7 @@ ghost use Rattle.std.specs.Prelude.{◌≡◌, IfOk};
 ghost use Rattle.rtc_peer_polling.specs.Certificates.{Hashes, cert_refusal, hash_name, is_checked_hash, cert_mismatch};
 ghost use Rattle.rtc_peer_polling.specs.DtlsStages.{ChecksCert};
 
-use rtc_part_association::Association;
-use rtc_part_dtls::DtlsInstance;
-use rtc_part_ice::IceAgent;
-use rtc_part_media::MediaSession;
-use rtc_part_values::Ids;
+use rtc_parts::{Association, DtlsInstance, IceAgent, Ids, MediaSession};
 use rtc_peer_core::{Phase, RtcError};
 use rtc_peer_rows::Why;
 use rtc_peer_transport::{Met, PolledPeer, close_out_of_memory};

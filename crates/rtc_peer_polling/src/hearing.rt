@@ -5,11 +5,7 @@ ghost use Rattle.rtc_peer_polling.specs.Inputs.{HearsStun, HearsDtls, HearsKind,
 
 use crate::sending::count_bytes;
 use crate::timing::{time_handler, time_sctp};
-use rtc_part_association::Association;
-use rtc_part_dtls::{DtlsError, DtlsInstance};
-use rtc_part_ice::IceAgent;
-use rtc_part_media::{MediaError, MediaSession};
-use rtc_part_values::Ids;
+use rtc_parts::{Association, DtlsError, DtlsInstance, IceAgent, Ids, MediaError, MediaSession};
 use rtc_peer_core::{Phase, RtcError};
 use rtc_peer_transport::{Input, PolledPeer, close_out_of_memory};
 use rtc_wire::{DatagramRecv, Moment, Receive, StunView};

@@ -13,11 +13,7 @@ ghost use Rattle.rtc_peer_polling.specs.Kept.{KeepsNegotiation, KeepsStart};
 ghost use Rattle.rtc_peer_polling.specs.Numbers.{ChannelNumbers, number_told};
 ghost use Rattle.rtc_peer_polling.specs.Walk.{PollsPeer};
 
-use rtc_part_association::Association;
-use rtc_part_dtls::DtlsInstance;
-use rtc_part_ice::IceAgent;
-use rtc_part_media::MediaSession;
-use rtc_part_values::Ids;
+use rtc_parts::{Association, DtlsInstance, IceAgent, Ids, MediaSession};
 
 /// Polls, inputs and closing change nothing of what negotiation keeps beside the channels and their streams: rows, what is
 /// staged, the counter of offers, the announced fingerprint and the source of numbers.

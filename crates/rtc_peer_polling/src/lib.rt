@@ -8,6 +8,7 @@ mod polling_dtls;
 mod polling_ice;
 mod polling_media;
 mod polling_streams;
+mod resting;
 mod sending;
 mod sending_packets;
 mod timing;
@@ -18,4 +19,5 @@ pub use laws::{
     channels_are_numbered, negotiation_is_kept, stance_is_kept, starts_are_kept,
     want_of_memory_closes,
 };
+pub use resting::visits_rest;
 pub use walking::{rest, visit};

@@ -6,11 +6,7 @@ ghost use Rattle.rtc_peer_polling.specs.DtlsStages.{PollsDtlsOutputs, has_come a
 ghost use Rattle.rtc_peer_polling.specs.DtlsStages.{finished_handshake, silenced_handshake};
 
 use crate::checking::check_cert;
-use rtc_part_association::Association;
-use rtc_part_dtls::{DtlsError, DtlsInstance, DtlsOutput};
-use rtc_part_ice::IceAgent;
-use rtc_part_media::MediaSession;
-use rtc_part_values::Ids;
+use rtc_parts::{Association, DtlsError, DtlsInstance, DtlsOutput, IceAgent, Ids, MediaSession};
 use rtc_peer_core::{Phase, RtcError};
 use rtc_peer_transport::{Event, Handshake, Met, PolledPeer, close_out_of_memory};
 use rtc_wire::Moment;

@@ -2,11 +2,7 @@
 ghost use Rattle.rtc_peer_core.specs.Meanings.{meanings};
 ghost use Rattle.rtc_peer_polling.specs.IceStages.{PollsIceEvents, TakesIceEvent};
 
-use rtc_part_association::Association;
-use rtc_part_dtls::DtlsInstance;
-use rtc_part_ice::{IceAgent, IceEvent};
-use rtc_part_media::MediaSession;
-use rtc_part_values::Ids;
+use rtc_parts::{Association, DtlsInstance, IceAgent, IceEvent, Ids, MediaSession};
 use rtc_peer_transport::{Event, Met, PolledPeer, SendAddr};
 
 // An event is reported or kept.

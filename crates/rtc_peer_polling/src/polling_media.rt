@@ -2,11 +2,7 @@
 ghost use Rattle.rtc_peer_core.specs.Meanings.{meanings};
 ghost use Rattle.rtc_peer_polling.specs.MediaStages.{TellsMedia, TellsFallibleMedia};
 
-use rtc_part_association::Association;
-use rtc_part_dtls::DtlsInstance;
-use rtc_part_ice::IceAgent;
-use rtc_part_media::{MediaError, MediaSession};
-use rtc_part_values::Ids;
+use rtc_parts::{Association, DtlsInstance, IceAgent, Ids, MediaError, MediaSession};
 use rtc_peer_core::RtcError;
 use rtc_peer_transport::{Event, Met, PolledPeer, close_out_of_memory};
 

@@ -4,11 +4,7 @@ ghost use Rattle.rtc_peer_core.specs.Meanings.{meanings};
 ghost use Rattle.rtc_peer_polling.specs.StreamStages.{ClosesChannelOver, OpensChannelOver, channel_over};
 ghost use Rattle.rtc_peer_polling.specs.StreamStages.{LosesAssociation, TakesStreamEvent, PollsStreamEvents, IsShortTransmit};
 
-use rtc_part_association::Association;
-use rtc_part_dtls::DtlsInstance;
-use rtc_part_ice::IceAgent;
-use rtc_part_media::MediaSession;
-use rtc_part_values::Ids;
+use rtc_parts::{Association, DtlsInstance, IceAgent, Ids, MediaSession};
 use rtc_peer_transport::{ChannelData, Event, Met, PolledPeer, close_out_of_memory};
 use rtc_sctp::SctpEvent;
 use rtc_wire::Text;

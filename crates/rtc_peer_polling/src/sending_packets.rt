@@ -3,11 +3,7 @@ ghost use Rattle.std.specs.Prelude.{◌≡◌, ◌≤◌, ◌<◌, All, None, So
 ghost use Rattle.rtc_peer_core.specs.Meanings.{meanings};
 ghost use Rattle.rtc_peer_polling.specs.StreamStages.{SendsFirst, SendsKeptPackets, left_over};
 
-use rtc_part_association::Association;
-use rtc_part_dtls::{DtlsError, DtlsInstance};
-use rtc_part_ice::IceAgent;
-use rtc_part_media::MediaSession;
-use rtc_part_values::Ids;
+use rtc_parts::{Association, DtlsError, DtlsInstance, IceAgent, Ids, MediaSession};
 use rtc_peer_core::RtcError;
 use rtc_peer_transport::{Met, PolledPeer, close_out_of_memory, is_closing};
 use rtc_sctp::RtcSctp;

@@ -2,7 +2,7 @@
 ghost use Rattle.rtc_peer_polling.specs.Inputs.{StreamsTimed, ChannelsTimed};
 
 use rtc_channels::ChannelHandler;
-use rtc_part_association::Association;
+use rtc_parts::Association;
 use rtc_ready::Readiness;
 use rtc_sctp::RtcSctp;
 use rtc_wire::Moment;

@@ -7,7 +7,7 @@ use Rattle.rtc_peer_core.specs.declared.formats.Formats.{Formats}
 use Rattle.rtc_peer_core.specs.declared.told_row.ToldRow.{ToldRow}
 use Rattle.rtc_sdp_values.specs.LineRow.{row_mid}
 use Rattle.rtc_sdp_values.specs.declared.line_row.LineRow.{LineRow}
-use Rattle.rtc_part_media.specs.declared.media_update.MediaUpdate.{MediaUpdate}
+use Rattle.rtc_parts.specs.declared.media_update.MediaUpdate.{MediaUpdate}
 use Rattle.rtc_peer_core.specs.declared.line_media.LineMedia.{LineMedia}
 use Rattle.rtc_peer_core.specs.MadeSdp.{is_stopped, live_mids, row_told, media_told, updates_behind, told_rows, new_told, added_told}
 use Rattle.rtc_peer_sdp.proofs.UpdateLemmas.{from_index}

@@ -5,14 +5,14 @@ use Rattle.std.specs.List.{flat_map}
 use Rattle.rtc_sdp_values.specs.LineRow.{row_mid}
 use Rattle.rtc_sdp_values.specs.declared.line_row.LineRow.{LineRow}
 use Rattle.rtc_sdp_values.specs.declared.media_line.MediaLine.{MediaLine}
-use Rattle.rtc_part_media.specs.declared.media_update.MediaUpdate.{MediaUpdate}
-use Rattle.rtc_part_values.specs.Draws.{Draws, Later}
-use Rattle.rtc_part_values.proofs.LaterLemmas.{later_none, later_join}
+use Rattle.rtc_parts.specs.declared.media_update.MediaUpdate.{MediaUpdate}
+use Rattle.rtc_parts.specs.Draws.{Draws, Later}
+use Rattle.rtc_parts.proofs.LaterLemmas.{later_none, later_join}
 use Rattle.rtc_peer_core.specs.declared.formats.Formats.{Formats}
 use Rattle.rtc_peer_core.specs.declared.sending.Sending.{Sending}
 use Rattle.rtc_peer_core.specs.Sources.{pair_numbers, pair_count, after_pairs}
 use Rattle.rtc_peer_core.specs.LineUpdates.{layered, first_row, rows_behind, if_media, row_update, row_kind, row_pairs, wants_sources, after_row, row_updates, after_updates}
-use Rattle.rtc_peer_draws.proofs.Pairs.{after_pairs_later}
+use Rattle.rtc_peer_sdp.proofs.Pairs.{after_pairs_later}
 
 -- what is at a place is the first of those from there on
 from_here : {A : Type 0} (k : ℕ) (xs : List A) (x : A) → Some x ≡ slice_get xs k → drop k xs ≡ x ∷ drop (suc k) xs

@@ -1,6 +1,6 @@
 //! What offers and answers carry of their peer.
 ghost use Rattle.std.specs.Prelude.{◌≡◌, [], IfOk, OnOk, MatchOption, Some, None, option_map};
-ghost use Rattle.rtc_part_ice.specs.IceMeaning.{IceSettings};
+ghost use Rattle.rtc_parts.specs.IceMeaning.{IceSettings};
 ghost use Rattle.rtc_peer_core.specs.MadeSdp.{
   creds_in_use as CredsInUse,
   candidates_in_use as CandidatesInUse,
@@ -9,8 +9,7 @@ ghost use Rattle.rtc_peer_core.specs.MadeSdp.{
   setup_of_role as SetupOfRole,
 };
 
-use rtc_part_dtls::{Dtls, DtlsInstance};
-use rtc_part_ice::IceAgent;
+use rtc_parts::{Dtls, DtlsInstance, IceAgent};
 use rtc_peer_core::SdpHead;
 use rtc_sdp_values::{Candidate, Fingerprint, IceCreds, Setup};
 use rtc_wire::{Bytes, Seq, Text, copy_all};

@@ -13,7 +13,7 @@ ghost use Rattle.rtc_peer_core.specs.MadeSdp.{
 
 use crate::sent_on_lines::bare_sending;
 use rtc_change::AddMedia;
-use rtc_part_media::{MediaSession, MediaUpdate};
+use rtc_parts::{MediaSession, MediaUpdate};
 use rtc_peer_core::{Formats, LineMedia, Sending};
 use rtc_sdp_codecs::{extensions_of_kind, rows_of_kind};
 use rtc_sdp_values::{LineRow, MediaKind, Mid};

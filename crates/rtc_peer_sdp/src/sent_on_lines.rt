@@ -4,7 +4,7 @@ ghost use Rattle.std.specs.Option.{option_copied, option_or};
 ghost use Rattle.rtc_peer_core.specs.LineUpdates.{added_media, bare_sending as BareSending, sending_of, inverted, layered};
 
 use rtc_change::{AddMedia, Change};
-use rtc_part_media::{MediaSession, MediaUpdate};
+use rtc_parts::{MediaSession, MediaUpdate};
 use rtc_peer_core::Sending;
 use rtc_sdp_values::{MediaLine, Mid, Msid, Simulcast};
 use rtc_wire::{Seq, Text};

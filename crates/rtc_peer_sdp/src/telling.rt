@@ -7,7 +7,7 @@ ghost use Rattle.rtc_peer_core.specs.SessionExtensions.{added_formats};
 use crate::line_told::{media_of_added, media_told, no_media};
 use crate::session_extensions::number_formats;
 use rtc_change::Change;
-use rtc_part_media::{MediaSession, MediaUpdate};
+use rtc_parts::{MediaSession, MediaUpdate};
 use rtc_peer_core::{Formats, ToldRow};
 use rtc_sdp_values::LineRow;
 use std::alloc::{AllocError, Global};

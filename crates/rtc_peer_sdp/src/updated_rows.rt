@@ -11,7 +11,7 @@ ghost use Rattle.rtc_peer_core.specs.LineUpdates.{
 };
 
 use crate::describing::is_stopped_row;
-use rtc_part_media::MediaUpdate;
+use rtc_parts::MediaUpdate;
 use rtc_peer_core::{Formats, Sending};
 use rtc_sdp_codecs::{match_rows, share_extensions};
 use rtc_sdp_values::{LineRow, MediaKind, MediaLine, Mid, Ssrc};

@@ -2,7 +2,7 @@
 ghost use Rattle.std.specs.Prelude.{◌≡◌, ◌++◌, ◌&&◌, not, [], List, ℕ, IfOk, OnOk, option_map, Option, Some, None, length, slice_get};
 ghost use Rattle.std.specs.List.{flat_map};
 ghost use Rattle.std.specs.Option.{option_copied};
-ghost use Rattle.rtc_part_values.specs.Draws.{Later};
+ghost use Rattle.rtc_parts.specs.Draws.{Later};
 ghost use Rattle.rtc_peer_core.specs.Sources.{has_source, pair_numbers, pair_count as PairCount};
 ghost use Rattle.rtc_peer_core.specs.LineUpdates.{
   line_sending,
@@ -18,11 +18,10 @@ ghost use Rattle.rtc_peer_core.specs.LineUpdates.{
 
 use crate::sent_on_lines::find_layered;
 use crate::updated_rows::{kind_of_row, make_update};
+use crate::{EarlierNumbers, draw_pairs};
 use rtc_change::Change;
-use rtc_part_media::{MediaSession, MediaUpdate};
-use rtc_part_values::Ids;
+use rtc_parts::{Ids, MediaSession, MediaUpdate};
 use rtc_peer_core::{Formats, Sending};
-use rtc_peer_draws::{EarlierNumbers, draw_pairs};
 use rtc_sdp_values::{LineRow, MediaLine, Simulcast, Ssrc};
 use rtc_wire::Seq;
 use std::alloc::{AllocError, Global};
@@ -48,7 +47,7 @@ fn wants_sources(row: &LineRow, sending: &Sending) -> bool
 }
 
 // The SSRCs that are drawn for a row.
-#[tactic(auto, using(rtc_part_values::proofs::LaterLemmas::later_none))]
+#[tactic(auto, using(rtc_parts::proofs::LaterLemmas::later_none))]
 fn draw_row<M: MediaSession, N: Ids>(
     alloc: Global,
     ids: &mut N,
@@ -154,7 +153,7 @@ fn line_at(lines: &[MediaLine], place: usize) -> Option<&MediaLine>
 }
 
 /// What the media part is given of rows, with the rows that were at their places before and the m-lines that name them.
-#[tactic(auto, using(rtc_part_values::proofs::LaterLemmas::later_none, rtc_part_values::proofs::LaterLemmas::later_join))]
+#[tactic(auto, using(rtc_parts::proofs::LaterLemmas::later_none, rtc_parts::proofs::LaterLemmas::later_join))]
 pub fn list_updates<M: MediaSession, N: Ids>(
     alloc: Global,
     ids: &mut N,

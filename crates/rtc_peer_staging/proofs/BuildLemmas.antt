@@ -1,12 +1,12 @@
 -- A peer that is built, put together from the steps of the call.
 use Rattle.std.proofs.Common.{◌≡◌, ◌∙◌, ℕ, Bool, false, refl, sym, ap, subst}
 use Rattle.std.specs.declared.alloc.Global.{Global}
-use Rattle.rtc_part_dtls.specs.DtlsState.{DtlsState, BeginsDtls}
+use Rattle.rtc_parts.specs.DtlsState.{DtlsState, BeginsDtls}
 use Rattle.rtc_sctp.specs.Streams.{SctpStreams, no_streams}
-use Rattle.rtc_part_association.specs.AssociationActs.{Stirred, LimitsSet}
-use Rattle.rtc_part_association.specs.AssociationMeaning.{AssociationMeaning}
-use Rattle.rtc_part_association.specs.AssociationLaws.{AssociationLaws}
-use Rattle.rtc_part_values.specs.Why.{Other}
+use Rattle.rtc_parts.specs.AssociationActs.{Stirred, LimitsSet}
+use Rattle.rtc_parts.specs.AssociationMeaning.{AssociationMeaning}
+use Rattle.rtc_parts.specs.AssociationLaws.{AssociationLaws}
+use Rattle.rtc_parts.specs.Why.{Other}
 use Rattle.rtc_config.specs.RtcConfig.{PeerConfig}
 use Rattle.rtc_sctp_values.specs.SnapHalves.{KeptHalves, nothing_kept}
 use Rattle.rtc_peer_core.specs.declared.peer.Peer.{Peer}

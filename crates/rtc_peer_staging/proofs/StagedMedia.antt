@@ -2,8 +2,8 @@
 use Rattle.std.proofs.Common.{◌≡◌, Bool, false, ℕ, List, [], ◌∷◌, ◌++◌, Result, Ok, Err, refl}
 use Rattle.std.specs.Result.{IsErr}
 use Rattle.std.specs.declared.alloc.AllocError.{AllocError}
-use Rattle.rtc_part_values.specs.Draws.{Later}
-use Rattle.rtc_part_values.proofs.LaterLemmas.{later_once}
+use Rattle.rtc_parts.specs.Draws.{Later}
+use Rattle.rtc_parts.proofs.LaterLemmas.{later_once}
 use Rattle.rtc_sdp_values.specs.declared.ice_creds.IceCreds.{IceCreds}
 use Rattle.rtc_sdp_values.specs.declared.line_row.LineRow.{LineRow}
 use Rattle.rtc_change.specs.declared.add_media.AddMedia.{AddMedia as Media}

@@ -1,6 +1,6 @@
 -- The rows that report channels, from their numbers with their streams.
 use Rattle.std.specs.Prelude.{ℕ, false, Option, None}
-use Rattle.rtc_part_association.specs.AssociationMeaning.{AssociationMeaning}
+use Rattle.rtc_parts.specs.AssociationMeaning.{AssociationMeaning}
 use Rattle.rtc_sctp.specs.Streams.{SctpStreams}
 use Rattle.rtc_channels.specs.declared.channel_row.ChannelRow.{ChannelRow}
 use Rattle.rtc_peer_core.specs.ChannelRows.{channel_row}

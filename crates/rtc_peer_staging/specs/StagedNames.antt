@@ -1,7 +1,7 @@
 -- A line that is staged, as it is drawn.
 use Rattle.std.specs.Prelude.{ℕ, Bool, List, [], codes, option_map, string_bytes, String, Option}
 use Rattle.std.specs.declared.alloc.Global.{Global}
-use Rattle.rtc_part_values.specs.Draws.{Draws}
+use Rattle.rtc_parts.specs.Draws.{Draws}
 use Rattle.rtc_change.specs.declared.add_media.AddMedia.{AddMedia as Media}
 use Rattle.rtc_sdp_values.specs.declared.msid.Msid.{Msid}
 use Rattle.rtc_peer_core.specs.Calls.{Wanted}

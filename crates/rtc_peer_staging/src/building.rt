@@ -1,7 +1,7 @@
 //! Peers that are built.
 ghost use Rattle.std.specs.Prelude.{◌≡◌, ◌≤◌, ◌<◌, ◌^◌, false, IfOk, OnOk, length, ℕ};
 ghost use Rattle.std.specs.Option.{option_copied};
-ghost use Rattle.rtc_part_dtls.specs.DtlsState.{BeginsDtls};
+ghost use Rattle.rtc_parts.specs.DtlsState.{BeginsDtls};
 ghost use Rattle.rtc_peer_core.specs.Built.{Builds, creds_or, after_creds, cert_or, after_cert};
 ghost use Rattle.rtc_peer_core.specs.Built.{empty_peer as EmptyPeer, payload_of_mtu, limited_streams, allowed_halves, streams_of_config};
 ghost use Rattle.rtc_peer_core.specs.Formats.{config_formats};
@@ -10,13 +10,9 @@ ghost use Rattle.rtc_peer_core.specs.Meanings.{meanings};
 use rtc_change::Lines;
 use rtc_channels::ChannelHandler;
 use rtc_config::RtcConfig;
-use rtc_part_association::Association;
-use rtc_part_dtls::{Dtls, DtlsInstance};
-use rtc_part_ice::IceAgent;
-use rtc_part_media::MediaSession;
-use rtc_part_values::Ids;
+use rtc_parts::{Association, Dtls, DtlsInstance, IceAgent, Ids, MediaSession};
 use rtc_peer_core::{Formats, Peer, Phase, Staged, Undo};
-use rtc_peer_draws::make_creds;
+use rtc_peer_sdp::make_creds;
 use rtc_sctp::RtcSctp;
 use rtc_sdp_values::IceCreds;
 use rtc_wire::{Bytes, Moment, TryCopy};

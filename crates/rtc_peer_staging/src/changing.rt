@@ -7,7 +7,7 @@ ghost use Rattle.rtc_peer_core.specs.Calls.{SetsDirection, StopsMedia, noted_of}
 ghost use Rattle.rtc_peer_core.specs.Undo.{has_undo_of};
 
 use rtc_change::{Lines, direct_row, stop_row};
-use rtc_part_association::Association;
+use rtc_parts::Association;
 use rtc_peer_core::{Peer, Staged, Undo};
 use rtc_sdp_values::{Direction, Mid};
 use std::alloc::AllocError;

@@ -8,7 +8,7 @@ ghost use Rattle.rtc_peer_core.specs.ChannelRows.{
 ghost use Rattle.rtc_peer_staging.specs.ShownChannels.{numbered_row};
 
 use rtc_channels::ChannelRow;
-use rtc_part_association::Association;
+use rtc_parts::Association;
 use rtc_peer_core::Peer;
 use rtc_sctp::RtcSctp;
 use rtc_wire::ChannelId;

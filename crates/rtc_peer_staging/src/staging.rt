@@ -1,6 +1,6 @@
 //! Lines and channels that are staged.
 ghost use Rattle.std.specs.Prelude.{◌≡◌, IfOk, OnOk, OnErr};
-ghost use Rattle.rtc_part_values.specs.Draws.{Later};
+ghost use Rattle.rtc_parts.specs.Draws.{Later};
 ghost use Rattle.rtc_peer_core.specs.Sources.{has_source, after_pairs, pair_count};
 ghost use Rattle.rtc_peer_staging.specs.StagedNames.{given_name, drawn_msid, drawn_media, after_names};
 ghost use Rattle.rtc_peer_core.specs.Calls.{AddsMedia, AddsChannel, StagesRestart};
@@ -9,20 +9,15 @@ ghost use Rattle.rtc_peer_core.specs.Meanings.{meanings};
 
 use rtc_change::AddMedia;
 use rtc_channels::ChannelError;
-use rtc_part_association::Association;
-use rtc_part_dtls::DtlsInstance;
-use rtc_part_ice::IceAgent;
-use rtc_part_media::MediaSession;
-use rtc_part_values::Ids;
+use rtc_parts::{Association, DtlsInstance, IceAgent, Ids, MediaSession};
 use rtc_peer_core::{Peer, RtcError, Staged};
-use rtc_peer_draws::{draw_first_pairs, draw_name, keep_name, make_creds};
-use rtc_peer_sdp::count_pairs;
+use rtc_peer_sdp::{count_pairs, draw_first_pairs, draw_name, keep_name, make_creds};
 use rtc_sdp_values::{Direction, IceCreds, MediaKind, Mid, Msid, Simulcast};
 use rtc_wire::{ChannelConfig, ChannelId, TryCopy};
 use std::alloc::{AllocError, Global};
 
 // The names of a stream and of its track: those that are given, or else drawn ones.
-#[tactic(auto, using(rtc_part_values::proofs::LaterLemmas::later_none, rtc_part_values::proofs::LaterLemmas::later_join))]
+#[tactic(auto, using(rtc_parts::proofs::LaterLemmas::later_none, rtc_parts::proofs::LaterLemmas::later_join))]
 fn draw_msid<N: Ids>(
     alloc: Global,
     ids: &mut N,
@@ -44,7 +39,7 @@ fn draw_msid<N: Ids>(
 }
 
 // A media line of a mid: its names and its SSRCs are drawn.
-#[tactic(auto, using(rtc_part_values::proofs::LaterLemmas::later_none, rtc_part_values::proofs::LaterLemmas::later_join))]
+#[tactic(auto, using(rtc_parts::proofs::LaterLemmas::later_none, rtc_parts::proofs::LaterLemmas::later_join))]
 fn make_media<M: MediaSession, N: Ids>(
     alloc: Global,
     ids: &mut N,
@@ -83,7 +78,7 @@ fn make_media<M: MediaSession, N: Ids>(
 }
 
 /// Stages a media line, and returns its mid.
-#[tactic(auto, using(rtc_part_values::proofs::LaterLemmas::later_none, rtc_part_values::proofs::LaterLemmas::later_join))]
+#[tactic(auto, using(rtc_parts::proofs::LaterLemmas::later_none, rtc_parts::proofs::LaterLemmas::later_join))]
 pub fn stage_media<I: IceAgent, D: DtlsInstance, S: Association, M: MediaSession, N: Ids>(
     peer: &mut Peer<I, D, S, M, N>,
     kind: MediaKind,
@@ -118,7 +113,7 @@ pub fn stage_media<I: IceAgent, D: DtlsInstance, S: Association, M: MediaSession
 }
 
 /// Stages a channel, with the m-line of data channels if there is none, and returns its number.
-#[tactic(auto, using(rtc_part_values::proofs::LaterLemmas::later_none))]
+#[tactic(auto, using(rtc_parts::proofs::LaterLemmas::later_none))]
 pub fn stage_channel<I: IceAgent, D: DtlsInstance, S: Association, M: MediaSession, N: Ids>(
     peer: &mut Peer<I, D, S, M, N>,
     config: ChannelConfig,
@@ -150,7 +145,7 @@ fn stage_creds(
 }
 
 /// Stages an ICE restart with drawn credentials, in place of a staged one, and returns them.
-#[tactic(auto, using(rtc_part_values::proofs::LaterLemmas::later_none, rtc_part_values::proofs::LaterLemmas::later_once))]
+#[tactic(auto, using(rtc_parts::proofs::LaterLemmas::later_none, rtc_parts::proofs::LaterLemmas::later_once))]
 pub fn stage_restart<I: IceAgent, D: DtlsInstance, S: Association, M: MediaSession, N: Ids>(
     peer: &mut Peer<I, D, S, M, N>,
     keeps: bool,

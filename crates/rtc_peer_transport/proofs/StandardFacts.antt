@@ -1,6 +1,6 @@
 -- Small cases of the definitions, computed.
 use Rattle.std.proofs.Common.{◌≡◌, ◌-◌, ◌^◌, ℕ, Bool, Option, Some, refl}
-use Rattle.rtc_part_values.specs.declared.reason.Reason.TheVariants.{NotHappening, DTLS, Ice}
+use Rattle.rtc_parts.specs.declared.reason.Reason.TheVariants.{NotHappening, DTLS, Ice}
 use Rattle.rtc_peer_transport.specs.Connection.{no_transport}
 use Rattle.rtc_peer_transport.specs.Deadlines.{sooner}
 

@@ -1,7 +1,7 @@
 -- A peer with its connection, and what changes of it.
 use Rattle.std.specs.Prelude.{ℕ, ◌-◌, ◌^◌, Bool, List, [], Option, Some, None}
-use Rattle.rtc_part_values.specs.declared.reason.Reason.TheVariants.{NotHappening}
-use Rattle.rtc_part_dtls.specs.DtlsState.{DtlsState}
+use Rattle.rtc_parts.specs.declared.reason.Reason.TheVariants.{NotHappening}
+use Rattle.rtc_parts.specs.DtlsState.{DtlsState}
 use Rattle.rtc_sctp.specs.Streams.{SctpStreams}
 use Rattle.rtc_channels.specs.Channels.{Channels}
 use Rattle.rtc_config.specs.Stats.{Reporting}

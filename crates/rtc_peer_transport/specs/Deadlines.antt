@@ -1,7 +1,7 @@
 -- When a peer wants a timeout, and what for.
 use Rattle.std.specs.Prelude.{if◌then◌else◌, ℕ, nat_lt, max, Option, Some, None}
-use Rattle.rtc_part_values.specs.declared.reason.Reason.{Reason}
-use Rattle.rtc_part_values.specs.declared.reason.Reason.TheVariants.{DTLS, Ice, Sctp, Channel, Stats as StatsReason}
+use Rattle.rtc_parts.specs.declared.reason.Reason.{Reason}
+use Rattle.rtc_parts.specs.declared.reason.Reason.TheVariants.{DTLS, Ice, Sctp, Channel, Stats as StatsReason}
 use Rattle.rtc_sctp.specs.Calls.{streams_wake}
 use Rattle.rtc_channels.specs.Openings.{channels_wake}
 use Rattle.rtc_peer_core.specs.Meanings.{Meanings}

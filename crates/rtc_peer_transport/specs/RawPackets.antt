@@ -1,6 +1,6 @@
 -- The packets that events show.
 use Rattle.std.specs.Prelude.{Option, None}
-use Rattle.rtc_part_media.specs.declared.raw_packet.RawPacket.{RawPacket}
+use Rattle.rtc_parts.specs.declared.raw_packet.RawPacket.{RawPacket}
 use Rattle.rtc_peer_transport.specs.declared.event.Event.{Event}
 use Rattle.rtc_peer_transport.specs.declared.event.Event.TheVariants.{Media}
 

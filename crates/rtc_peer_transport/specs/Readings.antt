@@ -4,7 +4,7 @@ use Rattle.std.specs.Str.{bytes_eq}
 use Rattle.rtc_wire.specs.declared.addr.Addr.{Addr}
 use Rattle.rtc_wire.specs.declared.datagram_recv.DatagramRecv.{DatagramRecv}
 use Rattle.rtc_wire.specs.declared.datagram_recv.DatagramRecv.TheVariants as datagrams
-use Rattle.rtc_part_ice.specs.IceConnectionState.{state_is_connected}
+use Rattle.rtc_parts.specs.IceConnectionState.{state_is_connected}
 use Rattle.rtc_peer_core.specs.Meanings.{Meanings}
 use Rattle.rtc_peer_transport.specs.declared.handshake.Handshake.{Handshake}
 use Rattle.rtc_peer_transport.specs.declared.handshake.Handshake.TheVariants.{Pending, Finished, Told}

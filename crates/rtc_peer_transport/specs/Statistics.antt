@@ -2,11 +2,11 @@
 use Rattle.std.specs.Prelude.{ℕ, ◌≡◌, Bool, true, false, List, [], ◌∷◌, Option, Some, None, Result, Ok, Err, alloc_error}
 use Rattle.std.specs.declared.alloc.AllocError.{AllocError}
 use Rattle.std.specs.BTreeMap.{IsEmpty}
-use Rattle.rtc_part_media.specs.declared.candidate_pair_stats.CandidatePairStats.{CandidatePairStats}
-use Rattle.rtc_part_media.specs.declared.stats_event.StatsEvent.{StatsEvent}
-use Rattle.rtc_part_media.specs.declared.stats_event.StatsEvent.TheVariants as reports
-use Rattle.rtc_part_media.specs.declared.stats_snapshot.StatsSnapshot.{StatsSnapshot}
-use Rattle.rtc_part_media.specs.MediaMeaning.{MediaMeaning}
+use Rattle.rtc_parts.specs.declared.candidate_pair_stats.CandidatePairStats.{CandidatePairStats}
+use Rattle.rtc_parts.specs.declared.stats_event.StatsEvent.{StatsEvent}
+use Rattle.rtc_parts.specs.declared.stats_event.StatsEvent.TheVariants as reports
+use Rattle.rtc_parts.specs.declared.stats_snapshot.StatsSnapshot.{StatsSnapshot}
+use Rattle.rtc_parts.specs.MediaMeaning.{MediaMeaning}
 use Rattle.rtc_config.specs.Stats.{Reporting, is_round_due, next_round, reported, since}
 use Rattle.rtc_peer_core.specs.Meanings.{Meanings}
 use Rattle.rtc_peer_core.specs.declared.rtc_error.RtcError.TheVariants.{Alloc}

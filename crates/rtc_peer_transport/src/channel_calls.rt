@@ -5,11 +5,7 @@ ghost use Rattle.rtc_peer_transport.specs.ChannelCalls.{is_phase_open, stream_un
 ghost use Rattle.rtc_peer_transport.specs.ChannelCalls.{SetsChannelThreshold, ClosesDataChannel, WritesChannel, write_taken as WriteTaken};
 
 use crate::PolledPeer;
-use rtc_part_association::Association;
-use rtc_part_dtls::DtlsInstance;
-use rtc_part_ice::IceAgent;
-use rtc_part_media::MediaSession;
-use rtc_part_values::Ids;
+use rtc_parts::{Association, DtlsInstance, IceAgent, Ids, MediaSession};
 use rtc_peer_core::{Phase, RtcError};
 use rtc_sctp::{RtcSctp, SctpError};
 use rtc_wire::{ChannelConfig, ChannelId};

@@ -7,11 +7,7 @@ ghost use Rattle.rtc_peer_transport.specs.Closing.{ShutsStreams, ShutsDtls};
 ghost use Rattle.rtc_peer_transport.specs.Closing.{ClosesPeer, is_phase_closing, is_closing_complete};
 
 use crate::PolledPeer;
-use rtc_part_association::Association;
-use rtc_part_dtls::{DtlsError, DtlsInstance};
-use rtc_part_ice::IceAgent;
-use rtc_part_media::MediaSession;
-use rtc_part_values::Ids;
+use rtc_parts::{Association, DtlsError, DtlsInstance, IceAgent, Ids, MediaSession};
 use rtc_peer_core::{Phase, RtcError};
 use rtc_sctp::{ProtoError, SctpError};
 

@@ -6,11 +6,7 @@ ghost use Rattle.rtc_peer_transport.specs.Statistics.{stats_wake};
 
 use crate::PolledPeer;
 use rtc_config::Stats;
-use rtc_part_association::Association;
-use rtc_part_dtls::DtlsInstance;
-use rtc_part_ice::IceAgent;
-use rtc_part_media::MediaSession;
-use rtc_part_values::{Ids, Reason};
+use rtc_parts::{Association, DtlsInstance, IceAgent, Ids, MediaSession, Reason};
 use rtc_wire::Moment;
 
 fn sooner(first: (Moment, Reason), other: Option<(Moment, Reason)>) -> (Moment, Reason)

@@ -4,8 +4,9 @@ ghost use Rattle.std.specs.Option.{option_copied};
 ghost use Rattle.rtc_peer_transport.specs.RawPackets.{raw_packet_of};
 
 use crate::ChannelData;
-use rtc_part_ice::IceConnectionState;
-use rtc_part_media::{MediaEgressStats, MediaEvent, MediaIngressStats, PeerStats, RawPacket};
+use rtc_parts::{
+    IceConnectionState, MediaEgressStats, MediaEvent, MediaIngressStats, PeerStats, RawPacket,
+};
 use rtc_wire::{ChannelId, Text};
 
 /// Something that happened at a peer. `E` are the events of its media part.

@@ -4,11 +4,7 @@ ghost use Rattle.rtc_peer_core.specs.Meanings.{meanings};
 ghost use Rattle.rtc_peer_transport.specs.Readings.{is_accepted, is_handshake_finished, is_meant_for, is_nominated, is_peer_connected};
 
 use crate::{Handshake, Input, SendAddr, Transport};
-use rtc_part_association::Association;
-use rtc_part_dtls::DtlsInstance;
-use rtc_part_ice::IceAgent;
-use rtc_part_media::MediaSession;
-use rtc_part_values::{Ids, Reason};
+use rtc_parts::{Association, DtlsInstance, IceAgent, Ids, MediaSession, Reason};
 use rtc_peer_core::Peer;
 use rtc_wire::{Addr, DatagramRecv};
 

@@ -6,11 +6,10 @@ ghost use Rattle.rtc_peer_transport.specs.Statistics.{event_of_report as EventOf
 
 use crate::{Event, Met, PolledPeer, close_out_of_memory};
 use rtc_config::Stats;
-use rtc_part_association::Association;
-use rtc_part_dtls::DtlsInstance;
-use rtc_part_ice::IceAgent;
-use rtc_part_media::{CandidatePairStats, CandidateStats, MediaSession, StatsEvent, StatsSnapshot};
-use rtc_part_values::Ids;
+use rtc_parts::{
+    Association, CandidatePairStats, CandidateStats, DtlsInstance, IceAgent, Ids, MediaSession,
+    StatsEvent, StatsSnapshot,
+};
 use rtc_peer_core::RtcError;
 use rtc_wire::Moment;
 use std::alloc::AllocError;

@@ -4,7 +4,7 @@ ghost use Rattle.rtc_peer_transport.specs.Connection.{first_stats as FirstStats,
 
 use crate::{Handshake, RecentAddrs, SendAddr};
 use rtc_config::Stats;
-use rtc_part_values::Reason;
+use rtc_parts::Reason;
 use rtc_wire::{Moment, Span};
 use std::alloc::{AllocError, Global};
 

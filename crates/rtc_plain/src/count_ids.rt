@@ -1,7 +1,7 @@
 //! Numbers that count up.
 ghost use Rattle.std.specs.Prelude.{◌≡◌, ℕ, ◌+◌, ◌%◌, ◌^◌};
 
-use rtc_part_values::Ids;
+use rtc_parts::Ids;
 use std::marker::Model;
 
 /// Numbers that count up by one, and begin again at 0 after `u64::MAX`.

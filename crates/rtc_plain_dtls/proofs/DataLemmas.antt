@@ -2,13 +2,13 @@
 use Rattle.std.proofs.Common.{ℕ, ◌≡◌, ◌⊎◌, ◌==◌, inl, inr, Bool, true, false, cond, List, [], ◌∷◌, ◌++◌, length, Ok, Err, refl, sym, ap, subst, ◌∙◌, arith}
 use Rattle.std.specs.Prelude.{nat_le}
 use Rattle.std.proofs.lemmas.Bool.Decides.{eqb_tells}
-use Rattle.rtc_part_values.specs.Among.{Member}
-use Rattle.rtc_part_dtls.specs.declared.dtls_error.DtlsError.{DtlsError}
-use Rattle.rtc_part_dtls.specs.declared.dtls_error.DtlsError.TheVariants.{WouldBlock, Fault, Alloc}
-use Rattle.rtc_part_dtls.specs.DtlsDrawn.{DtlsDrawn, DrewPacket, DrewData}
-use Rattle.rtc_part_dtls.specs.DtlsActs.{DtlsAct, DtlsCall, Given, Taken, Sent, Got, Stirred, CertificateSet, Activated, VersionSet, SendRefused, TimedAt, Closed, Showed, DtlsActed, DtlsMoved}
-use Rattle.rtc_part_dtls.specs.DtlsWords.{dtls_given, dtls_sent}
-use Rattle.rtc_part_dtls.proofs.DtlsLemmas.{dtls_moved-split}
+use Rattle.rtc_parts.specs.Among.{Member}
+use Rattle.rtc_parts.specs.declared.dtls_error.DtlsError.{DtlsError}
+use Rattle.rtc_parts.specs.declared.dtls_error.DtlsError.TheVariants.{WouldBlock, Fault, Alloc}
+use Rattle.rtc_parts.specs.DtlsDrawn.{DtlsDrawn, DrewPacket, DrewData}
+use Rattle.rtc_parts.specs.DtlsActs.{DtlsAct, DtlsCall, Given, Taken, Sent, Got, Stirred, CertificateSet, Activated, VersionSet, SendRefused, TimedAt, Closed, Showed, DtlsActed, DtlsMoved}
+use Rattle.rtc_parts.specs.DtlsWords.{dtls_given, dtls_sent}
+use Rattle.rtc_parts.proofs.DtlsLemmas.{dtls_moved-split}
 use Rattle.rtc_plain_dtls.specs.declared.output.Output.{Output}
 use Rattle.rtc_plain_dtls.specs.declared.output.Output.TheVariants.{PeerCert, Keying, Connected, Data, Close}
 use Rattle.rtc_plain_dtls.specs.declared.phase.Phase.{Phase}

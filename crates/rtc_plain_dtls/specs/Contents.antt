@@ -1,7 +1,7 @@
 -- What a plain part holds, and what it returns of itself.
 use Rattle.std.specs.Prelude.{ℕ, ◌+◌, ◌-◌, ◌^◌, nat_le, if◌then◌else◌, Bool, true, false, List, [], Option, Some, None}
-use Rattle.rtc_part_dtls.specs.declared.dtls_version.DtlsVersion.{DtlsVersion}
-use Rattle.rtc_part_dtls.specs.declared.dtls_version.DtlsVersion.TheVariants.{Dtls12}
+use Rattle.rtc_parts.specs.declared.dtls_version.DtlsVersion.{DtlsVersion}
+use Rattle.rtc_parts.specs.declared.dtls_version.DtlsVersion.TheVariants.{Dtls12}
 use Rattle.rtc_plain_dtls.specs.declared.output.Output.{Output}
 use Rattle.rtc_plain_dtls.specs.declared.phase.Phase.{Phase}
 use Rattle.rtc_plain_dtls.specs.declared.phase.Phase.TheVariants.{

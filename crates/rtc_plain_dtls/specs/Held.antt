@@ -1,7 +1,7 @@
 -- Outputs that are no packets, and what a poll gives for them.
 use Rattle.std.specs.Prelude.{ℕ, ◌+◌, List, [], ◌∷◌, replicate}
-use Rattle.rtc_part_values.specs.declared.srtp_profile.SrtpProfile.TheVariants.{AeadAes128Gcm}
-use Rattle.rtc_part_dtls.specs.DtlsDrawn.{DtlsDrawn, DrewConnected, DrewKeying, DrewCert, DrewData, DrewClose, drawn_units}
+use Rattle.rtc_parts.specs.declared.srtp_profile.SrtpProfile.TheVariants.{AeadAes128Gcm}
+use Rattle.rtc_parts.specs.DtlsDrawn.{DtlsDrawn, DrewConnected, DrewKeying, DrewCert, DrewData, DrewClose, drawn_units}
 use Rattle.rtc_plain_dtls.specs.declared.output.Output.{Output}
 use Rattle.rtc_plain_dtls.specs.declared.output.Output.TheVariants.{PeerCert, Keying, Connected, Data, Close}
 

@@ -29,10 +29,10 @@ use Rattle.std.proofs.Common.{
 }
 use Rattle.std.specs.Prelude.{nat_le}
 use Rattle.std.proofs.lemmas.Bool.Decides.{leb_tells}
-use Rattle.rtc_part_dtls.specs.declared.dtls_error.DtlsError.{DtlsError}
-use Rattle.rtc_part_dtls.specs.declared.dtls_error.DtlsError.TheVariants.{WouldBlock, Fault, Alloc}
-use Rattle.rtc_part_dtls.specs.DtlsDrawn.{DrewPacket, DrewData}
-use Rattle.rtc_part_dtls.specs.DtlsActs.{
+use Rattle.rtc_parts.specs.declared.dtls_error.DtlsError.{DtlsError}
+use Rattle.rtc_parts.specs.declared.dtls_error.DtlsError.TheVariants.{WouldBlock, Fault, Alloc}
+use Rattle.rtc_parts.specs.DtlsDrawn.{DrewPacket, DrewData}
+use Rattle.rtc_parts.specs.DtlsActs.{
   DtlsAct,
   DtlsCall,
   Given,
@@ -50,7 +50,7 @@ use Rattle.rtc_part_dtls.specs.DtlsActs.{
   DtlsActed,
   DtlsMoved,
 }
-use Rattle.rtc_part_dtls.specs.DtlsLaws.{DtlsLaws, DtlsAnswered, SendAnswered, IsLater}
+use Rattle.rtc_parts.specs.DtlsLaws.{DtlsLaws, DtlsAnswered, SendAnswered, IsLater}
 use Rattle.rtc_plain_dtls.specs.declared.phase.Phase.{Phase}
 use Rattle.rtc_plain_dtls.specs.declared.phase.Phase.TheVariants.{
   NoRole,

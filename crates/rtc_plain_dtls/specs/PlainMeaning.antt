@@ -1,10 +1,10 @@
 -- The plain part as a part: what each call does, exactly.
 use Rattle.std.specs.Prelude.{ℕ, ◌≡◌, ◌+◌, ◌≤◌, Bool, true, false, List, [], ◌∷◌, length, Result, Ok, Err}
 use Rattle.std.specs.declared.alloc.AllocError.{AllocError}
-use Rattle.rtc_part_dtls.specs.declared.dtls_error.DtlsError.{DtlsError}
-use Rattle.rtc_part_dtls.specs.declared.dtls_error.DtlsError.TheVariants.{WouldBlock, Fault, Alloc}
-use Rattle.rtc_part_dtls.specs.DtlsDrawn.{DtlsDrawn, DrewPacket, DrewTimeout, drawn_bytes}
-use Rattle.rtc_part_dtls.specs.DtlsMeaning.{DtlsMeaning}
+use Rattle.rtc_parts.specs.declared.dtls_error.DtlsError.{DtlsError}
+use Rattle.rtc_parts.specs.declared.dtls_error.DtlsError.TheVariants.{WouldBlock, Fault, Alloc}
+use Rattle.rtc_parts.specs.DtlsDrawn.{DtlsDrawn, DrewPacket, DrewTimeout, drawn_bytes}
+use Rattle.rtc_parts.specs.DtlsMeaning.{DtlsMeaning}
 use Rattle.rtc_plain_dtls.specs.declared.output.Output.{Output}
 use Rattle.rtc_plain_dtls.specs.Held.{output_drawn, outputs_units}
 use Rattle.rtc_plain_dtls.specs.Contents.{DtlsContents, fresh_dtls, phase_is_finished, phase_version, asks_of}

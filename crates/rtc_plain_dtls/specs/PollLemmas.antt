@@ -1,6 +1,6 @@
 -- What a poll of the plain part draws, and what it leaves.
 use Rattle.std.proofs.Common.{ℕ, ◌≡◌, ◌≤◌, ◌<◌, ◌+◌, true, false, List, ◌∷◌, length, refl, sym, ap, ◌∙◌, arith, []}
-use Rattle.rtc_part_dtls.specs.DtlsDrawn.{DtlsDrawn, DrewTimeout, drawn_bytes, drawn_units, drawn_packets, draws_output}
+use Rattle.rtc_parts.specs.DtlsDrawn.{DtlsDrawn, DrewTimeout, drawn_bytes, drawn_units, drawn_packets, draws_output}
 use Rattle.rtc_plain_dtls.specs.declared.output.Output.{Output}
 use Rattle.rtc_plain_dtls.specs.declared.output.Output.TheVariants.{PeerCert, Keying, Connected, Data, Close}
 use Rattle.rtc_plain_dtls.specs.declared.phase.Phase.{Phase}

@@ -1,6 +1,6 @@
 //! What the other calls do, and what a part returns of itself.
 ghost use Rattle.std.specs.Prelude.{◌≡◌, ◌≤◌, ◌+◌, length, OnOk, OnErr, true};
-ghost use Rattle.rtc_part_dtls.specs.DtlsDrawn.{dtls_drawn, polled_length};
+ghost use Rattle.rtc_parts.specs.DtlsDrawn.{dtls_drawn, polled_length};
 ghost use Rattle.rtc_plain_dtls.specs.Contents.{phase_is_finished, resends, asks_of, second_behind};
 ghost use Rattle.rtc_plain_dtls.specs.Calls.{data_queued, sent_again, dtls_time_passed, dtls_shut_down, role_set};
 ghost use Rattle.rtc_plain_dtls.specs.PlainMeaning.{PollsDtls};
@@ -10,7 +10,7 @@ use crate::frame::{ALERT, CERTIFICATE, CLOSE, DATA, HANDSHAKE, HELLO};
 use crate::instance::PlainDtls;
 use crate::phase::Phase;
 use crate::short::Short;
-use rtc_part_dtls::DtlsPolled;
+use rtc_parts::DtlsPolled;
 use rtc_wire::{Moment, Span};
 use std::alloc::AllocError;
 

@@ -1,8 +1,8 @@
 //! Application data is received and sent as it was given.
 ghost use Rattle.std.specs.Prelude.{◌≡◌, List, ℕ, ◌∷◌, ◌++◌};
-ghost use Rattle.rtc_part_values.specs.Among.{Member};
-ghost use Rattle.rtc_part_dtls.specs.DtlsActs.{DtlsAct, DtlsMoved, Taken, Got};
-ghost use Rattle.rtc_part_dtls.specs.DtlsWords.{dtls_given, dtls_sent};
+ghost use Rattle.rtc_parts.specs.Among.{Member};
+ghost use Rattle.rtc_parts.specs.DtlsActs.{DtlsAct, DtlsMoved, Taken, Got};
+ghost use Rattle.rtc_parts.specs.DtlsWords.{dtls_given, dtls_sent};
 ghost use Rattle.rtc_plain_dtls.specs.Frames.{data_packet};
 ghost use Rattle.rtc_plain_dtls.specs.Contents.{DtlsContents, fresh_dtls};
 ghost use Rattle.rtc_plain_dtls.specs.PlainMeaning.{plain_dtls};

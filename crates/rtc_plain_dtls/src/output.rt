@@ -1,10 +1,10 @@
 //! Outputs that are no packets.
 ghost use Rattle.std.specs.Prelude.{◌≡◌, ◌≤◌, length, take};
-ghost use Rattle.rtc_part_dtls.specs.DtlsDrawn.{dtls_drawn, drawn_bytes, polled_length};
+ghost use Rattle.rtc_parts.specs.DtlsDrawn.{dtls_drawn, drawn_bytes, polled_length};
 ghost use Rattle.rtc_plain_dtls.specs.Held.{output_drawn, key_bytes};
 
 use crate::short::Short;
-use rtc_part_dtls::{DtlsPolled, SrtpProfile};
+use rtc_parts::{DtlsPolled, SrtpProfile};
 
 /// An output that is no packet.
 #[derive(Debug, Drop)]

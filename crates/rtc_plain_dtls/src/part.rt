@@ -1,7 +1,7 @@
 //! The plain part as a part.
 use crate::calls::finished;
 use crate::instance::PlainDtls;
-use rtc_part_dtls::{DtlsError, DtlsInstance, DtlsPolled, DtlsVersion};
+use rtc_parts::{DtlsError, DtlsInstance, DtlsPolled, DtlsVersion};
 use rtc_wire::{Bytes, Moment};
 use std::alloc::AllocError;
 

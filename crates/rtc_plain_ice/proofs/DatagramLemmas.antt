@@ -7,9 +7,9 @@ use Rattle.rtc_wire.specs.declared.protocol.Protocol.{Protocol}
 use Rattle.rtc_wire.specs.declared.transmit.Transmit.{Transmit}
 use Rattle.rtc_sdp_values.specs.declared.candidate.Candidate.{Candidate}
 use Rattle.rtc_sdp_values.specs.declared.ice_creds.IceCreds.{IceCreds}
-use Rattle.rtc_part_values.specs.Among.{Member}
-use Rattle.rtc_part_ice.specs.IceActs.{IceAct, IceCall, LiteSet, ControllingSet, LocalSet, RemoteSet, Restarted, LocalAdded, RemoteAdded, Invalidated, TimedAt, Told, RtoSet, Given, Taken, Stirred, IceActed, IceGiven, ByPacket, IceMoved}
-use Rattle.rtc_part_ice.specs.IceWords.{ice_taken}
+use Rattle.rtc_parts.specs.Among.{Member}
+use Rattle.rtc_parts.specs.IceActs.{IceAct, IceCall, LiteSet, ControllingSet, LocalSet, RemoteSet, Restarted, LocalAdded, RemoteAdded, Invalidated, TimedAt, Told, RtoSet, Given, Taken, Stirred, IceActed, IceGiven, ByPacket, IceMoved}
+use Rattle.rtc_parts.specs.IceWords.{ice_taken}
 use Rattle.rtc_plain_ice.specs.declared.check.Ends.{Ends}
 use Rattle.rtc_plain_ice.specs.declared.check.Check.{Check}
 use Rattle.rtc_plain_ice.specs.Datagrams.{BeginsBelowTwo}

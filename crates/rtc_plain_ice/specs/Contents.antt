@@ -23,10 +23,10 @@ use Rattle.rtc_wire.specs.declared.addr.Addr.{Addr}
 use Rattle.rtc_wire.specs.declared.transmit.Transmit.{Transmit}
 use Rattle.rtc_sdp_values.specs.declared.candidate.Candidate.{Candidate}
 use Rattle.rtc_sdp_values.specs.declared.ice_creds.IceCreds.{IceCreds}
-use Rattle.rtc_part_ice.specs.declared.ice_connection_state.IceConnectionState.{IceConnectionState}
-use Rattle.rtc_part_ice.specs.declared.ice_connection_state.IceConnectionState.TheVariants.{New}
-use Rattle.rtc_part_ice.specs.declared.ice_event.IceEvent.{IceEvent}
-use Rattle.rtc_part_ice.specs.IceMeaning.{IceSettings}
+use Rattle.rtc_parts.specs.declared.ice_connection_state.IceConnectionState.{IceConnectionState}
+use Rattle.rtc_parts.specs.declared.ice_connection_state.IceConnectionState.TheVariants.{New}
+use Rattle.rtc_parts.specs.declared.ice_event.IceEvent.{IceEvent}
+use Rattle.rtc_parts.specs.IceMeaning.{IceSettings}
 use Rattle.rtc_plain_ice.specs.declared.check.Ends.{Ends}
 use Rattle.rtc_plain_ice.specs.declared.check.Check.{Check}
 use Rattle.rtc_plain_ice.specs.Messages.{IceMessage, ice_message_in}

@@ -39,10 +39,10 @@ use Rattle.rtc_wire.specs.declared.protocol.Protocol.{Protocol}
 use Rattle.rtc_wire.specs.declared.transmit.Transmit.{Transmit}
 use Rattle.rtc_sdp_values.specs.declared.candidate.Candidate.{Candidate}
 use Rattle.rtc_sdp_values.specs.declared.ice_creds.IceCreds.{IceCreds}
-use Rattle.rtc_part_values.specs.Among.{Member}
-use Rattle.rtc_part_ice.specs.declared.ice_event.IceEvent.{IceEvent}
-use Rattle.rtc_part_ice.specs.IceMeaning.{IceSettings}
-use Rattle.rtc_part_ice.specs.IceLaws.{IceLaws, Withdraws}
+use Rattle.rtc_parts.specs.Among.{Member}
+use Rattle.rtc_parts.specs.declared.ice_event.IceEvent.{IceEvent}
+use Rattle.rtc_parts.specs.IceMeaning.{IceSettings}
+use Rattle.rtc_parts.specs.IceLaws.{IceLaws, Withdraws}
 use Rattle.rtc_plain_ice.specs.declared.check.Ends.{Ends}
 use Rattle.rtc_plain_ice.specs.declared.check.Check.{Check}
 use Rattle.rtc_plain_ice.specs.Messages.{IceMessage, CHECK, RESPONSE, check_number, ice_message_in}

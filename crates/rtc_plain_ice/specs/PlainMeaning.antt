@@ -3,8 +3,8 @@ use Rattle.std.specs.Prelude.{◌≡◌, ◌+◌, ◌||◌, Bool, true, false, L
 use Rattle.std.specs.declared.alloc.AllocError.{AllocError}
 use Rattle.rtc_wire.specs.declared.transmit.Transmit.{Transmit}
 use Rattle.rtc_sdp_values.specs.declared.candidate.Candidate.{Candidate}
-use Rattle.rtc_part_ice.specs.declared.ice_event.IceEvent.{IceEvent}
-use Rattle.rtc_part_ice.specs.IceMeaning.{IceMeaning}
+use Rattle.rtc_parts.specs.declared.ice_event.IceEvent.{IceEvent}
+use Rattle.rtc_parts.specs.IceMeaning.{IceMeaning}
 use Rattle.rtc_plain_ice.specs.Places.{has_place}
 use Rattle.rtc_plain_ice.specs.Contents.{IceContents, fresh_ice, ice_wake, is_viable, accepts_bytes, rtt_sum, rtt_count}
 use Rattle.rtc_plain_ice.specs.Calls as call

@@ -6,7 +6,7 @@ use crate::addr_table::AddrTable;
 use crate::candidate_table::CandidateTable;
 use crate::check::Check;
 use indexmap::IndexSet;
-use rtc_part_ice::{IceConnectionState, IceEvent};
+use rtc_parts::{IceConnectionState, IceEvent};
 use rtc_sdp_values::IceCreds;
 use rtc_wire::{Span, Text, Transmit};
 use std::alloc::Global;

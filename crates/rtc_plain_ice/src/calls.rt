@@ -10,7 +10,7 @@ use crate::addr_table::holds_addr;
 use crate::agent::PlainIce;
 use crate::check::{Check, Ends};
 use crate::message::read;
-use rtc_part_ice::IceEvent;
+use rtc_parts::IceEvent;
 use rtc_sdp_values::{Candidate, IceCreds};
 use rtc_wire::{Addr, Moment};
 use std::alloc::AllocError;

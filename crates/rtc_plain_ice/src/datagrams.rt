@@ -1,9 +1,9 @@
 //! What the datagrams of an agent begin with.
 ghost use Rattle.std.specs.Prelude.{◌≡◌, List};
 ghost use Rattle.rtc_wire.specs.declared.transmit.Transmit.{Transmit};
-ghost use Rattle.rtc_part_values.specs.Among.{Member};
-ghost use Rattle.rtc_part_ice.specs.IceActs.{IceAct, IceMoved};
-ghost use Rattle.rtc_part_ice.specs.IceWords.{ice_taken};
+ghost use Rattle.rtc_parts.specs.Among.{Member};
+ghost use Rattle.rtc_parts.specs.IceActs.{IceAct, IceMoved};
+ghost use Rattle.rtc_parts.specs.IceWords.{ice_taken};
 ghost use Rattle.rtc_plain_ice.specs.Contents.{IceContents, fresh_ice};
 ghost use Rattle.rtc_plain_ice.specs.Datagrams.{BeginsBelowTwo};
 ghost use Rattle.rtc_plain_ice.specs.PlainMeaning.{plain_ice};

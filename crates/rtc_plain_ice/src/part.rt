@@ -3,7 +3,7 @@ ghost use Rattle.std.specs.Prelude.{◌≡◌};
 
 use crate::agent::PlainIce;
 use crate::message::is_message;
-use rtc_part_ice::{IceAgent, IceConnectionState, IceEvent};
+use rtc_parts::{IceAgent, IceConnectionState, IceEvent};
 use rtc_sdp_values::{Candidate, IceCreds};
 use rtc_wire::{Addr, Moment, Protocol, Span, StunError, StunReader, StunView, Transmit};
 use std::alloc::AllocError;

@@ -1,12 +1,12 @@
 //! Work on queues for which room was made.
 ghost use Rattle.std.specs.Prelude.{◌≡◌, ◌+◌, ◌≤◌, ◌<◌, ◌∷◌, [], ◌++◌, true, None};
 ghost use Rattle.std.specs.VecDeque.{deque_len, deque_capacity};
-ghost use Rattle.rtc_part_ice.specs.declared.ice_connection_state.IceConnectionState.TheVariants.{Connected};
-ghost use Rattle.rtc_part_ice.specs.declared.ice_event.IceEvent.TheVariants.{StateChange, NominatedSend};
+ghost use Rattle.rtc_parts.specs.declared.ice_connection_state.IceConnectionState.TheVariants.{Connected};
+ghost use Rattle.rtc_parts.specs.declared.ice_event.IceEvent.TheVariants.{StateChange, NominatedSend};
 ghost use Rattle.rtc_plain_ice.specs.Calls.{state_checked, checking_told};
 
 use crate::check::{Check, Ends};
-use rtc_part_ice::{IceConnectionState, IceEvent};
+use rtc_parts::{IceConnectionState, IceEvent};
 use std::collections::VecDeque;
 
 /// Puts an event at the end.

@@ -2,7 +2,7 @@
 ghost use Rattle.std.specs.Prelude.{◌≡◌, ◌≤◌, ◌<◌, ◌+◌, ◌-◌, ◌++◌, ◌∷◌, [], length, IfOk, OnOk, OnErr, true};
 ghost use Rattle.std.specs.Str.{bytes_eq};
 ghost use Rattle.std.specs.VecDeque.{deque_len, deque_capacity};
-ghost use Rattle.rtc_part_ice.specs.declared.ice_event.IceEvent.TheVariants.{DiscoveredRecv};
+ghost use Rattle.rtc_parts.specs.declared.ice_event.IceEvent.TheVariants.{DiscoveredRecv};
 ghost use Rattle.rtc_plain_ice.specs.Places.{with_addr};
 ghost use Rattle.rtc_plain_ice.specs.PlaceTables.{addrs_of};
 ghost use Rattle.rtc_plain_ice.specs.Contents.{ufrags_fit};
@@ -16,7 +16,7 @@ use crate::calls::is_check_due;
 use crate::check::{Check, Ends};
 use crate::message::{CHECK, Message, RESPONSE, number_bytes, read, write};
 use crate::queues::{nominate, start_checking, tell};
-use rtc_part_ice::IceEvent;
+use rtc_parts::IceEvent;
 use rtc_sdp_values::IceCreds;
 use rtc_wire::{Addr, DatagramSend, Moment, Protocol, Span, Transmit};
 use std::alloc::{AllocError, Global};

@@ -5,12 +5,12 @@ use Rattle.std.specs.Map.{lookup, set_value}
 use Rattle.std.specs.Option.{unwrap_or}
 use Rattle.indexmap.specs.IndexMap.{IndexMap, insert_entry, spare}
 use Rattle.rtc_sdp_values.specs.declared.ssrc.Ssrc.{Ssrc}
-use Rattle.rtc_part_media.specs.declared.media_update.MediaUpdate.{MediaUpdate}
+use Rattle.rtc_parts.specs.declared.media_update.MediaUpdate.{MediaUpdate}
 use Rattle.rtc_plain_media.specs.declared.plain_mark.PlainMark.{PlainMark}
 use Rattle.rtc_plain_media.specs.declared.line_key.LineKey.{LineKey}
 use Rattle.rtc_plain_media.specs.declared.held_line.HeldLine.{HeldLine}
 use Rattle.rtc_plain_media.specs.Streams.{is_ssrc}
-use Rattle.rtc_part_media.specs.MediaUpdates.{update_mid}
+use Rattle.rtc_parts.specs.MediaUpdates.{update_mid}
 use Rattle.rtc_plain_media.specs.Lines.{Lines, same_key, key_of, held_line, writer_mark, set_line, without_lines}
 use Rattle.rtc_plain_media.specs.MediaContents.{source_uses, line_uses}
 use Rattle.rtc_plain_media.specs.SourceCounts.{same_once, ssrc_count, source_count, sources_count, update_count, lines_count, held_count, gone_count, update_numbers, updates_numbers, count_for, CountsLines, CountsLess, KeepsCounts}

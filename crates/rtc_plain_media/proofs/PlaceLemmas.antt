@@ -7,7 +7,7 @@ use Rattle.std.specs.Option.{option_eq}
 use Rattle.std.specs.Prelude.{IsOk, OnOk}
 use Rattle.indexmap.specs.IndexMap.{IndexMap, get, Updates}
 use Rattle.indexmap.specs.IndexSet as set
-use Rattle.rtc_part_media.specs.MediaUpdates.{same_mid}
+use Rattle.rtc_parts.specs.MediaUpdates.{same_mid}
 use Rattle.rtc_plain_media.specs.declared.plain_mark.PlainMark.{PlainMark}
 use Rattle.rtc_plain_media.specs.declared.stream_row.StreamRow.{StreamRow}
 use Rattle.rtc_plain_media.specs.declared.stream_name.LayerKey.{LayerKey}

@@ -1,8 +1,8 @@
 -- Updates that remove no line.
 use Rattle.std.proofs.Common.{◌≡◌, ℕ, Bool, true, false, Option, Some, None, List, [], ◌∷◌, is_some, refl, ap}
 use Rattle.std.specs.List.{list_any}
-use Rattle.rtc_part_media.specs.declared.media_update.MediaUpdate.{MediaUpdate}
-use Rattle.rtc_part_media.specs.MediaUpdates.{removes, removed_by}
+use Rattle.rtc_parts.specs.declared.media_update.MediaUpdate.{MediaUpdate}
+use Rattle.rtc_parts.specs.MediaUpdates.{removes, removed_by}
 use Rattle.rtc_plain_media.specs.Lines.{Lines, removes_some, without_lines}
 use Rattle.rtc_plain_media.specs.Streams.{Streams, without_streams}
 

@@ -1,9 +1,9 @@
 -- What each call leaves of the contents.
 use Rattle.std.specs.Prelude.{ℕ, Bool, true, false, not, filter, List, [], ◌∷◌, ◌++◌, length, Option, Some, None, if◌then◌else◌}
 use Rattle.rtc_sdp_values.specs.declared.ssrc.Ssrc.{Ssrc}
-use Rattle.rtc_part_media.specs.declared.raw_packet.RawPacket.{RawPacket}
-use Rattle.rtc_part_media.specs.declared.raw_packet.RawPacket.TheVariants.{RtpRx, RtcpRx}
-use Rattle.rtc_part_media.specs.MediaUpdates.{same_mid, removed_by}
+use Rattle.rtc_parts.specs.declared.raw_packet.RawPacket.{RawPacket}
+use Rattle.rtc_parts.specs.declared.raw_packet.RawPacket.TheVariants.{RtpRx, RtcpRx}
+use Rattle.rtc_parts.specs.MediaUpdates.{same_mid, removed_by}
 use Rattle.rtc_plain_media.specs.declared.plain_mark.PlainMark.{PlainMark}
 use Rattle.rtc_plain_media.specs.declared.plain_media_event.PlainMediaEvent.{PlainMediaEvent}
 use Rattle.rtc_plain_media.specs.declared.plain_media_event.PlainMediaEvent.TheVariants.{Rtp, Rtcp}

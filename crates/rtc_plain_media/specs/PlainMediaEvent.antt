@@ -1,6 +1,6 @@
 -- Events of the plain media part.
 use Rattle.std.specs.Prelude.{List, [], ◌∷◌, Option, Some, None}
-use Rattle.rtc_part_media.specs.declared.raw_packet.RawPacket.{RawPacket}
+use Rattle.rtc_parts.specs.declared.raw_packet.RawPacket.{RawPacket}
 use Rattle.rtc_plain_media.specs.declared.plain_media_event.PlainMediaEvent.{PlainMediaEvent}
 use Rattle.rtc_plain_media.specs.declared.plain_media_event.PlainMediaEvent.TheVariants.{Added, Changed, Rtp, Rtcp, Raw}
 

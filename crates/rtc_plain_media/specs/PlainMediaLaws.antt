@@ -27,11 +27,11 @@ use Rattle.std.proofs.Common.{
 use Rattle.std.specs.List.{list_any}
 use Rattle.std.specs.declared.alloc.AllocError.{AllocError}
 use Rattle.rtc_sdp_values.specs.declared.ssrc.Ssrc.{Ssrc}
-use Rattle.rtc_part_media.specs.declared.media_update.MediaUpdate.{MediaUpdate}
-use Rattle.rtc_part_media.specs.MediaUpdates.{same_mid, removed_by}
-use Rattle.rtc_part_media.specs.MediaMeaning.{held_media}
-use Rattle.rtc_part_media.specs.MediaActs.{Committed, LineRemoved, changes_pending}
-use Rattle.rtc_part_media.specs.MediaLaws.{MediaLaws, SameLines, UsesStream}
+use Rattle.rtc_parts.specs.declared.media_update.MediaUpdate.{MediaUpdate}
+use Rattle.rtc_parts.specs.MediaUpdates.{same_mid, removed_by}
+use Rattle.rtc_parts.specs.MediaMeaning.{held_media}
+use Rattle.rtc_parts.specs.MediaActs.{Committed, LineRemoved, changes_pending}
+use Rattle.rtc_parts.specs.MediaLaws.{MediaLaws, SameLines, UsesStream}
 use Rattle.rtc_plain_media.specs.declared.plain_mark.PlainMark.{PlainMark}
 use Rattle.rtc_plain_media.specs.declared.stream_row.StreamRow.{StreamRow}
 use Rattle.rtc_plain_media.specs.declared.plain_media_event.PlainMediaEvent.{PlainMediaEvent}

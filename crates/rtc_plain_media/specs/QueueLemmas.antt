@@ -27,8 +27,8 @@ use Rattle.std.proofs.Common.{
   [],
 }
 use Rattle.std.specs.declared.alloc.AllocError.{AllocError}
-use Rattle.rtc_part_media.specs.declared.media_error.MediaError.{MediaError}
-use Rattle.rtc_part_media.specs.MediaMeaning.{held_media}
+use Rattle.rtc_parts.specs.declared.media_error.MediaError.{MediaError}
+use Rattle.rtc_parts.specs.MediaMeaning.{held_media}
 use Rattle.rtc_plain_media.specs.declared.plain_media_event.PlainMediaEvent.{PlainMediaEvent}
 use Rattle.rtc_plain_media.specs.Feedback.{goodbye}
 use Rattle.rtc_plain_media.specs.MediaContents.{MediaContents}

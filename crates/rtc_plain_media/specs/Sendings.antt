@@ -1,6 +1,6 @@
 -- The datagrams that the plain media part gives.
 use Rattle.std.proofs.Common.{ℕ, Bool, List, [], ◌∷◌, sym, subst}
-use Rattle.rtc_part_media.specs.MediaActs.{MediaAct, MediaGiven, MediaTaken, MediaStirred, MediaMoved, Committed, LineRemoved}
+use Rattle.rtc_parts.specs.MediaActs.{MediaAct, MediaGiven, MediaTaken, MediaStirred, MediaMoved, Committed, LineRemoved}
 use Rattle.rtc_plain_media.specs.Feedback.{EachBegins}
 use Rattle.rtc_plain_media.specs.MediaContents.{MediaContents}
 use Rattle.rtc_plain_media.specs.PlainMediaMeaning.{plain_media_meaning}

@@ -4,7 +4,7 @@ use Rattle.std.specs.Prelude.{List, [], ◌∷◌, Option, Some, None, length, i
 use Rattle.std.specs.Map.{count_at}
 use Rattle.indexmap.specs.IndexMap.{IndexMap, get, spare}
 use Rattle.rtc_sdp_values.specs.declared.ssrc.Ssrc.{Ssrc}
-use Rattle.rtc_part_media.specs.declared.media_update.MediaUpdate.{MediaUpdate}
+use Rattle.rtc_parts.specs.declared.media_update.MediaUpdate.{MediaUpdate}
 use Rattle.rtc_plain_media.specs.declared.held_line.HeldLine.{HeldLine}
 use Rattle.rtc_plain_media.specs.Lines.{Lines}
 

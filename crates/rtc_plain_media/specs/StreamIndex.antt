@@ -4,7 +4,7 @@ use Rattle.std.specs.List.{list_any, position_from}
 use Rattle.std.specs.Option.{option_eq}
 use Rattle.indexmap.specs.IndexMap.{IndexMap, get, spare, index_map_len}
 use Rattle.indexmap.specs.IndexSet as set
-use Rattle.rtc_part_media.specs.MediaUpdates.{same_mid}
+use Rattle.rtc_parts.specs.MediaUpdates.{same_mid}
 use Rattle.rtc_plain_media.specs.declared.stream_row.StreamRow.{StreamRow}
 use Rattle.rtc_plain_media.specs.declared.stream_name.LayerKey.{LayerKey}
 use Rattle.rtc_plain_media.specs.declared.stream_name.StreamName.{StreamName}

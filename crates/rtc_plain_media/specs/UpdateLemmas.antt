@@ -4,8 +4,8 @@ use Rattle.std.specs.Cmp.Lexicographic.{bytes_decides}
 use Rattle.std.specs.Map.{lookup}
 use Rattle.std.specs.Option.{option_map}
 use Rattle.indexmap.specs.IndexMap.{insert_entry}
-use Rattle.rtc_part_media.specs.declared.media_update.MediaUpdate.{MediaUpdate}
-use Rattle.rtc_part_media.specs.MediaUpdates.{same_mid, update_mid, latest, removed_by, line_after}
+use Rattle.rtc_parts.specs.declared.media_update.MediaUpdate.{MediaUpdate}
+use Rattle.rtc_parts.specs.MediaUpdates.{same_mid, update_mid, latest, removed_by, line_after}
 use Rattle.rtc_plain_media.specs.declared.plain_mark.PlainMark.{PlainMark}
 use Rattle.rtc_plain_media.specs.declared.line_key.LineKey.{LineKey}
 use Rattle.rtc_plain_media.specs.declared.held_line.HeldLine.{HeldLine}

@@ -2,7 +2,7 @@
 ghost use Rattle.std.specs.Prelude.{◌≡◌, ◌≤◌, ◌<◌, ◌+◌, ◌^◌, ◌++◌, ◌∷◌, [], length, IfOk, OnOk, OnErr};
 ghost use Rattle.std.specs.VecDeque.{deque_len, deque_capacity};
 ghost use Rattle.indexmap.specs.IndexMap.{spare};
-ghost use Rattle.rtc_part_media.specs.declared.raw_packet.RawPacket.TheVariants.{RtpRx, RtcpRx};
+ghost use Rattle.rtc_parts.specs.declared.raw_packet.RawPacket.TheVariants.{RtpRx, RtcpRx};
 ghost use Rattle.rtc_plain_media.specs.Feedback.{datagram_of};
 ghost use Rattle.rtc_plain_media.specs.MediaCalls.{if_raw};
 ghost use Rattle.rtc_plain_media.specs.SourceCounts.{updates_numbers};
@@ -12,7 +12,7 @@ use crate::datagram::datagram;
 use crate::event_queue::make_room;
 use crate::lines::Lines;
 use crate::source_counts::{self, SourceCounts, numbers_in};
-use rtc_part_media::{MediaUpdate, RawPacket};
+use rtc_parts::{MediaUpdate, RawPacket};
 use rtc_wire::{Bytes, DatagramSend, TryCopy};
 use std::alloc::{AllocError, Global};
 use std::collections::VecDeque;

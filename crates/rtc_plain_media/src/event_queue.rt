@@ -4,7 +4,7 @@ ghost use Rattle.rtc_plain_media.specs.PlainMediaEvent.{raw_event};
 ghost use Rattle.std.specs.VecDeque.{deque_len, deque_capacity};
 
 use crate::PlainMediaEvent;
-use rtc_part_media::RawPacket;
+use rtc_parts::RawPacket;
 use std::alloc::AllocError;
 use std::collections::VecDeque;
 

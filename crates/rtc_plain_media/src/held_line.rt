@@ -1,6 +1,6 @@
 //! Lines as the part holds them.
 use crate::PlainMark;
-use rtc_part_media::MediaUpdate;
+use rtc_parts::MediaUpdate;
 
 /// A line as the last commit left it, and the mark of its writer.
 #[derive(Drop)]

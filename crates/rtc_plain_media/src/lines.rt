@@ -4,7 +4,7 @@ ghost use Rattle.std.specs.List.{list_any};
 ghost use Rattle.std.specs.Option.{option_copied};
 ghost use Rattle.std.specs.VecDeque.{deque_len, deque_capacity};
 ghost use Rattle.indexmap.specs.IndexMap.{insert_entry, spare};
-ghost use Rattle.rtc_part_media.specs.MediaUpdates.{removed_by, removes, same_mid, update_mid};
+ghost use Rattle.rtc_parts.specs.MediaUpdates.{removed_by, removes, same_mid, update_mid};
 ghost use Rattle.rtc_plain_media.specs.Lines.{
   same_key,
   set_line,
@@ -35,7 +35,7 @@ use crate::line_key::LineKey;
 use crate::source_counts::{self, SourceCounts};
 use crate::{PlainMark, PlainMediaEvent};
 use indexmap::IndexMap;
-use rtc_part_media::MediaUpdate;
+use rtc_parts::MediaUpdate;
 use rtc_sdp_values::{Direction, LineRow, Mid};
 use std::collections::VecDeque;
 

@@ -5,7 +5,7 @@ use crate::line_key::LineKey;
 use crate::lines::{apply_all, drop_line, drop_removed};
 use crate::readings::{has_red, lines_use};
 use crate::{PlainMark, PlainMedia, PlainMediaEvent};
-use rtc_part_media::{
+use rtc_parts::{
     MediaError, MediaSession, MediaSettings, MediaUpdate, NoStream, Reason, SrtpProfile,
     StatsSnapshot,
 };

@@ -6,7 +6,7 @@ use crate::lines::Lines;
 use crate::source_counts::SourceCounts;
 use crate::stream_table::StreamTable;
 use indexmap::IndexMap;
-use rtc_part_media::MediaUpdate;
+use rtc_parts::MediaUpdate;
 use rtc_wire::DatagramSend;
 use std::alloc::Global;
 use std::collections::VecDeque;

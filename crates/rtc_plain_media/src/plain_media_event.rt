@@ -1,5 +1,5 @@
 //! What the plain media part reports.
-use rtc_part_media::{MediaEvent, RawPacket};
+use rtc_parts::{MediaEvent, RawPacket};
 use rtc_sdp_values::{Direction, MediaKind, Mid};
 
 /// An event of the plain media part.

@@ -1,6 +1,6 @@
 //! What the part sends, over all that may be done to it.
 ghost use Rattle.std.specs.Prelude.{◌≡◌, List};
-ghost use Rattle.rtc_part_media.specs.MediaActs.{MediaAct, MediaMoved};
+ghost use Rattle.rtc_parts.specs.MediaActs.{MediaAct, MediaMoved};
 ghost use Rattle.rtc_plain_media.specs.Feedback.{EachBegins};
 ghost use Rattle.rtc_plain_media.specs.MediaContents.{MediaContents, fresh_media};
 ghost use Rattle.rtc_plain_media.specs.PlainMediaMeaning.{plain_media_meaning};

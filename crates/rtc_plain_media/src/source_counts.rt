@@ -13,7 +13,7 @@ ghost use Rattle.rtc_plain_media.specs.SourceCounts.{
 };
 
 use indexmap::IndexMap;
-use rtc_part_media::MediaUpdate;
+use rtc_parts::MediaUpdate;
 use rtc_sdp_values::Ssrc;
 use std::alloc::AllocError;
 

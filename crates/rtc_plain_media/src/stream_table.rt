@@ -22,8 +22,8 @@ ghost use Rattle.std.specs.Prelude.{
 };
 ghost use Rattle.std.specs.Borrow.{LendsSo, LendsSoOk, sem};
 ghost use Rattle.std.specs.List.{list_any, position_or_len};
-ghost use Rattle.rtc_part_media.specs.NoStream.{StreamAnswers};
-ghost use Rattle.rtc_part_media.specs.MediaUpdates.{removed_by};
+ghost use Rattle.rtc_parts.specs.NoStream.{StreamAnswers};
+ghost use Rattle.rtc_parts.specs.MediaUpdates.{removed_by};
 ghost use Rattle.rtc_plain_media.specs.Streams.{
   without_streams,
   has_ssrc,
@@ -43,7 +43,7 @@ use crate::PlainMark;
 use crate::lines::{any_removal, is_removed};
 use crate::stream_index::StreamIndex;
 use crate::stream_row::StreamRow;
-use rtc_part_media::{MediaUpdate, NoStream};
+use rtc_parts::{MediaUpdate, NoStream};
 use rtc_sdp_values::{Mid, Rid, Ssrc};
 use std::alloc::{AllocError, Global};
 use std::collections::VecDeque;

@@ -3,8 +3,8 @@ use Rattle.std.proofs.Common.{◌≡◌, ◌<◌, ◌^◌, ◌∙◌, ℕ, true,
 use Rattle.std.specs.Fmt.{decimal}
 use Rattle.rtc_wire_text.specs.Numbers.{is_numeral}
 use Rattle.rtc_wire_text.proofs.NumberLemmas.{is_numeral-decimal}
-use Rattle.rtc_room_steps.specs.declared.room_step.RoomStep.{RoomStep}
-use Rattle.rtc_room_steps.specs.declared.room_step.RoomStep.TheVariants.{Join, Leave, Perform, Arrive, Forward}
+use Rattle.rtc_room_laws.specs.declared.room_step.RoomStep.{RoomStep}
+use Rattle.rtc_room_laws.specs.declared.room_step.RoomStep.TheVariants.{Join, Leave, Perform, Arrive, Forward}
 use Rattle.rtc_room.specs.RoomLines.{AreWordsOf, IsRoomWord}
 
 no_number : (n : ℕ) → n < 2 ^ 32 → codes "join" ≡ decimal n → ⊥

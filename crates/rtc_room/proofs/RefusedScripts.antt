@@ -7,7 +7,7 @@ use Rattle.rtc_room.specs.RoomScript.{StopsAtRoomLine}
 use Rattle.rtc_room.specs.declared.room_script_error.RoomScriptError.TheVariants.{Line}
 use Rattle.rtc_room.specs.RoomLines.{IsRoomLine}
 use Rattle.rtc_room.proofs.ZipLemmas.{texts, front_zip}
-use Rattle.rtc_room_steps.specs.declared.room_step.RoomStep.{RoomStep}
+use Rattle.rtc_room_laws.specs.declared.room_step.RoomStep.{RoomStep}
 
 -- a shorter front of a front is a front
 front_of_front : (k j : ℕ) (xs : List (List ℕ)) → k ≤ j → take k (take j xs) ≡ take k xs

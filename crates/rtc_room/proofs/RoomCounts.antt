@@ -1,11 +1,11 @@
 -- There is a reply for each step of a room.
 use Rattle.std.proofs.Common.{◌≡◌, ◌∙◌, ◌+◌, ℕ, List, [], ◌∷◌, length, refl, sym, ap, length-append}
 use Rattle.std.specs.declared.alloc.Global.{Global}
-use Rattle.rtc_run_plain.specs.ProgramPair.{PlainPairState}
-use Rattle.rtc_room_steps.specs.RoomRuns.{RoomRuns, room_replies, room_steps}
-use Rattle.rtc_room_steps.specs.RoomSteps.{RoomEntry}
-use Rattle.rtc_room_steps.specs.declared.room_reply.RoomReply.{RoomReply}
-use Rattle.rtc_room_steps.specs.declared.room_step.RoomStep.{RoomStep}
+use Rattle.rtc_run.specs.ProgramPair.{PlainPairState}
+use Rattle.rtc_room_laws.specs.RoomRuns.{RoomRuns, room_replies, room_steps}
+use Rattle.rtc_room_laws.specs.RoomSteps.{RoomEntry}
+use Rattle.rtc_room_laws.specs.declared.room_reply.RoomReply.{RoomReply}
+use Rattle.rtc_room_laws.specs.declared.room_step.RoomStep.{RoomStep}
 
 counts : (past : List RoomEntry) → length (room_replies past) ≡ length (room_steps past)
 counts [] = refl

@@ -3,7 +3,7 @@ use Rattle.std.proofs.Common.{◌≡◌, ◌≤◌, ◌^◌, ℕ, List, length, 
 use Rattle.std.specs.Io.KnownBytes.{Consumes, IsAtEnd}
 use Rattle.rtc_io.proofs.Told.{reads_input}
 use Rattle.rtc_io.specs.Programs.{ReadsInput}
-use Rattle.rtc_room_steps.specs.declared.room_step.RoomStep.{RoomStep}
+use Rattle.rtc_room_laws.specs.declared.room_step.RoomStep.{RoomStep}
 use Rattle.rtc_room.specs.RoomScript.{IsRoomScript, IsRefusedRoomScript}
 use Rattle.rtc_room.specs.declared.room_script_error.RoomScriptError.{RoomScriptError}
 use Rattle.rtc_room.specs.declared.room_script_error.RoomScriptError.TheVariants.{Line}

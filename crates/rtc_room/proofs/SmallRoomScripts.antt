@@ -8,9 +8,9 @@ use Rattle.rtc_run_history.specs.declared.step.Step.{Step}
 use Rattle.rtc_run_history.specs.Sizes.{step_size}
 use Rattle.rtc_script.specs.Lines.{AreStepWords}
 use Rattle.rtc_script.proofs.SmallScripts.{words_small}
-use Rattle.rtc_room_steps.specs.RoomSizes.{room_size, room_step_size}
-use Rattle.rtc_room_steps.specs.declared.room_step.RoomStep.{RoomStep}
-use Rattle.rtc_room_steps.specs.declared.room_step.RoomStep.TheVariants.{Join, Leave, Perform, Arrive, Forward}
+use Rattle.rtc_room_laws.specs.RoomSizes.{room_size, room_step_size}
+use Rattle.rtc_room_laws.specs.declared.room_step.RoomStep.{RoomStep}
+use Rattle.rtc_room_laws.specs.declared.room_step.RoomStep.TheVariants.{Join, Leave, Perform, Arrive, Forward}
 use Rattle.rtc_room.specs.RoomLines.{AreDoWords, AreRoomWords, AreWordsOf, IsRoomLine}
 use Rattle.rtc_room.specs.RoomScript.{HaveRoomLines, IsRoomScript, room_header}
 use Rattle.rtc_room.specs.declared.room_script_error.RoomScriptError.{RoomScriptError}

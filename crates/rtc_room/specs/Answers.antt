@@ -3,10 +3,10 @@ use Rattle.std.specs.Prelude.{◌≡◌, ℕ, List, codes, Option}
 use Rattle.std.specs.Io.KnownBytes.{Appends}
 use Rattle.std.specs.declared.alloc.Global.{Global}
 use Rattle.rtc_io.specs.Programs.{Program, ReadsInput}
-use Rattle.rtc_run_plain.specs.ProgramPair.{PlainPairState}
-use Rattle.rtc_room_steps.specs.RoomRuns.{RoomRuns}
-use Rattle.rtc_room_steps.specs.declared.room_reply.RoomReply.{RoomReply}
-use Rattle.rtc_room_steps.specs.declared.room_step.RoomStep.{RoomStep}
+use Rattle.rtc_run.specs.ProgramPair.{PlainPairState}
+use Rattle.rtc_room_laws.specs.RoomRuns.{RoomRuns}
+use Rattle.rtc_room_laws.specs.declared.room_reply.RoomReply.{RoomReply}
+use Rattle.rtc_room_laws.specs.declared.room_step.RoomStep.{RoomStep}
 use Rattle.rtc_room_laws.specs.RoomHandsOn.{RoomHandsOn}
 use Rattle.rtc_room.specs.RoomReport.{room_report}
 use Rattle.rtc_room.specs.RoomScript.{IsRoomScript, IsRefusedRoomScript}

@@ -5,8 +5,8 @@ use Rattle.rtc_wire_text.specs.Words.{words}
 use Rattle.rtc_run_history.specs.declared.step.Step.{Step}
 use Rattle.rtc_script.specs.Lines.{AreStepWords}
 use Rattle.rtc_script.specs.Numbers.{AreLongNumbers}
-use Rattle.rtc_room_steps.specs.declared.room_step.RoomStep.{RoomStep}
-use Rattle.rtc_room_steps.specs.declared.room_step.RoomStep.TheVariants.{Join, Leave, Perform, Arrive, Forward}
+use Rattle.rtc_room_laws.specs.declared.room_step.RoomStep.{RoomStep}
+use Rattle.rtc_room_laws.specs.declared.room_step.RoomStep.TheVariants.{Join, Leave, Perform, Arrive, Forward}
 
 -- one word, the number of a room
 abbrev pub IsRoomWord : List (List ℕ) → ℕ → Type 0

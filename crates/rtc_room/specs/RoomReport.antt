@@ -2,9 +2,9 @@
 use Rattle.std.specs.Prelude.{◌+◌, ℕ, List, [], ◌∷◌, ◌++◌, codes}
 use Rattle.std.specs.Fmt.{decimal}
 use Rattle.rtc_script_reports.specs.Report.{reply_text}
-use Rattle.rtc_room_steps.specs.declared.room_reply.RoomReply.{RoomReply}
-use Rattle.rtc_room_steps.specs.declared.room_reply.RoomReply.TheVariants.{Joined, Left, Performed, Forwarded, PutOut, NoMember, Full}
-use Rattle.rtc_room_steps.specs.declared.room_reply.RoomReply.TheVariants.{NotAllowed}
+use Rattle.rtc_room_laws.specs.declared.room_reply.RoomReply.{RoomReply}
+use Rattle.rtc_room_laws.specs.declared.room_reply.RoomReply.TheVariants.{Joined, Left, Performed, Forwarded, PutOut, NoMember, Full}
+use Rattle.rtc_room_laws.specs.declared.room_reply.RoomReply.TheVariants.{NotAllowed}
 
 -- the text of a reply: that of a step of a member's pair has several lines
 abbrev pub room_reply_text : RoomReply → List ℕ

@@ -2,7 +2,7 @@
 use Rattle.std.specs.Prelude.{◌≡◌, ◌+◌, ◌-◌, ◌^◌, ◌<◌, ℕ, List, [], ◌∷◌, ◌++◌, length, take, min, codes}
 use Rattle.std.specs.List.{AllZip}
 use Rattle.rtc_wire_text.specs.Lines.{pieces}
-use Rattle.rtc_room_steps.specs.declared.room_step.RoomStep.{RoomStep}
+use Rattle.rtc_room_laws.specs.declared.room_step.RoomStep.{RoomStep}
 use Rattle.rtc_room.specs.RoomLines.{IsRoomLine}
 use Rattle.rtc_room.specs.declared.room_script_error.RoomScriptError.{RoomScriptError}
 use Rattle.rtc_room.specs.declared.room_script_error.RoomScriptError.TheVariants.{Line, Alloc}

@@ -16,7 +16,7 @@ pub use room_script_error::RoomScriptError;
 use rtc_io::{OUT_OF_MEMORY, collect_words};
 pub use rtc_io::{MemSink, MemSource, Sink, Source, StdSink, StdSource};
 pub use rtc_room_hub::run_room;
-pub use rtc_room_steps::{RoomReply, RoomStep};
+pub use rtc_room_laws::{RoomReply, RoomStep};
 use std::process::ExitCode;
 pub use top::room_main;
 

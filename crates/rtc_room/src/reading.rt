@@ -1,11 +1,11 @@
 //! Whole scripts.
 ghost use Rattle.std.specs.Prelude.{◌≡◌, ◌-◌, ◌^◌, ◌≤◌, ◌<◌, [], ◌∷◌, ◌++◌, ◌↔◌, IsTrue, IfOk, IfErr, min, map, length};
-ghost use Rattle.rtc_room_steps.specs.RoomSizes.{room_size};
+ghost use Rattle.rtc_room_laws.specs.RoomSizes.{room_size};
 ghost use Rattle.rtc_room.specs.RoomScript.{room_header, AreRoomPieces, AreRefusedRoomPieces, IsRoomScript, IsRefusedRoomScript};
 
 use crate::RoomScriptError;
 use crate::step_lines::{LinesError, read_room_steps};
-use rtc_room_steps::RoomStep;
+use rtc_room_laws::RoomStep;
 use rtc_wire::Seq;
 use rtc_wire_text::pieces;
 use std::alloc::Global;

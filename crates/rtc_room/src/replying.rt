@@ -5,7 +5,7 @@ ghost use Rattle.rtc_room.specs.RoomReport.{room_report, room_reply_text, room_s
 ghost use Rattle.rtc_script_reports.specs.Report.{reply_text};
 
 use rtc_plain::PlainMediaEvent;
-use rtc_room_steps::{RoomReply, RoomStep};
+use rtc_room_laws::{RoomReply, RoomStep};
 use rtc_run_history::{Reply, Side, Step};
 use rtc_script_reports::write_reply;
 use rtc_wire::Bytes;

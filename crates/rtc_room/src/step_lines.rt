@@ -5,7 +5,7 @@ ghost use Rattle.rtc_room.specs.LinesRead.{IsRoomLinesError};
 ghost use Rattle.rtc_room.specs.declared.step_lines.LinesError.TheVariants.{Alloc};
 
 use crate::step_words::read_room_line;
-use rtc_room_steps::RoomStep;
+use rtc_room_laws::RoomStep;
 use std::alloc::{AllocError, AllocFailed, Global};
 
 /// Why lines behind a header are not lines of steps.

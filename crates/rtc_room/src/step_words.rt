@@ -1,9 +1,9 @@
 //! The words of a line of a room's script.
 ghost use Rattle.std.specs.Prelude.{◌≡◌, ◌≢◌, ◌∷◌, [], ℕ, codes, IfOk, IfSome, IfNone, map};
 ghost use Rattle.rtc_room.specs.RoomLines.{AreRoomWords, AreWordsOf, IsMemberWord, IsRoomLine, IsRoomWord};
-ghost use Rattle.rtc_room_steps.specs.declared.room_step.RoomStep.{RoomStep};
+ghost use Rattle.rtc_room_laws.specs.declared.room_step.RoomStep.{RoomStep};
 
-use rtc_room_steps::RoomStep;
+use rtc_room_laws::RoomStep;
 use rtc_script::{cut_words, is_word, read_step_words, read_two_long, read_u32};
 use rtc_wire::Moment;
 use std::alloc::{AllocError, Global};

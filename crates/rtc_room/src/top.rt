@@ -4,14 +4,14 @@ ghost use Rattle.std.specs.Io.KnownBytes.{Appends};
 ghost use Rattle.rtc_io.specs.Faults.{Rose};
 ghost use Rattle.rtc_io.specs.Saying.{BreaksOff};
 ghost use Rattle.rtc_io.specs.Programs.{IsDue, IsTooLong, RefusesInput, fault_line, long_line};
-ghost use Rattle.rtc_room_steps.specs.RoomSizes.{room_size};
+ghost use Rattle.rtc_room_laws.specs.RoomSizes.{room_size};
 ghost use Rattle.rtc_room.specs.Asking.{asks_to_run_room};
 ghost use Rattle.rtc_room.specs.Answers.{IsRoomReport, RunsRoomScript, WritesReport, room_program};
 
 use crate::{RoomScriptError, ask_to_run, read_script, write_room_report};
 use rtc_io::{OUT_OF_MEMORY, Sink, Source, USAGE, read_input, refuse_input, say};
 use rtc_room_hub::run_room;
-use rtc_room_steps::RoomStep;
+use rtc_room_laws::RoomStep;
 use std::alloc::Global;
 
 // Takes steps in a room that is empty, and writes the report.

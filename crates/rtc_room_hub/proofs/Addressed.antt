@@ -1,9 +1,9 @@
 -- The first member that an input is for.
 use Rattle.std.proofs.Common.{◌≡◌, ◌∙◌, ◌+◌, ◌≤◌, ◌<◌, if◌then◌else◌, ℕ, zero, suc, Bool, true, false, List, [], ◌∷◌, length, drop, get_or, Option, Some, None, refl, sym, ap, arith}
 use Rattle.rtc_peer_transport.specs.declared.input.Input.{Input}
-use Rattle.rtc_run_plain.specs.ProgramPair.{PlainPairState}
-use Rattle.rtc_room_steps.specs.Accepting.{accepts, first_accepting}
-use Rattle.rtc_room_steps.specs.Members.{MemberState}
+use Rattle.rtc_run.specs.ProgramPair.{PlainPairState}
+use Rattle.rtc_room_laws.specs.Accepting.{accepts, first_accepting}
+use Rattle.rtc_room_laws.specs.Members.{MemberState}
 
 drop_suc : {A : Type 0} (xs : List A) (i : ℕ) (x : A) → i < length xs → x ≡ get_or xs i x → drop i xs ≡ x ∷ drop (suc i) xs
 drop_suc [] i x inside is = absurd (omega (arith, inside))

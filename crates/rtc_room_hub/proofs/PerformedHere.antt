@@ -8,11 +8,11 @@ use Rattle.rtc_run_history.specs.declared.step.Step.{Step}
 use Rattle.rtc_run_history.specs.PairState.{rtc_at}
 use Rattle.rtc_run_history.specs.Past.{Entry}
 use Rattle.rtc_run_history.specs.Sides.{side_of}
-use Rattle.rtc_run_plain.specs.ProgramPair.{PlainPairState}
-use Rattle.rtc_room_steps.specs.Hearing.{members_behind}
-use Rattle.rtc_room_steps.specs.Members.{MemberState}
-use Rattle.rtc_room_steps.specs.RoomSizes.{HaveRoom}
-use Rattle.rtc_room_steps.specs.RoomSteps.{PerformsAt, PerformsHere}
+use Rattle.rtc_run.specs.ProgramPair.{PlainPairState}
+use Rattle.rtc_room_laws.specs.Hearing.{members_behind}
+use Rattle.rtc_room_laws.specs.Members.{MemberState}
+use Rattle.rtc_room_laws.specs.RoomSizes.{HaveRoom}
+use Rattle.rtc_room_laws.specs.RoomSteps.{PerformsAt, PerformsHere}
 use Rattle.rtc_room_hub.proofs.RoomSoFar.{room_of}
 
 -- there is room at each place

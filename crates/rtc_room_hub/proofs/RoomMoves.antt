@@ -18,18 +18,18 @@ use Rattle.rtc_run_history.specs.Sides.{side_of}
 use Rattle.rtc_run_history.specs.Sizes.{step_size}
 use Rattle.rtc_run_history.specs.PairState.{rtc_at}
 use Rattle.rtc_run_laws.specs.PlainPairs.{PlainPolled}
-use Rattle.rtc_run_plain.specs.ProgramPair.{PlainPairState, plain_parts}
-use Rattle.rtc_room_steps.specs.Forwarding.{AreTaken, AreWritten, Forwards, SendsItems, WriteEnd, WriteRefused, write_of}
-use Rattle.rtc_room_steps.specs.Hearing.{members_after, members_behind}
-use Rattle.rtc_room_steps.specs.Members.{MemberState, hearing_member, hearing_members, is_here}
-use Rattle.rtc_room_steps.specs.RoomRuns.{is_step_of}
-use Rattle.rtc_room_steps.specs.RoomSizes.{room_step_size}
-use Rattle.rtc_room_steps.specs.RoomSteps.{IsNewPairOf, JoinsRoom, PerformsAt, PerformsHere, RoomState, TakesHere, TakesOf, TakesStep}
-use Rattle.rtc_room_steps.specs.declared.item.Item.{Item}
-use Rattle.rtc_room_steps.specs.declared.room_reply.RoomReply.{RoomReply}
-use Rattle.rtc_room_steps.specs.declared.room_reply.RoomReply.TheVariants as replied
-use Rattle.rtc_room_steps.specs.declared.room_step.RoomStep.{RoomStep}
-use Rattle.rtc_room_steps.specs.declared.room_step.RoomStep.TheVariants.{Join, Leave, Perform, Arrive, Forward}
+use Rattle.rtc_run.specs.ProgramPair.{PlainPairState, plain_parts}
+use Rattle.rtc_room_laws.specs.Forwarding.{AreTaken, AreWritten, Forwards, SendsItems, WriteEnd, WriteRefused, write_of}
+use Rattle.rtc_room_laws.specs.Hearing.{members_after, members_behind}
+use Rattle.rtc_room_laws.specs.Members.{MemberState, hearing_member, hearing_members, is_here}
+use Rattle.rtc_room_laws.specs.RoomRuns.{is_step_of}
+use Rattle.rtc_room_laws.specs.RoomSizes.{room_step_size}
+use Rattle.rtc_room_laws.specs.RoomSteps.{IsNewPairOf, JoinsRoom, PerformsAt, PerformsHere, RoomState, TakesHere, TakesOf, TakesStep}
+use Rattle.rtc_room_laws.specs.declared.item.Item.{Item}
+use Rattle.rtc_room_laws.specs.declared.room_reply.RoomReply.{RoomReply}
+use Rattle.rtc_room_laws.specs.declared.room_reply.RoomReply.TheVariants as replied
+use Rattle.rtc_room_laws.specs.declared.room_step.RoomStep.{RoomStep}
+use Rattle.rtc_room_laws.specs.declared.room_step.RoomStep.TheVariants.{Join, Leave, Perform, Arrive, Forward}
 
 -- ---- how much a forward performs
 

@@ -12,13 +12,13 @@ use Rattle.rtc_run_history.specs.Runs.{EntersSoundly, Reached, Went}
 use Rattle.rtc_run_laws.proofs.PushedLists.{push_places, set_places}
 use Rattle.rtc_run_laws.proofs.StepsExchange.{plain_over_laws}
 use Rattle.rtc_run.proofs.GoingOn.{went_along}
-use Rattle.rtc_run_plain.specs.ProgramPair.{PlainPairState, counting, plain_parts}
-use Rattle.rtc_room_steps.specs.Members.{MemberState}
-use Rattle.rtc_room_steps.specs.RoomRuns.{MemberRan, RoomRuns, RoomWent, is_step_of, performed_of, room_replies, room_steps}
-use Rattle.rtc_room_steps.specs.RoomSizes.{AreWithin, HaveRoom, room_size, room_step_size}
-use Rattle.rtc_room_steps.specs.RoomSteps.{IsNewPairOf, RoomEntry, RoomState, TakesStep}
-use Rattle.rtc_room_steps.specs.declared.room_reply.RoomReply.{RoomReply}
-use Rattle.rtc_room_steps.specs.declared.room_step.RoomStep.{RoomStep}
+use Rattle.rtc_run.specs.ProgramPair.{PlainPairState, counting, plain_parts}
+use Rattle.rtc_room_laws.specs.Members.{MemberState}
+use Rattle.rtc_room_laws.specs.RoomRuns.{MemberRan, RoomRuns, RoomWent, is_step_of, performed_of, room_replies, room_steps}
+use Rattle.rtc_room_laws.specs.RoomSizes.{AreWithin, HaveRoom, room_size, room_step_size}
+use Rattle.rtc_room_laws.specs.RoomSteps.{IsNewPairOf, RoomEntry, RoomState, TakesStep}
+use Rattle.rtc_room_laws.specs.declared.room_reply.RoomReply.{RoomReply}
+use Rattle.rtc_room_laws.specs.declared.room_step.RoomStep.{RoomStep}
 use Rattle.rtc_room_hub.proofs.RoomWithin.{have_room, size_append, within_append, within_at, within_more, within_set}
 use Rattle.rtc_room_hub.proofs.RoomMoves.{AddsPair, KeepsPairs, MovesPair, PairsGo, takes_count, takes_go}
 

@@ -1,9 +1,9 @@
 -- The sizes of the pairs of a room.
 use Rattle.std.proofs.Common.{◌≡◌, ◌+◌, ◌≤◌, ◌<◌, ◌^◌, ◌++◌, ℕ, zero, suc, List, [], ◌∷◌, Some, None, subst, arith}
 use Rattle.std.specs.Prelude.{slice_get, slice_set}
-use Rattle.rtc_run_plain.specs.ProgramPair.{PlainPairState}
-use Rattle.rtc_room_steps.specs.RoomSizes.{AreWithin, HaveRoom, room_size, room_step_size}
-use Rattle.rtc_room_steps.specs.declared.room_step.RoomStep.{RoomStep}
+use Rattle.rtc_run.specs.ProgramPair.{PlainPairState}
+use Rattle.rtc_room_laws.specs.RoomSizes.{AreWithin, HaveRoom, room_size, room_step_size}
+use Rattle.rtc_room_laws.specs.declared.room_step.RoomStep.{RoomStep}
 
 pub within_at : (most k : ℕ) (pairs : List PlainPairState) (pair : PlainPairState) → AreWithin most pairs → slice_get pairs k ≡ Some pair → pair.size ≤ most
 within_at most k [] pair h there = absurd (let bad : None ≡ Some pair = there in cc)

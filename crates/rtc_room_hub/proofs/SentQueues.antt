@@ -9,13 +9,13 @@ use Rattle.rtc_run_history.specs.declared.step.Step.TheVariants.{Write}
 use Rattle.rtc_run_history.specs.Memory.{lacks_memory}
 use Rattle.rtc_run_history.specs.Past.{Entry}
 use Rattle.rtc_run_history.specs.Performs.{Performs}
-use Rattle.rtc_run_plain.specs.ProgramPair.{PlainPairState, plain_parts}
-use Rattle.rtc_room_steps.specs.Forwarding.{Forwards, SendsItems, WriteEnd, NotTaken, NotOpen, WriteRefused, is_write_refused}
-use Rattle.rtc_room_steps.specs.Members.{MemberState, item_bytes, put_out_member}
+use Rattle.rtc_run.specs.ProgramPair.{PlainPairState, plain_parts}
+use Rattle.rtc_room_laws.specs.Forwarding.{Forwards, SendsItems, WriteEnd, NotTaken, NotOpen, WriteRefused, is_write_refused}
+use Rattle.rtc_room_laws.specs.Members.{MemberState, item_bytes, put_out_member}
 use Rattle.rtc_room_hub.specs.SentItems.{SendsItem, SentUpTo, sent_in_outcome}
-use Rattle.rtc_room_steps.specs.declared.item.Item.{Item}
-use Rattle.rtc_room_steps.specs.declared.room_reply.RoomReply.{RoomReply}
-use Rattle.rtc_room_steps.specs.declared.room_reply.RoomReply.TheVariants.{Forwarded, PutOut}
+use Rattle.rtc_room_laws.specs.declared.item.Item.{Item}
+use Rattle.rtc_room_laws.specs.declared.room_reply.RoomReply.{RoomReply}
+use Rattle.rtc_room_laws.specs.declared.room_reply.RoomReply.TheVariants.{Forwarded, PutOut}
 use Rattle.rtc_room_hub.specs.declared.sent.Sent.{Sent}
 
 -- one item

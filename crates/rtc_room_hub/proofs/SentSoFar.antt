@@ -13,11 +13,11 @@ use Rattle.rtc_run_history.specs.Past.{Entry}
 use Rattle.rtc_run_history.specs.Runs.{Reached}
 use Rattle.rtc_run.specs.ExtendsRun.{entry_between}
 use Rattle.rtc_run_laws.specs.PlainPairs.{PlainPolled}
-use Rattle.rtc_run_plain.specs.ProgramPair.{PlainPairState, plain_parts}
-use Rattle.rtc_room_steps.specs.Forwarding.{AreTaken, AreWritten, WriteEnd, NotTaken, NotOpen, WriteRefused, end_outcome, is_write_refused, write_of}
-use Rattle.rtc_room_steps.specs.Members.{item_bytes}
+use Rattle.rtc_run.specs.ProgramPair.{PlainPairState, plain_parts}
+use Rattle.rtc_room_laws.specs.Forwarding.{AreTaken, AreWritten, WriteEnd, NotTaken, NotOpen, WriteRefused, end_outcome, is_write_refused, write_of}
+use Rattle.rtc_room_laws.specs.Members.{item_bytes}
 use Rattle.rtc_room_hub.specs.SentItems.{SendsItem, SentUpTo, sent_in_outcome}
-use Rattle.rtc_room_steps.specs.declared.item.Item.{Item}
+use Rattle.rtc_room_laws.specs.declared.item.Item.{Item}
 use Rattle.rtc_room_hub.specs.declared.sent.Sent.{Sent}
 use Rattle.rtc_room_hub.specs.declared.sent.Sent.TheVariants.{Taken, Waits, Refused as WasRefused}
 use Rattle.rtc_room_hub.proofs.RoomMoves.{taken_size}

@@ -11,16 +11,16 @@ use Rattle.rtc_run_history.specs.declared.step.Step.TheVariants.{Datagram}
 use Rattle.rtc_run_history.specs.Fresh.{ArePeersFormed, IsFresh}
 use Rattle.rtc_run_history.specs.Past.{Entry}
 use Rattle.rtc_run_laws.specs.PlainPairs.{PlainPolled}
-use Rattle.rtc_run_plain.specs.NumberedPair.{IsNumberedPair}
-use Rattle.rtc_run_plain.specs.ProgramPair.{PlainPairState, plain_parts}
-use Rattle.rtc_room_steps.specs.Hearing.{heard_in, line_behind, members_told}
-use Rattle.rtc_room_steps.specs.Members.{MemberState, gone_member, hearing_members, is_here, is_present, new_member}
-use Rattle.rtc_room_steps.specs.RoomSteps.{IsFor, JoinsRoom, PerformsHere, RoomState, TakesRoomStep, TakesStep, is_allowed}
-use Rattle.rtc_room_steps.specs.declared.item.Item.{Item}
-use Rattle.rtc_room_steps.specs.declared.room_reply.RoomReply.{RoomReply}
-use Rattle.rtc_room_steps.specs.declared.room_reply.RoomReply.TheVariants as replied
-use Rattle.rtc_room_steps.specs.declared.room_step.RoomStep.{RoomStep}
-use Rattle.rtc_room_steps.specs.declared.room_step.RoomStep.TheVariants.{Join, Leave, Perform, Arrive, Forward}
+use Rattle.rtc_run.specs.NumberedPair.{IsNumberedPair}
+use Rattle.rtc_run.specs.ProgramPair.{PlainPairState, plain_parts}
+use Rattle.rtc_room_laws.specs.Hearing.{heard_in, line_behind, members_told}
+use Rattle.rtc_room_laws.specs.Members.{MemberState, gone_member, hearing_members, is_here, is_present, new_member}
+use Rattle.rtc_room_laws.specs.RoomSteps.{IsFor, JoinsRoom, PerformsHere, RoomState, TakesRoomStep, TakesStep, is_allowed}
+use Rattle.rtc_room_laws.specs.declared.item.Item.{Item}
+use Rattle.rtc_room_laws.specs.declared.room_reply.RoomReply.{RoomReply}
+use Rattle.rtc_room_laws.specs.declared.room_reply.RoomReply.TheVariants as replied
+use Rattle.rtc_room_laws.specs.declared.room_step.RoomStep.{RoomStep}
+use Rattle.rtc_room_laws.specs.declared.room_step.RoomStep.TheVariants.{Join, Leave, Perform, Arrive, Forward}
 use Rattle.rtc_room_hub.proofs.HeardMembers.{got_there, place_inside}
 use Rattle.rtc_room_hub.proofs.PerformedHere.{some_at}
 use Rattle.rtc_room_hub.proofs.RoomSoFar.{room_of}

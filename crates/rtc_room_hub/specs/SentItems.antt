@@ -8,9 +8,9 @@ use Rattle.rtc_run_history.specs.declared.table.Table.{Table}
 use Rattle.rtc_run_history.specs.Memory.{outcome_lacks}
 use Rattle.rtc_run_history.specs.Past.{Entry}
 use Rattle.rtc_run_history.specs.Performs.{Performs}
-use Rattle.rtc_run_plain.specs.ProgramPair.{PlainPairState, plain_parts}
-use Rattle.rtc_room_steps.specs.Forwarding.{SendsItems, WriteEnd, is_write_refused, write_of}
-use Rattle.rtc_room_steps.specs.declared.item.Item.{Item}
+use Rattle.rtc_run.specs.ProgramPair.{PlainPairState, plain_parts}
+use Rattle.rtc_room_laws.specs.Forwarding.{SendsItems, WriteEnd, is_write_refused, write_of}
+use Rattle.rtc_room_laws.specs.declared.item.Item.{Item}
 use Rattle.rtc_room_hub.specs.declared.sent.Sent.{Sent}
 use Rattle.rtc_room_hub.specs.declared.sent.Sent.TheVariants.{Taken, Waits, Refused as WasRefused}
 

@@ -1,12 +1,12 @@
 //! Which member a datagram is for.
 ghost use Rattle.std.specs.Prelude.{◌≡◌, length};
 ghost use Rattle.std.specs.Option.{option_copied};
-ghost use Rattle.rtc_room_steps.specs.Accepting.{IsAddressee, accepts, first_accepting};
+ghost use Rattle.rtc_room_laws.specs.Accepting.{IsAddressee, accepts, first_accepting};
 
 use crate::member::Member;
 use rtc_peer::Input;
 use rtc_plain::PlainIce;
-use rtc_run_plain::PlainPair;
+use rtc_run::PlainPair;
 use rtc_wire::{Moment, Receive, Transmit};
 
 // Whether an input is for a member: it is here, and its left peer accepts it.

@@ -2,15 +2,15 @@
 ghost use Rattle.std.specs.Prelude.{◌≡◌, ◌≤◌, ◌+◌, ◌<◌, ◌^◌, List, Some, false, length, IfOk};
 ghost use Rattle.rtc_plain_media.specs.declared.plain_media_event.PlainMediaEvent.{PlainMediaEvent};
 ghost use Rattle.rtc_run_history.specs.Past.{Entry};
-ghost use Rattle.rtc_room_steps.specs.Forwarding.{Forwards};
+ghost use Rattle.rtc_room_laws.specs.Forwarding.{Forwards};
 ghost use Rattle.rtc_room_hub.specs.SentItems.{SendsItem, SentUpTo, sent_in_outcome};
 
 use crate::member::Member;
 use crate::sent::{Sent, SentItems};
 use rtc_plain::PlainMediaEvent;
-use rtc_room_steps::{Item, RoomReply};
+use rtc_room_laws::{Item, RoomReply};
+use rtc_run::PlainPair;
 use rtc_run_history::{Outcome, Side, Step};
-use rtc_run_plain::PlainPair;
 use rtc_wire::ChannelId;
 use std::alloc::{AllocError, Global};
 

@@ -2,14 +2,14 @@
 ghost use Rattle.std.specs.Prelude.{◌≡◌, ◌++◌, IfOk, OnOk};
 ghost use Rattle.std.specs.Option.{option_copied};
 ghost use Rattle.rtc_peer.specs.CachedPeer.{polled_of};
-ghost use Rattle.rtc_room_steps.specs.Hearing.{can_be_line, event_heard, heard_in, heard_shown, is_line_config, is_reliable, line_behind};
-ghost use Rattle.rtc_room_steps.specs.Hearing.{line_by, line_opened, line_shown, message_heard};
+ghost use Rattle.rtc_room_laws.specs.Hearing.{can_be_line, event_heard, heard_in, heard_shown, is_line_config, is_reliable, line_behind};
+ghost use Rattle.rtc_room_laws.specs.Hearing.{line_by, line_opened, line_shown, message_heard};
 
 use rtc_peer_transport::{ChannelData, Event};
 use rtc_plain::PlainMediaEvent;
-use rtc_room_steps::Item;
+use rtc_room_laws::Item;
+use rtc_run::PlainPeer;
 use rtc_run_history::Shown;
-use rtc_run_plain::PlainPeer;
 use rtc_wire::{ChannelConfig, ChannelId, Reliability, TryCopy};
 use std::alloc::{AllocError, Global};
 

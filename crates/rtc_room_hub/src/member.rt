@@ -1,8 +1,8 @@
 //! Members.
 ghost use Rattle.std.specs.Prelude.{◌≡◌, ◌≤◌, ◌+◌, [], not, nat_lt, length, drop, OnOk, Option, ℕ};
-ghost use Rattle.rtc_room_steps.specs.Members.{gone_member, hearing_member, is_for_member, new_member, put_out_member, with_items};
+ghost use Rattle.rtc_room_laws.specs.Members.{gone_member, hearing_member, is_for_member, new_member, put_out_member, with_items};
 
-use rtc_room_steps::Item;
+use rtc_room_laws::Item;
 use rtc_wire::{ChannelId, copy_all};
 use std::alloc::{AllocError, Global};
 use std::marker::Model;
@@ -23,7 +23,7 @@ pub struct Member {
 
 impl Model for Member {
     ghost use Rattle.std.specs.Prelude.{◌≤◌, length};
-    ghost use Rattle.rtc_room_steps.specs.Members.{MemberState};
+    ghost use Rattle.rtc_room_laws.specs.Members.{MemberState};
 
     ghost Value = { MemberState };
 

@@ -4,19 +4,19 @@ ghost use Rattle.rtc_plain_media.specs.declared.plain_media_event.PlainMediaEven
 ghost use Rattle.rtc_run_history.specs.PairState.{rtc_at};
 ghost use Rattle.rtc_run_history.specs.Past.{Entry};
 ghost use Rattle.rtc_run_history.specs.Sizes.{step_size};
-ghost use Rattle.rtc_run_plain.specs.ProgramPair.{PlainPairState};
+ghost use Rattle.rtc_run.specs.ProgramPair.{PlainPairState};
 ghost use Rattle.rtc_peer.specs.CachedPeer.{polled_of};
-ghost use Rattle.rtc_room_steps.specs.Hearing.{members_after, members_behind, members_told};
-ghost use Rattle.rtc_room_steps.specs.Members.{MemberState, hearing_members};
-ghost use Rattle.rtc_room_steps.specs.RoomSizes.{HaveRoom};
-ghost use Rattle.rtc_room_steps.specs.RoomSteps.{PerformsAt, PerformsHere, is_allowed};
+ghost use Rattle.rtc_room_laws.specs.Hearing.{members_after, members_behind, members_told};
+ghost use Rattle.rtc_room_laws.specs.Members.{MemberState, hearing_members};
+ghost use Rattle.rtc_room_laws.specs.RoomSizes.{HaveRoom};
+ghost use Rattle.rtc_room_laws.specs.RoomSteps.{PerformsAt, PerformsHere, is_allowed};
 
 use crate::hearing::hear_outputs;
 use crate::member::Member;
 use rtc_plain::PlainMediaEvent;
-use rtc_room_steps::Item;
+use rtc_room_laws::Item;
+use rtc_run::{PlainPair, PlainPeer};
 use rtc_run_history::{Outcome, Reply, Shown, Side, Step};
-use rtc_run_plain::{PlainPair, PlainPeer};
 use rtc_wire::ChannelId;
 use std::alloc::{AllocError, Global};
 

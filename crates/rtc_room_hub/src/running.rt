@@ -1,12 +1,12 @@
 //! Runs of rooms.
 ghost use Rattle.std.specs.Prelude.{◌≡◌, ◌<◌, ◌^◌, [], IfOk};
 ghost use Rattle.rtc_room_laws.specs.RoomHandsOn.{RoomHandsOn};
-ghost use Rattle.rtc_room_steps.specs.RoomRuns.{RoomRuns};
-ghost use Rattle.rtc_room_steps.specs.RoomSizes.{room_size};
+ghost use Rattle.rtc_room_laws.specs.RoomRuns.{RoomRuns};
+ghost use Rattle.rtc_room_laws.specs.RoomSizes.{room_size};
 
 use crate::taking::take_step;
-use rtc_room_steps::{RoomReply, RoomStep};
-use rtc_run_plain::PlainPair;
+use rtc_room_laws::{RoomReply, RoomStep};
+use rtc_run::PlainPair;
 use std::alloc::{AllocError, Global};
 
 /// Takes the steps of a room in order, and returns a reply for each.

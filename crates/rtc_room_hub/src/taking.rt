@@ -3,10 +3,10 @@ ghost use Rattle.std.specs.Prelude.{◌≡◌, ◌↔◌, ◌≤◌, ◌<◌, Is
 ghost use Rattle.rtc_plain_media.specs.declared.plain_media_event.PlainMediaEvent.{PlainMediaEvent};
 ghost use Rattle.rtc_run_history.specs.Past.{Entry};
 ghost use Rattle.rtc_run_history.specs.Sizes.{step_size};
-ghost use Rattle.rtc_room_steps.specs.Members.{MemberState, gone_member, is_here};
-ghost use Rattle.rtc_room_steps.specs.RoomSizes.{HaveRoom, room_step_size};
-ghost use Rattle.rtc_room_steps.specs.RoomSteps.{IsFor, JoinsRoom, TakesRoomStep, TakesStep};
-ghost use Rattle.rtc_room_steps.specs.declared.room_step.RoomStep.TheVariants.{
+ghost use Rattle.rtc_room_laws.specs.Members.{MemberState, gone_member, is_here};
+ghost use Rattle.rtc_room_laws.specs.RoomSizes.{HaveRoom, room_step_size};
+ghost use Rattle.rtc_room_laws.specs.RoomSteps.{IsFor, JoinsRoom, TakesRoomStep, TakesStep};
+ghost use Rattle.rtc_room_laws.specs.declared.room_step.RoomStep.TheVariants.{
   Leave as LeaveOf,
   Perform as PerformOf,
   Arrive as ArriveOf,
@@ -17,9 +17,9 @@ use crate::accepting::addressee;
 use crate::forwarding::forward;
 use crate::member::Member;
 use crate::performing::{is_allowed, perform};
-use rtc_room_steps::{RoomReply, RoomStep};
+use rtc_room_laws::{RoomReply, RoomStep};
+use rtc_run::{PlainPair, make_numbered_pair};
 use rtc_run_history::{Side, Step};
-use rtc_run_plain::{PlainPair, make_numbered_pair};
 use rtc_wire::Moment;
 use std::alloc::{AllocError, Global};
 

@@ -13,15 +13,15 @@ use Rattle.rtc_run_history.specs.declared.reply.Reply.{Reply}
 use Rattle.rtc_run_history.specs.declared.side.Side.{Side}
 use Rattle.rtc_run_history.specs.declared.side.Side.TheVariants.{Left, Right}
 use Rattle.rtc_run_laws.specs.PlainPairs.{PlainPolled}
-use Rattle.rtc_room_steps.specs.Hearing.{heard_in, line_behind, members_after, members_behind}
-use Rattle.rtc_room_steps.specs.Members.{MemberState, hearing_member, hearing_members, is_here, is_present, new_member}
-use Rattle.rtc_room_steps.specs.RoomRuns.{RoomWent, is_step_of, performed_of}
-use Rattle.rtc_room_steps.specs.RoomSteps.{JoinsRoom, RoomEntry, RoomState, TakesHere, TakesOf, TakesStep}
-use Rattle.rtc_room_steps.specs.declared.item.Item.{Item}
-use Rattle.rtc_room_steps.specs.declared.room_reply.RoomReply.{RoomReply}
-use Rattle.rtc_room_steps.specs.declared.room_reply.RoomReply.TheVariants as replied
-use Rattle.rtc_room_steps.specs.declared.room_step.RoomStep.{RoomStep}
-use Rattle.rtc_room_steps.specs.declared.room_step.RoomStep.TheVariants.{Join, Leave, Perform, Arrive, Forward}
+use Rattle.rtc_room_laws.specs.Hearing.{heard_in, line_behind, members_after, members_behind}
+use Rattle.rtc_room_laws.specs.Members.{MemberState, hearing_member, hearing_members, is_here, is_present, new_member}
+use Rattle.rtc_room_laws.specs.RoomRuns.{RoomWent, is_step_of, performed_of}
+use Rattle.rtc_room_laws.specs.RoomSteps.{JoinsRoom, RoomEntry, RoomState, TakesHere, TakesOf, TakesStep}
+use Rattle.rtc_room_laws.specs.declared.item.Item.{Item}
+use Rattle.rtc_room_laws.specs.declared.room_reply.RoomReply.{RoomReply}
+use Rattle.rtc_room_laws.specs.declared.room_reply.RoomReply.TheVariants as replied
+use Rattle.rtc_room_laws.specs.declared.room_step.RoomStep.{RoomStep}
+use Rattle.rtc_room_laws.specs.declared.room_step.RoomStep.TheVariants.{Join, Leave, Perform, Arrive, Forward}
 use Rattle.rtc_room_laws.specs.RoomHandsOn.{are_of_one_room, are_together, entry_told, heard_for, messages_told}
 use Rattle.rtc_room_laws.specs.ItemMessages.{LineMessage}
 use Rattle.rtc_room_laws.proofs.DueRooms.{empty_if}

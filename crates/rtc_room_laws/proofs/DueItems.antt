@@ -5,8 +5,8 @@ use Rattle.std.specs.List.{AllByRecursion}
 use Rattle.std.proofs.lemmas.Bool.{eqb-true}
 use Rattle.rtc_assoc.specs.Unread.{IsPrefix}
 use Rattle.rtc_room_laws.specs.ItemMessages.{LineMessage, messages_from}
-use Rattle.rtc_room_steps.specs.Members.{MemberState, gone_member, hearing_member, put_out_member, with_items}
-use Rattle.rtc_room_steps.specs.declared.item.Item.{Item}
+use Rattle.rtc_room_laws.specs.Members.{MemberState, gone_member, hearing_member, put_out_member, with_items}
+use Rattle.rtc_room_laws.specs.declared.item.Item.{Item}
 use Rattle.rtc_room_laws.proofs.ItemTexts.{item_message, messages_by, messages_by-append, messages_from-append, messages_read, written_message}
 
 -- the items are all of one sender

@@ -12,20 +12,20 @@ use Rattle.rtc_run_history.specs.declared.step.Step.TheVariants.{Datagram}
 use Rattle.rtc_run_history.specs.Past.{Entry}
 use Rattle.rtc_run_history.specs.PairState.{rtc_at}
 use Rattle.rtc_run_history.specs.Sides.{same_side, side_of}
-use Rattle.rtc_run_plain.specs.ProgramPair.{PlainPairState}
-use Rattle.rtc_room_steps.specs.Forwarding.{Forwards, WriteRefused}
+use Rattle.rtc_run.specs.ProgramPair.{PlainPairState}
+use Rattle.rtc_room_laws.specs.Forwarding.{Forwards, WriteRefused}
 use Rattle.rtc_run_laws.specs.PlainPairs.{PlainPolled}
 use Rattle.rtc_room_laws.specs.RoomHandsOn.{are_together, entry_told, messages_told}
-use Rattle.rtc_room_steps.specs.Hearing.{heard_in, outcome_outputs}
+use Rattle.rtc_room_laws.specs.Hearing.{heard_in, outcome_outputs}
 use Rattle.rtc_room_laws.specs.ItemMessages.{LineMessage}
-use Rattle.rtc_room_steps.specs.Members.{MemberState, gone_member, is_here, new_member}
-use Rattle.rtc_room_steps.specs.RoomRuns.{is_step_of}
-use Rattle.rtc_room_steps.specs.RoomSteps.{ForwardsHere, JoinsRoom, PerformsHere, RoomState, TakesHere, TakesOf, TakesStep}
-use Rattle.rtc_room_steps.specs.declared.item.Item.{Item}
-use Rattle.rtc_room_steps.specs.declared.room_reply.RoomReply.{RoomReply}
-use Rattle.rtc_room_steps.specs.declared.room_reply.RoomReply.TheVariants as replied
-use Rattle.rtc_room_steps.specs.declared.room_step.RoomStep.{RoomStep}
-use Rattle.rtc_room_steps.specs.declared.room_step.RoomStep.TheVariants.{Join, Leave, Perform, Arrive, Forward}
+use Rattle.rtc_room_laws.specs.Members.{MemberState, gone_member, is_here, new_member}
+use Rattle.rtc_room_laws.specs.RoomRuns.{is_step_of}
+use Rattle.rtc_room_laws.specs.RoomSteps.{ForwardsHere, JoinsRoom, PerformsHere, RoomState, TakesHere, TakesOf, TakesStep}
+use Rattle.rtc_room_laws.specs.declared.item.Item.{Item}
+use Rattle.rtc_room_laws.specs.declared.room_reply.RoomReply.{RoomReply}
+use Rattle.rtc_room_laws.specs.declared.room_reply.RoomReply.TheVariants as replied
+use Rattle.rtc_room_laws.specs.declared.room_step.RoomStep.{RoomStep}
+use Rattle.rtc_room_laws.specs.declared.room_step.RoomStep.TheVariants.{Join, Leave, Perform, Arrive, Forward}
 use Rattle.rtc_room_laws.proofs.DueItems.{AreWritable, IsDue, due_gone, due_refused, due_sent}
 use Rattle.rtc_room_laws.proofs.ItemTexts.{written_message}
 use Rattle.rtc_room_laws.proofs.HeardSteps.{behind_due, present_stays, told_together}

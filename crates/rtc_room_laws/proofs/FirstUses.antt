@@ -1,7 +1,7 @@
 -- The first channel of a number among those that a peer announced, before a step and after it.
 use Rattle.std.proofs.Common.{◌≡◌, ◌∙◌, ◌⊎◌, inl, inr, ◌==◌, ◌++◌, if◌then◌else◌, ℕ, Bool, true, false, true≢false, List, [], ◌∷◌, map, Option, Some, None, refl, sym, ap, subst}
 use Rattle.rtc_wire.specs.declared.addr.Addr.{Addr}
-use Rattle.rtc_part_values.specs.Among.{Member}
+use Rattle.rtc_parts.specs.Among.{Member}
 use Rattle.rtc_plain_ice.specs.Messages.{is_ice_message}
 use Rattle.rtc_plain_media.specs.declared.plain_media_event.PlainMediaEvent.{PlainMediaEvent}
 use Rattle.rtc_channels.specs.Channels.{Channel}
@@ -24,7 +24,7 @@ use Rattle.rtc_run_laws.specs.ChannelUses.{ChannelUse, announced_use, loses_chan
 use Rattle.rtc_run_laws.specs.PlainPairs.{PlainPolled}
 use Rattle.rtc_run_laws.specs.PollsOfRuns.{by_drain_step, by_poll_step, by_polls}
 use Rattle.rtc_run_laws.specs.UsesOfRuns.{uses_acted, uses_written}
-use Rattle.rtc_run_plain.specs.ProgramPair.{plain_parts}
+use Rattle.rtc_run.specs.ProgramPair.{plain_parts}
 use Rattle.rtc_room_laws.specs.RoomHandsOn.{first_use}
 use Rattle.rtc_room_laws.specs.ItemMessages.{LineMessage}
 use Rattle.rtc_room_laws.proofs.Talks.{blank, blanks}

@@ -2,7 +2,7 @@
 use Rattle.std.proofs.Common.{◌≡◌, ◌≢◌, ◌∙◌, ◌++◌, ℕ, true, false, List, [], ◌∷◌, Option, Some, refl, sym, ap, subst, append-nil, append_assoc}
 use Rattle.std.specs.Prelude.{slice_get}
 use Rattle.std.specs.declared.alloc.Global.{Global}
-use Rattle.rtc_part_values.specs.Among.{Member}
+use Rattle.rtc_parts.specs.Among.{Member}
 use Rattle.rtc_plain_ice.specs.Messages.{is_ice_message}
 use Rattle.rtc_plain_media.specs.declared.plain_media_event.PlainMediaEvent.{PlainMediaEvent}
 use Rattle.rtc_assoc.specs.Unread.{IsPrefix}
@@ -21,12 +21,12 @@ use Rattle.rtc_run_laws.proofs.DrainedRuns.{new_unused, pair_drained}
 use Rattle.rtc_run_laws.proofs.RunsTold.{PairTold, new_pair_told, pair_handed_over, pair_whole, reached_told}
 use Rattle.rtc_run_laws.proofs.UseLists.{all_member, prefix_through}
 use Rattle.rtc_run_laws.proofs.UsesTold.{InBandTold, use_opened}
-use Rattle.rtc_run_plain.specs.ProgramPair.{PlainPairState, counting, plain_parts}
-use Rattle.rtc_room_steps.specs.Members.{MemberState}
-use Rattle.rtc_room_steps.specs.RoomRuns.{MemberRan, RoomRuns, RoomWent, performed_of}
-use Rattle.rtc_room_steps.specs.RoomSteps.{RoomEntry, RoomState}
-use Rattle.rtc_room_steps.specs.declared.room_reply.RoomReply.{RoomReply}
-use Rattle.rtc_room_steps.specs.declared.room_step.RoomStep.{RoomStep}
+use Rattle.rtc_run.specs.ProgramPair.{PlainPairState, counting, plain_parts}
+use Rattle.rtc_room_laws.specs.Members.{MemberState}
+use Rattle.rtc_room_laws.specs.RoomRuns.{MemberRan, RoomRuns, RoomWent, performed_of}
+use Rattle.rtc_room_laws.specs.RoomSteps.{RoomEntry, RoomState}
+use Rattle.rtc_room_laws.specs.declared.room_reply.RoomReply.{RoomReply}
+use Rattle.rtc_room_laws.specs.declared.room_step.RoomStep.{RoomStep}
 use Rattle.rtc_room_laws.specs.RoomHandsOn.{GetsOf, RoomHandsOn, IsHeardOf, AreLineEnds, IsStretch, first_use, heard_for, sent_at, uses_at}
 use Rattle.rtc_room_laws.specs.ItemMessages.{LineMessage, messages_from}
 use Rattle.rtc_room_laws.proofs.DueItems.{IsDue}

@@ -15,12 +15,12 @@ use Rattle.rtc_run_history.specs.declared.side.Side.{Side}
 use Rattle.rtc_run_history.specs.declared.side.Side.TheVariants.{Left, Right}
 use Rattle.rtc_run_history.specs.Sides.{same_side}
 use Rattle.rtc_run_laws.specs.PlainPairs.{PlainPolled}
-use Rattle.rtc_run_plain.specs.ProgramPair.{PlainPairState}
+use Rattle.rtc_run.specs.ProgramPair.{PlainPairState}
 use Rattle.rtc_room_laws.specs.RoomHandsOn.{are_of_one_room, messages_told}
-use Rattle.rtc_room_steps.specs.Hearing.{event_heard, heard_in, heard_shown, line_behind, line_shown, members_after, members_behind, message_heard, outcome_outputs}
+use Rattle.rtc_room_laws.specs.Hearing.{event_heard, heard_in, heard_shown, line_behind, line_shown, members_after, members_behind, message_heard, outcome_outputs}
 use Rattle.rtc_room_laws.specs.ItemMessages.{LineMessage}
-use Rattle.rtc_room_steps.specs.Members.{MemberState, is_present}
-use Rattle.rtc_room_steps.specs.declared.item.Item.{Item}
+use Rattle.rtc_room_laws.specs.Members.{MemberState, is_present}
+use Rattle.rtc_room_laws.specs.declared.item.Item.{Item}
 use Rattle.rtc_room_laws.proofs.DueItems.{AreOf, IsDue}
 use Rattle.rtc_room_laws.proofs.ItemTexts.{item_message}
 use Rattle.rtc_room_laws.proofs.MembersHear.{due_told, some_is, told_of}

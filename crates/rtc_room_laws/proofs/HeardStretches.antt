@@ -3,9 +3,9 @@ use Rattle.std.proofs.Common.{◌≡◌, ◌≢◌, ◌∙◌, inl, inr, ◌==�
 use Rattle.std.specs.Prelude.{not, slice_get}
 use Rattle.std.specs.declared.alloc.Global.{Global}
 use Rattle.std.proofs.lemmas.Bool.{eqb-true}
-use Rattle.rtc_room_steps.specs.Members.{MemberState}
-use Rattle.rtc_room_steps.specs.RoomRuns.{RoomWent}
-use Rattle.rtc_room_steps.specs.RoomSteps.{RoomEntry, RoomState}
+use Rattle.rtc_room_laws.specs.Members.{MemberState}
+use Rattle.rtc_room_laws.specs.RoomRuns.{RoomWent}
+use Rattle.rtc_room_laws.specs.RoomSteps.{RoomEntry, RoomState}
 use Rattle.rtc_room_laws.specs.RoomHandsOn.{IsStretch, are_of_one_room, are_together, entry_told, heard_for}
 use Rattle.rtc_room_laws.specs.ItemMessages.{LineMessage}
 use Rattle.rtc_room_laws.proofs.AbsentMembers.{apart_if_absent, apart_if_unspoken, apart_told, unheard_by, unheard_of}

@@ -5,8 +5,8 @@ use Rattle.std.specs.Int.{w32, from_be_bytes, to_be_bytes}
 use Rattle.std.specs.List.{AllByRecursion}
 use Rattle.std.proofs.lemmas.Nat.{from_be_bytes-to_be_bytes_4}
 use Rattle.rtc_room_laws.specs.ItemMessages.{LineMessage, message_from, messages_from}
-use Rattle.rtc_room_steps.specs.Members.{item_bytes, binary_byte}
-use Rattle.rtc_room_steps.specs.declared.item.Item.{Item}
+use Rattle.rtc_room_laws.specs.Members.{item_bytes, binary_byte}
+use Rattle.rtc_room_laws.specs.declared.item.Item.{Item}
 
 -- an item without its sender
 abbrev pub item_message : Item → LineMessage

@@ -15,14 +15,14 @@ use Rattle.rtc_run_history.specs.declared.side.Side.TheVariants.{Left, Right}
 use Rattle.rtc_run_history.specs.declared.step.Step.{Step}
 use Rattle.rtc_run_laws.specs.ChannelUses.{ChannelUse}
 use Rattle.rtc_run_laws.specs.PlainPairs.{PlainPolled}
-use Rattle.rtc_run_plain.specs.ProgramPair.{PlainPairState}
-use Rattle.rtc_room_steps.specs.Hearing.{heard_in, line_behind, members_after, members_behind, outcome_outputs}
-use Rattle.rtc_room_steps.specs.Members.{MemberState, hearing_members}
-use Rattle.rtc_room_steps.specs.RoomRuns.{is_step_of}
-use Rattle.rtc_room_steps.specs.RoomSteps.{PerformsHere, RoomState}
-use Rattle.rtc_room_steps.specs.declared.item.Item.{Item}
-use Rattle.rtc_room_steps.specs.declared.room_reply.RoomReply.{RoomReply}
-use Rattle.rtc_room_steps.specs.declared.room_step.RoomStep.{RoomStep}
+use Rattle.rtc_run.specs.ProgramPair.{PlainPairState}
+use Rattle.rtc_room_laws.specs.Hearing.{heard_in, line_behind, members_after, members_behind, outcome_outputs}
+use Rattle.rtc_room_laws.specs.Members.{MemberState, hearing_members}
+use Rattle.rtc_room_laws.specs.RoomRuns.{is_step_of}
+use Rattle.rtc_room_laws.specs.RoomSteps.{PerformsHere, RoomState}
+use Rattle.rtc_room_laws.specs.declared.item.Item.{Item}
+use Rattle.rtc_room_laws.specs.declared.room_reply.RoomReply.{RoomReply}
+use Rattle.rtc_room_laws.specs.declared.room_step.RoomStep.{RoomStep}
 use Rattle.rtc_room_laws.specs.RoomHandsOn.{entry_told, messages_told}
 use Rattle.rtc_room_laws.specs.ItemMessages.{LineMessage}
 use Rattle.rtc_room_laws.proofs.DueRooms.{written_there}

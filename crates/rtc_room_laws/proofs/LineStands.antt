@@ -13,9 +13,9 @@ use Rattle.rtc_run_history.specs.declared.shown.Shown.{Shown}
 use Rattle.rtc_run_history.specs.declared.shown.Shown.TheVariants as shows
 use Rattle.rtc_run_laws.specs.ChannelUses.{ChannelUse, with_got_message, with_sent_message}
 use Rattle.rtc_run_laws.specs.PlainPairs.{PlainPolled}
-use Rattle.rtc_room_steps.specs.Forwarding.{write_of}
-use Rattle.rtc_room_steps.specs.Hearing.{can_be_line, event_heard, heard_in, heard_shown, line_behind, line_by, line_opened, line_shown, message_heard}
-use Rattle.rtc_room_steps.specs.declared.item.Item.{Item}
+use Rattle.rtc_room_laws.specs.Forwarding.{write_of}
+use Rattle.rtc_room_laws.specs.Hearing.{can_be_line, event_heard, heard_in, heard_shown, line_behind, line_by, line_opened, line_shown, message_heard}
+use Rattle.rtc_room_laws.specs.declared.item.Item.{Item}
 use Rattle.rtc_room_laws.specs.RoomHandsOn.{first_use}
 use Rattle.rtc_room_laws.specs.ItemMessages.{LineMessage}
 use Rattle.rtc_room_laws.proofs.ItemTexts.{item_message, written_message}

@@ -12,16 +12,16 @@ use Rattle.rtc_run_history.specs.declared.step.Step.{Step}
 use Rattle.rtc_run_history.specs.declared.step.Step.TheVariants.{Negotiate, AcceptOffer, AcceptAnswer, Time, Datagram, Poll, Drain}
 use Rattle.rtc_run_history.specs.declared.step.Step.TheVariants.{Write, CloseChannel, Close, Rollback, ForeignOffer, ForeignAnswer, Raw}
 use Rattle.rtc_run_laws.specs.ChannelUses.{ChannelUse}
-use Rattle.rtc_run_plain.specs.ProgramPair.{PlainPairState}
-use Rattle.rtc_room_steps.specs.Forwarding.{AreTaken, AreWritten, Forwards, NotOpen, NotTaken, WriteEnd, WriteRefused, end_outcome, write_of}
-use Rattle.rtc_room_steps.specs.Hearing.{outcome_outputs}
-use Rattle.rtc_room_steps.specs.Members.{MemberState, gone_member, is_here, new_member}
-use Rattle.rtc_room_steps.specs.RoomSteps.{ForwardsHere, JoinsRoom, RoomState, TakesHere, TakesOf, TakesStep, is_allowed}
-use Rattle.rtc_room_steps.specs.declared.item.Item.{Item}
-use Rattle.rtc_room_steps.specs.declared.room_reply.RoomReply.{RoomReply}
-use Rattle.rtc_room_steps.specs.declared.room_reply.RoomReply.TheVariants as replied
-use Rattle.rtc_room_steps.specs.declared.room_step.RoomStep.{RoomStep}
-use Rattle.rtc_room_steps.specs.declared.room_step.RoomStep.TheVariants.{Join, Leave, Perform, Arrive, Forward}
+use Rattle.rtc_run.specs.ProgramPair.{PlainPairState}
+use Rattle.rtc_room_laws.specs.Forwarding.{AreTaken, AreWritten, Forwards, NotOpen, NotTaken, WriteEnd, WriteRefused, end_outcome, write_of}
+use Rattle.rtc_room_laws.specs.Hearing.{outcome_outputs}
+use Rattle.rtc_room_laws.specs.Members.{MemberState, gone_member, is_here, new_member}
+use Rattle.rtc_room_laws.specs.RoomSteps.{ForwardsHere, JoinsRoom, RoomState, TakesHere, TakesOf, TakesStep, is_allowed}
+use Rattle.rtc_room_laws.specs.declared.item.Item.{Item}
+use Rattle.rtc_room_laws.specs.declared.room_reply.RoomReply.{RoomReply}
+use Rattle.rtc_room_laws.specs.declared.room_reply.RoomReply.TheVariants as replied
+use Rattle.rtc_room_laws.specs.declared.room_step.RoomStep.{RoomStep}
+use Rattle.rtc_room_laws.specs.declared.room_step.RoomStep.TheVariants.{Join, Leave, Perform, Arrive, Forward}
 use Rattle.rtc_room_laws.specs.RoomHandsOn.{entry_told, messages_told}
 use Rattle.rtc_room_laws.specs.ItemMessages.{LineMessage}
 use Rattle.rtc_room_laws.proofs.DueRooms.{and_true, no_member_told}

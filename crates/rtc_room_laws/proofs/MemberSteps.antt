@@ -12,16 +12,16 @@ use Rattle.rtc_run_history.specs.declared.shown.Shown.{Shown}
 use Rattle.rtc_run_history.specs.declared.side.Side.{Side}
 use Rattle.rtc_run_history.specs.declared.side.Side.TheVariants.{Left, Right}
 use Rattle.rtc_run_laws.specs.PlainPairs.{PlainPolled}
-use Rattle.rtc_run_plain.specs.ProgramPair.{PlainPairState}
-use Rattle.rtc_room_steps.specs.Forwarding.{Forwards}
-use Rattle.rtc_room_steps.specs.Hearing.{heard_in, line_behind, members_after, members_behind}
-use Rattle.rtc_room_steps.specs.Members.{MemberState, gone_member, hearing_member, hearing_members, is_for_member, is_here, new_member, put_out_member, with_items}
-use Rattle.rtc_room_steps.specs.RoomSteps.{JoinsRoom, RoomState, TakesHere, TakesOf, TakesStep}
-use Rattle.rtc_room_steps.specs.declared.item.Item.{Item}
-use Rattle.rtc_room_steps.specs.declared.room_reply.RoomReply.{RoomReply}
-use Rattle.rtc_room_steps.specs.declared.room_reply.RoomReply.TheVariants as replied
-use Rattle.rtc_room_steps.specs.declared.room_step.RoomStep.{RoomStep}
-use Rattle.rtc_room_steps.specs.declared.room_step.RoomStep.TheVariants.{Join, Leave, Perform, Arrive, Forward}
+use Rattle.rtc_run.specs.ProgramPair.{PlainPairState}
+use Rattle.rtc_room_laws.specs.Forwarding.{Forwards}
+use Rattle.rtc_room_laws.specs.Hearing.{heard_in, line_behind, members_after, members_behind}
+use Rattle.rtc_room_laws.specs.Members.{MemberState, gone_member, hearing_member, hearing_members, is_for_member, is_here, new_member, put_out_member, with_items}
+use Rattle.rtc_room_laws.specs.RoomSteps.{JoinsRoom, RoomState, TakesHere, TakesOf, TakesStep}
+use Rattle.rtc_room_laws.specs.declared.item.Item.{Item}
+use Rattle.rtc_room_laws.specs.declared.room_reply.RoomReply.{RoomReply}
+use Rattle.rtc_room_laws.specs.declared.room_reply.RoomReply.TheVariants as replied
+use Rattle.rtc_room_laws.specs.declared.room_step.RoomStep.{RoomStep}
+use Rattle.rtc_room_laws.specs.declared.room_step.RoomStep.TheVariants.{Join, Leave, Perform, Arrive, Forward}
 use Rattle.rtc_room_laws.proofs.DueItems.{AreOf, AreWritable}
 use Rattle.rtc_room_laws.proofs.HeardSteps.{heard_of_sender}
 use Rattle.rtc_room_laws.proofs.MembersHear.{some_is, written_at}

@@ -3,8 +3,8 @@ use Rattle.std.proofs.Common.{◌≡◌, ◌≢◌, ◌∙◌, ◌⊎◌, inl, i
 use Rattle.std.specs.Prelude.{not, slice_get, slice_set}
 use Rattle.std.proofs.lemmas.Bool.{eqb-true}
 use Rattle.rtc_room_laws.specs.ItemMessages.{LineMessage}
-use Rattle.rtc_room_steps.specs.Members.{MemberState, hearing_member, hearing_members}
-use Rattle.rtc_room_steps.specs.declared.item.Item.{Item}
+use Rattle.rtc_room_laws.specs.Members.{MemberState, hearing_member, hearing_members}
+use Rattle.rtc_room_laws.specs.declared.item.Item.{Item}
 use Rattle.rtc_room_laws.proofs.DueItems.{AreOf, IsDue, due_hears, hears_nothing, told_to}
 use Rattle.rtc_room_laws.proofs.ItemTexts.{item_message}
 

@@ -14,18 +14,18 @@ use Rattle.rtc_run_history.specs.declared.step.Step.{Step}
 use Rattle.rtc_run_history.specs.declared.step.Step.TheVariants.{Negotiate, AcceptOffer, AcceptAnswer, Time, Datagram, Poll, Drain}
 use Rattle.rtc_run_history.specs.declared.step.Step.TheVariants.{Write, CloseChannel, Close, Rollback, ForeignOffer, ForeignAnswer, Raw}
 use Rattle.rtc_run_laws.specs.NewPairs.{IsNewPair, IsNewPeer}
-use Rattle.rtc_run_plain.specs.NumberedPair.{IsNumberedPair, default_settings, numbered_address}
-use Rattle.rtc_run_plain.specs.ProgramPair.{IsProgramPeer, PlainPairState, PlainPeer, counting, host_at, left_address, program_config}
-use Rattle.rtc_run_plain.specs.declared.peer_settings.PeerSettings.{PeerSettings}
-use Rattle.rtc_room_steps.specs.Forwarding.{AreTaken, AreWritten, Forwards, WriteEnd, WriteRefused}
-use Rattle.rtc_room_steps.specs.Members.{MemberState, is_here}
-use Rattle.rtc_room_steps.specs.RoomRuns.{RoomWent, is_step_of, performed_of}
-use Rattle.rtc_room_steps.specs.RoomSteps.{RoomEntry, RoomState, TakesHere, TakesOf, TakesStep, is_allowed}
-use Rattle.rtc_room_steps.specs.declared.item.Item.{Item}
-use Rattle.rtc_room_steps.specs.declared.room_reply.RoomReply.{RoomReply}
-use Rattle.rtc_room_steps.specs.declared.room_reply.RoomReply.TheVariants as replied
-use Rattle.rtc_room_steps.specs.declared.room_step.RoomStep.{RoomStep}
-use Rattle.rtc_room_steps.specs.declared.room_step.RoomStep.TheVariants.{Join, Leave, Perform, Arrive, Forward}
+use Rattle.rtc_run.specs.NumberedPair.{IsNumberedPair, default_settings, numbered_address}
+use Rattle.rtc_run.specs.ProgramPair.{IsProgramPeer, PlainPairState, PlainPeer, counting, host_at, left_address, program_config}
+use Rattle.rtc_run.specs.declared.peer_settings.PeerSettings.{PeerSettings}
+use Rattle.rtc_room_laws.specs.Forwarding.{AreTaken, AreWritten, Forwards, WriteEnd, WriteRefused}
+use Rattle.rtc_room_laws.specs.Members.{MemberState, is_here}
+use Rattle.rtc_room_laws.specs.RoomRuns.{RoomWent, is_step_of, performed_of}
+use Rattle.rtc_room_laws.specs.RoomSteps.{RoomEntry, RoomState, TakesHere, TakesOf, TakesStep, is_allowed}
+use Rattle.rtc_room_laws.specs.declared.item.Item.{Item}
+use Rattle.rtc_room_laws.specs.declared.room_reply.RoomReply.{RoomReply}
+use Rattle.rtc_room_laws.specs.declared.room_reply.RoomReply.TheVariants as replied
+use Rattle.rtc_room_laws.specs.declared.room_step.RoomStep.{RoomStep}
+use Rattle.rtc_room_laws.specs.declared.room_step.RoomStep.TheVariants.{Join, Leave, Perform, Arrive, Forward}
 
 -- ---- steps
 

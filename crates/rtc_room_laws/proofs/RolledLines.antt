@@ -2,7 +2,7 @@
 -- rollback removed the channel: of one that was removed no write is taken.
 use Rattle.std.proofs.Common.{◌≡◌, ◌∙◌, ◌⊎◌, inl, inr, ◌++◌, if◌then◌else◌, ℕ, Bool, true, false, true≢false, List, [], ◌∷◌, Option, Some, None, refl, sym, ap, subst, append-nil}
 use Rattle.rtc_wire.specs.declared.addr.Addr.{Addr}
-use Rattle.rtc_part_values.specs.Among.{Member}
+use Rattle.rtc_parts.specs.Among.{Member}
 use Rattle.rtc_plain_ice.specs.Messages.{is_ice_message}
 use Rattle.rtc_plain_media.specs.declared.plain_media_event.PlainMediaEvent.{PlainMediaEvent}
 use Rattle.rtc_peer_transport.specs.ChannelCalls.{open_stream_under}
@@ -34,10 +34,10 @@ use Rattle.rtc_run_laws.proofs.OpenStreams.{open_placed}
 use Rattle.rtc_run_laws.proofs.RunsTold.{PairTold, new_pair_told, pair_whole, reached_told}
 use Rattle.rtc_run_laws.proofs.UseLists.{all_member}
 use Rattle.rtc_run_laws.proofs.UsesTold.{InBandTold}
-use Rattle.rtc_run_plain.specs.ProgramPair.{PlainPairState, counting, plain_parts}
-use Rattle.rtc_room_steps.specs.Forwarding.{write_of}
-use Rattle.rtc_room_steps.specs.Members.{item_bytes}
-use Rattle.rtc_room_steps.specs.declared.item.Item.{Item}
+use Rattle.rtc_run.specs.ProgramPair.{PlainPairState, counting, plain_parts}
+use Rattle.rtc_room_laws.specs.Forwarding.{write_of}
+use Rattle.rtc_room_laws.specs.Members.{item_bytes}
+use Rattle.rtc_room_laws.specs.declared.item.Item.{Item}
 use Rattle.rtc_room_laws.specs.RoomHandsOn.{first_use}
 use Rattle.rtc_room_laws.specs.ItemMessages.{LineMessage}
 use Rattle.rtc_room_laws.proofs.LineStands.{first_number}

@@ -1,8 +1,8 @@
 -- Worked examples of what members hear: a text of member 0 of room 7, which member 1 is sent and member 2 of room 8 is not.
 use Rattle.std.proofs.Common.{◌≡◌, true, false, [], ◌∷◌, refl}
-use Rattle.rtc_room_steps.specs.Members.{gone_member, hearing_member, new_member}
-use Rattle.rtc_room_steps.specs.RoomSteps.{RoomState}
-use Rattle.rtc_room_steps.specs.declared.item.Item.{Item}
+use Rattle.rtc_room_laws.specs.Members.{gone_member, hearing_member, new_member}
+use Rattle.rtc_room_laws.specs.RoomSteps.{RoomState}
+use Rattle.rtc_room_laws.specs.declared.item.Item.{Item}
 use Rattle.rtc_room_laws.specs.ItemMessages.{messages_from}
 use Rattle.rtc_room_laws.specs.RoomHandsOn.{are_together}
 use Rattle.rtc_room_laws.proofs.ItemTexts.{written_message}

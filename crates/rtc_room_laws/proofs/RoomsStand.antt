@@ -4,9 +4,9 @@ use Rattle.std.specs.Prelude.{slice_get}
 use Rattle.std.specs.declared.alloc.Global.{Global}
 use Rattle.rtc_plain_media.specs.declared.plain_media_event.PlainMediaEvent.{PlainMediaEvent}
 use Rattle.rtc_run_history.specs.Past.{Entry}
-use Rattle.rtc_room_steps.specs.Members.{MemberState}
-use Rattle.rtc_room_steps.specs.RoomRuns.{RoomWent, is_step_of, performed_of}
-use Rattle.rtc_room_steps.specs.RoomSteps.{RoomEntry, RoomState}
+use Rattle.rtc_room_laws.specs.Members.{MemberState}
+use Rattle.rtc_room_laws.specs.RoomRuns.{RoomWent, is_step_of, performed_of}
+use Rattle.rtc_room_laws.specs.RoomSteps.{RoomEntry, RoomState}
 use Rattle.rtc_room_laws.specs.RoomHandsOn.{are_together, entry_told, heard_for}
 use Rattle.rtc_room_laws.specs.ItemMessages.{LineMessage}
 use Rattle.rtc_room_laws.proofs.AbsentMembers.{absent_told, apart_if_absent, apart_told, none_before, unheard_by, unperformed, unperformed_with}

@@ -11,10 +11,10 @@ use Rattle.rtc_run_history.specs.declared.step.Step.TheVariants.{Negotiate, Acce
 use Rattle.rtc_run_history.specs.declared.step.Step.TheVariants.{Write, CloseChannel, Close, Rollback, ForeignOffer, ForeignAnswer, Raw}
 use Rattle.rtc_run_history.specs.Past.{Entry}
 use Rattle.rtc_run_history.specs.Sides.{same_side}
-use Rattle.rtc_room_steps.specs.Forwarding.{AreTaken, AreWritten, WriteEnd, NotTaken, NotOpen, WriteRefused, end_outcome}
+use Rattle.rtc_room_laws.specs.Forwarding.{AreTaken, AreWritten, WriteEnd, NotTaken, NotOpen, WriteRefused, end_outcome}
 use Rattle.rtc_room_laws.specs.ItemMessages.{LineMessage}
-use Rattle.rtc_room_steps.specs.RoomSteps.{is_allowed}
-use Rattle.rtc_room_steps.specs.declared.item.Item.{Item}
+use Rattle.rtc_room_laws.specs.RoomSteps.{is_allowed}
+use Rattle.rtc_room_laws.specs.declared.item.Item.{Item}
 use Rattle.rtc_room_laws.proofs.ItemTexts.{written_message}
 
 -- a message, if its write was taken

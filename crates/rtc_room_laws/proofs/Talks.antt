@@ -34,8 +34,8 @@ use Rattle.rtc_run_laws.specs.ChannelUses.{ChannelUse, announced_use, loses_chan
 use Rattle.rtc_run_laws.specs.PlainPairs.{PlainPolled}
 use Rattle.rtc_run_laws.specs.PollsOfRuns.{by_drain_step, by_poll_step, by_polls}
 use Rattle.rtc_run_laws.specs.UsesOfRuns.{uses_acted, uses_of, uses_written}
-use Rattle.rtc_run_plain.specs.ProgramPair.{PlainPairState, plain_parts}
-use Rattle.rtc_room_steps.specs.Hearing.{outcome_outputs}
+use Rattle.rtc_run.specs.ProgramPair.{PlainPairState, plain_parts}
+use Rattle.rtc_room_laws.specs.Hearing.{outcome_outputs}
 use Rattle.rtc_room_laws.specs.ItemMessages.{LineMessage}
 use Rattle.rtc_room_laws.proofs.UntoldOutcomes.{answer_untold, calls_untold, closes_untold, negotiates_untold, offer_untold, rollback_untold, takes_untold}
 

@@ -16,8 +16,8 @@ use Rattle.rtc_run_history.specs.declared.outcome.Outcome.TheVariants.{Negotiate
 use Rattle.rtc_run_history.specs.declared.side.Side.{Side}
 use Rattle.rtc_run_history.specs.declared.table.Table.{Table}
 use Rattle.rtc_run_laws.specs.PlainPairs.{PlainPolled}
-use Rattle.rtc_run_plain.specs.ProgramPair.{PlainPeer, plain_parts}
-use Rattle.rtc_room_steps.specs.Hearing.{outcome_outputs}
+use Rattle.rtc_run.specs.ProgramPair.{PlainPeer, plain_parts}
+use Rattle.rtc_room_laws.specs.Hearing.{outcome_outputs}
 
 pub calls_untold : (call : PlainPolled ℕ → Result (Unit {0}) RtcError → PlainPolled ℕ → Type 0) (old : PlainPolled ℕ) (outcome : Outcome PlainMediaEvent)
     (table : Option Table) (new : PlainPolled ℕ) → StepCalls plain_parts call old outcome table new → outcome_outputs outcome ≡ []

@@ -15,9 +15,9 @@ use Rattle.rtc_run_history.specs.declared.step.Step.TheVariants.{Negotiate, Acce
 use Rattle.rtc_run_history.specs.declared.step.Step.TheVariants.{Write, CloseChannel, Close, Rollback, ForeignOffer, ForeignAnswer, Raw}
 use Rattle.rtc_run_laws.specs.ChannelUses.{ChannelUse, with_got_message, with_sent_message}
 use Rattle.rtc_run_laws.specs.UsesOfRuns.{uses_written}
-use Rattle.rtc_room_steps.specs.Forwarding.{write_of}
-use Rattle.rtc_room_steps.specs.Hearing.{outcome_outputs}
-use Rattle.rtc_room_steps.specs.declared.item.Item.{Item}
+use Rattle.rtc_room_laws.specs.Forwarding.{write_of}
+use Rattle.rtc_room_laws.specs.Hearing.{outcome_outputs}
+use Rattle.rtc_room_laws.specs.declared.item.Item.{Item}
 use Rattle.rtc_room_laws.specs.RoomHandsOn.{first_use}
 use Rattle.rtc_room_laws.specs.ItemMessages.{LineMessage}
 use Rattle.rtc_room_laws.proofs.ItemTexts.{written_message}

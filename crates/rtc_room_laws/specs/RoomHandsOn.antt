@@ -3,7 +3,7 @@
 use Rattle.std.specs.Prelude.{◌≡◌, ◌≢◌, ◌==◌, ◌&&◌, ◌++◌, not, if◌then◌else◌, ℕ, Bool, true, false, List, [], ◌∷◌, map, Option, Some}
 use Rattle.std.specs.Prelude.{None, slice_get}
 use Rattle.std.specs.declared.alloc.Global.{Global}
-use Rattle.rtc_part_values.specs.Among.{Member}
+use Rattle.rtc_parts.specs.Among.{Member}
 use Rattle.rtc_plain_ice.specs.Messages.{is_ice_message}
 use Rattle.rtc_plain_media.specs.declared.plain_media_event.PlainMediaEvent.{PlainMediaEvent}
 use Rattle.rtc_assoc.specs.Unread.{IsPrefix}
@@ -17,15 +17,15 @@ use Rattle.rtc_run_laws.specs.DrainedSides.{IsDrained}
 use Rattle.rtc_run_laws.specs.OpenUses.{AreJoinedUses}
 use Rattle.rtc_run_laws.specs.SentMessages.{sent_over}
 use Rattle.rtc_run_laws.specs.UsesOfRuns.{reached_by, uses_of}
-use Rattle.rtc_run_plain.specs.ProgramPair.{PlainPairState, plain_parts}
-use Rattle.rtc_room_steps.specs.Hearing.{heard_in, outcome_outputs}
-use Rattle.rtc_room_steps.specs.Members.{MemberState}
-use Rattle.rtc_room_steps.specs.RoomRuns.{MemberRan, RoomRuns, RoomWent, performed_of}
-use Rattle.rtc_room_steps.specs.RoomSteps.{RoomEntry, RoomState}
-use Rattle.rtc_room_steps.specs.declared.room_reply.RoomReply.{RoomReply}
-use Rattle.rtc_room_steps.specs.declared.room_reply.RoomReply.TheVariants.{Performed}
-use Rattle.rtc_room_steps.specs.declared.room_step.RoomStep.{RoomStep}
-use Rattle.rtc_room_steps.specs.declared.room_step.RoomStep.TheVariants.{Arrive, Perform}
+use Rattle.rtc_run.specs.ProgramPair.{PlainPairState, plain_parts}
+use Rattle.rtc_room_laws.specs.Hearing.{heard_in, outcome_outputs}
+use Rattle.rtc_room_laws.specs.Members.{MemberState}
+use Rattle.rtc_room_laws.specs.RoomRuns.{MemberRan, RoomRuns, RoomWent, performed_of}
+use Rattle.rtc_room_laws.specs.RoomSteps.{RoomEntry, RoomState}
+use Rattle.rtc_room_laws.specs.declared.room_reply.RoomReply.{RoomReply}
+use Rattle.rtc_room_laws.specs.declared.room_reply.RoomReply.TheVariants.{Performed}
+use Rattle.rtc_room_laws.specs.declared.room_step.RoomStep.{RoomStep}
+use Rattle.rtc_room_laws.specs.declared.room_step.RoomStep.TheVariants.{Arrive, Perform}
 use Rattle.rtc_room_laws.specs.ItemMessages.{LineMessage, messages_from}
 
 -- ---- what the hub heard

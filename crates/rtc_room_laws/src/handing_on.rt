@@ -1,10 +1,10 @@
 //! That the hub hands on what it hears.
 ghost use Rattle.std.specs.Prelude.{List};
 ghost use Rattle.std.specs.declared.alloc.Global.{Global};
-ghost use Rattle.rtc_run_plain.specs.ProgramPair.{PlainPairState};
-ghost use Rattle.rtc_room_steps.specs.RoomRuns.{RoomRuns};
-ghost use Rattle.rtc_room_steps.specs.declared.room_reply.RoomReply.{RoomReply};
-ghost use Rattle.rtc_room_steps.specs.declared.room_step.RoomStep.{RoomStep};
+ghost use Rattle.rtc_run.specs.ProgramPair.{PlainPairState};
+ghost use Rattle.rtc_room_laws.specs.RoomRuns.{RoomRuns};
+ghost use Rattle.rtc_room_laws.specs.declared.room_reply.RoomReply.{RoomReply};
+ghost use Rattle.rtc_room_laws.specs.declared.room_step.RoomStep.{RoomStep};
 ghost use Rattle.rtc_room_laws.specs.RoomHandsOn.{RoomHandsOn};
 
 /// In each run of a room, of each two members:

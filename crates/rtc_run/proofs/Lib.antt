@@ -1,3 +1,5 @@
+pub mod PlainPeers
+pub mod PlainFaults
 pub mod Sized
 pub mod ReadMoments
 pub mod Paired

@@ -1,3 +1,5 @@
+pub mod ProgramPair
+pub mod NumberedPair
 pub mod Completeness
 pub mod ConnectionSteps
 pub mod ExtendsRun

@@ -2,8 +2,8 @@
 use Rattle.std.proofs.Common.{◌≡◌, ◌≢◌, ℕ, Bool, true, false, not, List, [], ◌∷◌, length, nat_lt, Option, None, Result, Ok, Err, refl, sym, subst}
 use Rattle.rtc_change.specs.PendingOffer.{PendingOffer}
 use Rattle.rtc_io.specs.Faults.{Rose}
-use Rattle.rtc_part_dtls.specs.declared.dtls_error.DtlsError.{DtlsError}
-use Rattle.rtc_part_dtls.specs.declared.dtls_error.DtlsError.TheVariants.{WouldBlock, Fault, Alloc as DtlsAlloc}
+use Rattle.rtc_parts.specs.declared.dtls_error.DtlsError.{DtlsError}
+use Rattle.rtc_parts.specs.declared.dtls_error.DtlsError.TheVariants.{WouldBlock, Fault, Alloc as DtlsAlloc}
 use Rattle.rtc_peer_core.specs.Acceptances.{AcceptsAnswer, AcceptsOffer}
 use Rattle.rtc_peer_core.specs.declared.rtc_error.RtcError.{RtcError}
 use Rattle.rtc_peer_core.specs.declared.rtc_error.RtcError.TheVariants.{Dtls, Sctp}

@@ -8,8 +8,8 @@ use Rattle.rtc_peer_transport.specs.declared.transport.Transport.{Transport}
 use Rattle.rtc_plain_ice.specs.Contents.{fresh_ice}
 use Rattle.rtc_run_history.specs.declared.side.Side.TheVariants.{Left, Right}
 use Rattle.rtc_run_laws.specs.Drains.{AreUndriven, IsUndriven}
-use Rattle.rtc_run_plain.specs.declared.peer_settings.PeerSettings.{PeerSettings}
-use Rattle.rtc_run_plain.specs.ProgramPair.{program_config}
+use Rattle.rtc_run.specs.declared.peer_settings.PeerSettings.{PeerSettings}
+use Rattle.rtc_run.specs.ProgramPair.{program_config}
 use Rattle.rtc_wire.specs.declared.addr.Addr.{Addr}
 use Rattle.rtc_run_faulty.proofs.ListedCauses.{faulty_laws}
 use Rattle.rtc_run_faulty.specs.declared.failing_calls.FailingCalls.{FailingCalls}

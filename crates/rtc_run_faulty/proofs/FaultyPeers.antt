@@ -17,8 +17,8 @@ use Rattle.rtc_run_history.specs.declared.side.Side.{Side}
 use Rattle.rtc_run_history.specs.declared.side.Side.TheVariants.{Left, Right}
 use Rattle.rtc_run_history.specs.Fresh.{IsFresh, IsJustBuilt}
 use Rattle.rtc_run_history.specs.PairState.{peer_at, stances_of}
-use Rattle.rtc_run_plain.specs.ProgramPair.{counting, host_at, program_config}
-use Rattle.rtc_run_plain.specs.declared.peer_settings.PeerSettings.{PeerSettings}
+use Rattle.rtc_run.specs.ProgramPair.{counting, host_at, program_config}
+use Rattle.rtc_run.specs.declared.peer_settings.PeerSettings.{PeerSettings}
 use Rattle.rtc_sctp.specs.Streams.{SctpStreams}
 use Rattle.rtc_sctp_values.specs.SnapHalves.{KeptHalves, nothing_kept}
 use Rattle.rtc_sdp_values.specs.declared.candidate.Candidate.{Candidate}

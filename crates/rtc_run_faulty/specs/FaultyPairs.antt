@@ -5,8 +5,8 @@ use Rattle.rtc_peer_core.specs.Built.{Builds}
 use Rattle.rtc_peer_transport.specs.Connection.{no_transport}
 use Rattle.rtc_plain_ice.specs.Contents.{fresh_ice}
 use Rattle.rtc_plain_ice.specs.PlainMeaning.{plain_ice}
-use Rattle.rtc_run_plain.specs.ProgramPair.{host_at, left_address, program_config, right_address}
-use Rattle.rtc_run_plain.specs.declared.peer_settings.PeerSettings.{PeerSettings}
+use Rattle.rtc_run.specs.ProgramPair.{host_at, left_address, program_config, right_address}
+use Rattle.rtc_run.specs.declared.peer_settings.PeerSettings.{PeerSettings}
 use Rattle.rtc_wire.specs.declared.addr.Addr.{Addr}
 use Rattle.rtc_run_faulty.specs.declared.failing_calls.FailingCalls.{FailingCalls}
 use Rattle.rtc_run_faulty.specs.FaultyParts.{

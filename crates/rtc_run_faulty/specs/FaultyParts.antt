@@ -19,7 +19,7 @@ use Rattle.rtc_plain_media.specs.declared.plain_media_event.PlainMediaEvent.{Pla
 use Rattle.rtc_plain_media.specs.MediaContents.{MediaContents, fresh_media}
 use Rattle.rtc_plain_media.specs.PlainMediaMeaning.{plain_media_meaning}
 use Rattle.rtc_run_history.specs.PairState.{PairState}
-use Rattle.rtc_run_plain.specs.ProgramPair.{counting}
+use Rattle.rtc_run.specs.ProgramPair.{counting}
 
 -- these calls fail, and none was made
 abbrev pub none_made : (failing : List ℕ) → Numbering

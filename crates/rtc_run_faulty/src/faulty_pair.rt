@@ -9,7 +9,7 @@ ghost use Rattle.rtc_peer_core.specs.Stance.{stance_of};
 ghost use Rattle.rtc_peer_transport.specs.Connection.{no_transport};
 ghost use Rattle.rtc_run_history.specs.Fresh.{ArePeersFormed, IsFresh, IsJustBuilt};
 ghost use Rattle.rtc_run_laws.specs.Drains.{AreUndriven};
-ghost use Rattle.rtc_run_plain.specs.ProgramPair.{host_at, program_config};
+ghost use Rattle.rtc_run.specs.ProgramPair.{host_at, program_config};
 ghost use Rattle.rtc_run_faulty.specs.FaultyParts.{faulty_parts, fresh_faulty_dtls, fresh_faulty_association, fresh_faulty_media};
 ghost use Rattle.rtc_run_faulty.specs.FaultyPairs.{IsFaultyPeer, IsFaultyPair};
 
@@ -18,8 +18,7 @@ use rtc_assoc_end::PlainAssociation;
 use rtc_faulty::{Counted, Faulty};
 use rtc_peer::{Candidate, Rtc, RtcConfig};
 use rtc_plain::{CountIds, PlainDtls, PlainIce, PlainMedia};
-use rtc_run::Pair;
-use rtc_run_plain::PeerSettings;
+use rtc_run::{Pair, PeerSettings};
 use rtc_wire::{Addr, Moment, Protocol, Seq};
 use std::alloc::{AllocError, Global};
 

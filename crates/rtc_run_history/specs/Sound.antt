@@ -13,7 +13,7 @@ use Rattle.rtc_peer_rows.specs.ParsedLines.{parsed_lines}
 use Rattle.rtc_change.specs.TableAfter.{table_after, with_front}
 use Rattle.rtc_change.specs.Plans.{verdict}
 use Rattle.rtc_change.specs.declared.refusal.Refusal.TheVariants.{RemoteSdp as RefusedSdp, Sdp as RefusedAsSdp}
-use Rattle.rtc_part_dtls.specs.declared.dtls_error.DtlsError.TheVariants.{Fault}
+use Rattle.rtc_parts.specs.declared.dtls_error.DtlsError.TheVariants.{Fault}
 use Rattle.rtc_sctp_values.specs.declared.proto_error.ProtoError.TheVariants.{Fault as AssociationFault}
 use Rattle.rtc_sctp_values.specs.declared.sctp_error.SctpError.TheVariants.{Proto}
 use Rattle.rtc_peer_core.specs.Glare.{meets_glare}

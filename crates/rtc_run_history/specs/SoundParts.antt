@@ -1,7 +1,7 @@
 -- What an entry of a run says of the parts of its pair.
 use Rattle.std.specs.Prelude.{◌≡◌, ◌≤◌, ℕ, Bool, true, false}
 use Rattle.rtc_io.specs.Faults.{Rose}
-use Rattle.rtc_part_media.specs.MediaLaws.{SameLines}
+use Rattle.rtc_parts.specs.MediaLaws.{SameLines}
 use Rattle.rtc_peer_core.specs.declared.peer.Peer.{Peer}
 use Rattle.rtc_peer_core.specs.Meanings.{Meanings}
 use Rattle.rtc_run_history.specs.declared.side.Side.{Side}

@@ -1,5 +1,5 @@
 //! Outputs that replies show.
-use rtc_part_values::Reason;
+use rtc_parts::Reason;
 use rtc_peer_transport::Event;
 use rtc_wire::Moment;
 

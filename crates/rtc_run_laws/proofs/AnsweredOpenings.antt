@@ -1,13 +1,13 @@
 -- In a settled pair no opening waits for its answer over a stream that the other side took up.
 use Rattle.std.proofs.Common.{◌≡◌, ◌∙◌, ◌⊎◌, ◌++◌, ◌∷◌, ◌==◌, ◌||◌, if◌then◌else◌, ℕ, Bool, true, false, true≢false, List, [], append-nil, Option, Some, None, inl, inr, refl, sym, ap, subst, arith}
 use Rattle.std.proofs.lemmas.Bool.{eqb-true}
-use Rattle.rtc_part_association.specs.AssociationWords.{AssociationMessage, ended, read, written}
+use Rattle.rtc_parts.specs.AssociationWords.{AssociationMessage, ended, read, written}
 use Rattle.rtc_assoc.specs.Unread.{unread}
 use Rattle.rtc_assoc_state.proofs.PlainLaws.{plain_laws}
 use Rattle.rtc_assoc_state.specs.Contents.{Contents, closed_here, fresh_contents, generation_of, has_unread, is_ending}
 use Rattle.rtc_assoc_state.specs.Outbox.{has_unacknowledged}
 use Rattle.rtc_assoc_state.specs.PlainMeaning.{plain_meaning}
-use Rattle.rtc_part_values.specs.Draws.{Draws}
+use Rattle.rtc_parts.specs.Draws.{Draws}
 use Rattle.rtc_sctp_entries.specs.declared.stream_entry_state.StreamEntryState.{StreamEntryState}
 use Rattle.rtc_sctp_entries.specs.declared.stream_entry_state.StreamEntryState.TheVariants.{AwaitOpen, AwaitConfig, AwaitDcepAck, Open, Closed as EntryClosed}
 use Rattle.rtc_sctp_entries.specs.declared.stream_entry.StreamEntry.{StreamEntry}

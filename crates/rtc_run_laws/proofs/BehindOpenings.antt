@@ -1,9 +1,9 @@
 -- The messages behind the first that opens a channel, or acknowledges that, and what they carry.
 use Rattle.std.proofs.Common.{◌≡◌, ◌∙◌, ◌++◌, ◌∷◌, ◌||◌, if◌then◌else◌, Bool, true, false, true≢false, List, [], map, refl, sym, ap, subst}
 use Rattle.rtc_assoc.specs.Unread.{IsPrefix}
-use Rattle.rtc_part_association.specs.declared.ppi.Ppi.{Ppi}
-use Rattle.rtc_part_association.specs.AssociationWords.{AssociationMessage}
-use Rattle.rtc_part_association.specs.Ppi.{ppi_of}
+use Rattle.rtc_parts.specs.declared.ppi.Ppi.{Ppi}
+use Rattle.rtc_parts.specs.AssociationWords.{AssociationMessage}
+use Rattle.rtc_parts.specs.Ppi.{ppi_of}
 use Rattle.rtc_sctp_laws.specs.Contents.{content_of, contents_by, contents_of, numbered_message}
 use Rattle.rtc_sctp_laws.specs.StreamMessages.{StreamMessage, HaveNamedPpis, is_dcep, is_dcep_message}
 use Rattle.rtc_sctp_laws.specs.StreamUses.{any_dcep}

@@ -1,12 +1,12 @@
 -- Acts of the plain association by which no item comes leave a stream there, and nothing to be reported that was received.
 use Rattle.std.proofs.Common.{◌≡◌, ◌∙◌, ◌+◌, ◌≤◌, ◌∷◌, ℕ, Bool, true, false, true≢false, List, [], length, Option, None, refl, sym, ap, subst, arith}
-use Rattle.rtc_part_association.specs.declared.assoc_error.AssocError.{AssocError}
-use Rattle.rtc_part_association.specs.declared.assoc_error.AssocError.TheVariants.{StreamExists, ResetPending}
-use Rattle.rtc_part_association.specs.AssociationNeeds.{need}
-use Rattle.rtc_part_association.specs.AssociationActs.{AssociationAct, Given, Taken, Acted, Moved}
-use Rattle.rtc_part_association.specs.AssociationWords.{given}
-use Rattle.rtc_part_association.proofs.AssociationLemmas.{generation_rises}
-use Rattle.rtc_assoc_packets.specs.declared.item.Item.{Item}
+use Rattle.rtc_parts.specs.declared.assoc_error.AssocError.{AssocError}
+use Rattle.rtc_parts.specs.declared.assoc_error.AssocError.TheVariants.{StreamExists, ResetPending}
+use Rattle.rtc_parts.specs.AssociationNeeds.{need}
+use Rattle.rtc_parts.specs.AssociationActs.{AssociationAct, Given, Taken, Acted, Moved}
+use Rattle.rtc_parts.specs.AssociationWords.{given}
+use Rattle.rtc_parts.proofs.AssociationLemmas.{generation_rises}
+use Rattle.rtc_assoc_state.specs.declared.item.Item.{Item}
 use Rattle.rtc_assoc_state.specs.Contents.{Contents, closed_here, generation_of, has_stream}
 use Rattle.rtc_assoc_state.specs.PlainMeaning.{plain_meaning, ending_cause}
 use Rattle.rtc_assoc_state.proofs.DoesLemmas.{polls_some}

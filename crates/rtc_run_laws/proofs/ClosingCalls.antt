@@ -1,8 +1,8 @@
 -- What each call of an end does to the closes that it sent and took.
 use Rattle.std.proofs.Common.{◌≡◌, ◌∙◌, ◌⊎◌, inl, inr, ◌<◌, ◌≤◌, ◌-◌, ℕ, true, false, true≢false, List, [], ◌∷◌, ◌++◌, length, append-nil, Option, Some, refl, sym, subst, arith}
-use Rattle.rtc_assoc_packets.specs.declared.item.Item.{Item}
-use Rattle.rtc_assoc_packets.specs.declared.frame.Frame.{Frame}
-use Rattle.rtc_assoc_packets.specs.Pieces.{close_of, pieces_of}
+use Rattle.rtc_assoc_state.specs.declared.item.Item.{Item}
+use Rattle.rtc_assoc_state.specs.declared.frame.Frame.{Frame}
+use Rattle.rtc_assoc_state.specs.Pieces.{close_of, pieces_of}
 use Rattle.rtc_assoc_state.specs.declared.close_state.CloseState.TheVariants.{Queued}
 use Rattle.rtc_assoc_state.specs.declared.stream_row.StreamRow.{StreamRow}
 use Rattle.rtc_assoc_state.specs.Contents.{Contents}

@@ -1,9 +1,9 @@
 -- What a close does to the counts of faults, call by call: none falls, and an error that tells a fault of a part comes only where that
 -- part's count rose.
 use Rattle.std.proofs.Common.{◌≡◌, false, Result, Ok, Err, alloc_error, refl, ap}
-use Rattle.rtc_part_values.specs.Why.{Shut}
-use Rattle.rtc_part_dtls.specs.declared.dtls_error.DtlsError.TheVariants.{Fault, Alloc as DtlsAlloc}
-use Rattle.rtc_part_media.specs.MediaActs.{MediaStirred}
+use Rattle.rtc_parts.specs.Why.{Shut}
+use Rattle.rtc_parts.specs.declared.dtls_error.DtlsError.TheVariants.{Fault, Alloc as DtlsAlloc}
+use Rattle.rtc_parts.specs.MediaActs.{MediaStirred}
 use Rattle.rtc_sctp_values.specs.declared.proto_error.ProtoError.TheVariants as proto
 use Rattle.rtc_sctp_values.specs.declared.sctp_error.SctpError.TheVariants as sctp
 use Rattle.rtc_peer_core.specs.declared.phase.Phase.{Phase}

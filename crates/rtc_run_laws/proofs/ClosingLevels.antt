@@ -1,15 +1,15 @@
 -- Two joined ends: what each sent the other, and what of closes and generations that makes of their rows.
 use Rattle.std.proofs.Common.{◌⊎◌, ◌<◌, ℕ, List, [], take, Option, Some, None}
-use Rattle.rtc_part_values.specs.Among.{Member}
-use Rattle.rtc_part_association.specs.AssociationActs.{AssociationAct}
-use Rattle.rtc_part_association.specs.AssociationWords.{taken}
-use Rattle.rtc_assoc_packets.specs.Packets.{frame_in}
+use Rattle.rtc_parts.specs.Among.{Member}
+use Rattle.rtc_parts.specs.AssociationActs.{AssociationAct}
+use Rattle.rtc_parts.specs.AssociationWords.{taken}
+use Rattle.rtc_assoc_state.specs.Packets.{frame_in}
 use Rattle.rtc_assoc.proofs.MessageLemmas.{HasClose}
 use Rattle.rtc_sctp_laws.proofs.BackedRows.{plain_sound}
 use Rattle.rtc_run_laws.proofs.SentOrder.{OrderedFrom}
-use Rattle.rtc_assoc_packets.specs.declared.item.Item.{Item}
-use Rattle.rtc_assoc_packets.specs.declared.frame.Frame.{Frame}
-use Rattle.rtc_assoc_packets.specs.declared.frame.Frame.TheVariants.{Hello, Welcome, Data, Acknowledgement, Shutdown}
+use Rattle.rtc_assoc_state.specs.declared.item.Item.{Item}
+use Rattle.rtc_assoc_state.specs.declared.frame.Frame.{Frame}
+use Rattle.rtc_assoc_state.specs.declared.frame.Frame.TheVariants.{Hello, Welcome, Data, Acknowledgement, Shutdown}
 use Rattle.rtc_assoc_state.specs.Contents.{Contents}
 use Rattle.rtc_assoc.proofs.DirectedLemmas.{Directed}
 use Rattle.rtc_run_laws.proofs.ClosingRows.{Keeps}

@@ -1,19 +1,19 @@
 -- Two joined ends keep what their streams say of each other over each move.
 use Rattle.std.proofs.Common.{◌≡◌, ◌∙◌, ◌⊎◌, inl, inr, ◌≤◌, ℕ, true, true≢false, List, [], ◌∷◌, ◌++◌, drop, take, length, append-nil, append_assoc, Option, Some, None, refl, sym, ap, subst, arith}
 use Rattle.std.proofs.lemmas.List.{append_cancel_left, take-append-le}
-use Rattle.rtc_part_values.specs.Among.{Among, Member}
-use Rattle.rtc_part_association.specs.AssociationActs.{AssociationAct, Given, Taken, Moved}
-use Rattle.rtc_part_association.specs.AssociationWords.{ended, given, taken}
-use Rattle.rtc_part_association.proofs.AmongLemmas.{member-append}
-use Rattle.rtc_part_association.proofs.AssociationLemmas.{taken-append}
-use Rattle.rtc_assoc_packets.specs.Packets.{frame_in}
+use Rattle.rtc_parts.specs.Among.{Among, Member}
+use Rattle.rtc_parts.specs.AssociationActs.{AssociationAct, Given, Taken, Moved}
+use Rattle.rtc_parts.specs.AssociationWords.{ended, given, taken}
+use Rattle.rtc_parts.proofs.AmongLemmas.{member-append}
+use Rattle.rtc_parts.proofs.AssociationLemmas.{taken-append}
+use Rattle.rtc_assoc_state.specs.Packets.{frame_in}
 use Rattle.rtc_assoc_state.specs.Says.{SaysPacket}
 use Rattle.rtc_assoc.proofs.MessageLemmas.{HasClose}
 use Rattle.rtc_assoc.proofs.OrderLemmas.{SenderOk, honest_says}
 use Rattle.rtc_run_laws.proofs.SentOrder.{OrderedFrom, Within, close_take, ordered_append, within_at}
-use Rattle.rtc_assoc_packets.specs.declared.item.Item.{Item}
-use Rattle.rtc_assoc_packets.specs.declared.frame.Frame.{Frame}
-use Rattle.rtc_assoc_packets.specs.declared.frame.Frame.TheVariants.{Hello, Welcome, Data, Acknowledgement, Shutdown}
+use Rattle.rtc_assoc_state.specs.declared.item.Item.{Item}
+use Rattle.rtc_assoc_state.specs.declared.frame.Frame.{Frame}
+use Rattle.rtc_assoc_state.specs.declared.frame.Frame.TheVariants.{Hello, Welcome, Data, Acknowledgement, Shutdown}
 use Rattle.rtc_assoc_state.specs.declared.close_state.CloseState.TheVariants.{Unclosed, Queued, Acknowledged}
 use Rattle.rtc_assoc_state.specs.Contents.{Contents, fresh_contents}
 use Rattle.rtc_assoc_state.specs.PlainMeaning.{plain_meaning}

@@ -2,13 +2,13 @@
 use Rattle.std.proofs.Common.{◌≡◌, ◌+◌, ◌≤◌, ◌<◌, ℕ, zero, suc, ◌==◌, true, List, [], ◌∷◌, ◌++◌, Option, Result, refl, sym, ap, subst, ◌∙◌, arith, zero-add}
 use Rattle.std.specs.Prelude.{if◌then◌else◌}
 use Rattle.std.specs.declared.alloc.AllocError.{AllocError}
-use Rattle.rtc_part_association.specs.declared.assoc_event.AssocEvent.{AssocEvent}
-use Rattle.rtc_part_association.specs.declared.assoc_event.AssocEvent.TheVariants as assoc
-use Rattle.rtc_part_association.specs.AssociationActs.{AssociationAct, Moved, moved-append}
-use Rattle.rtc_part_association.specs.AssociationMeaning.{AssociationMeaning}
-use Rattle.rtc_part_association.specs.AssociationLaws.{AssociationLaws}
-use Rattle.rtc_part_association.specs.AssociationWords.{completions, told}
-use Rattle.rtc_part_association.proofs.AssociationLemmas.{completed, completions-append, told-append}
+use Rattle.rtc_parts.specs.declared.assoc_event.AssocEvent.{AssocEvent}
+use Rattle.rtc_parts.specs.declared.assoc_event.AssocEvent.TheVariants as assoc
+use Rattle.rtc_parts.specs.AssociationActs.{AssociationAct, Moved, moved-append}
+use Rattle.rtc_parts.specs.AssociationMeaning.{AssociationMeaning}
+use Rattle.rtc_parts.specs.AssociationLaws.{AssociationLaws}
+use Rattle.rtc_parts.specs.AssociationWords.{completions, told}
+use Rattle.rtc_parts.proofs.AssociationLemmas.{completed, completions-append, told-append}
 use Rattle.rtc_sctp_entries.specs.declared.sctp_event.SctpEvent.{SctpEvent}
 use Rattle.rtc_sctp_entries.specs.declared.sctp_event.SctpEvent.TheVariants as event
 use Rattle.rtc_sctp_entries.specs.declared.met.Met.{Met}

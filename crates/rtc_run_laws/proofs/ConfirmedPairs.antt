@@ -1,8 +1,8 @@
 -- In a settled pair each confirmed channel is open at both sides, if its stream was not negotiated out-of-band.
 use Rattle.std.proofs.Common.{◌≡◌, ◌⊎◌, inl, inr, ℕ, Bool, true, List, [], None}
-use Rattle.rtc_part_association.specs.AssociationWords.{written}
+use Rattle.rtc_parts.specs.AssociationWords.{written}
 use Rattle.rtc_assoc_state.specs.PlainMeaning.{plain_meaning}
-use Rattle.rtc_part_values.specs.Draws.{Draws}
+use Rattle.rtc_parts.specs.Draws.{Draws}
 use Rattle.rtc_plain_media.specs.declared.plain_media_event.PlainMediaEvent.{PlainMediaEvent}
 use Rattle.rtc_sctp_laws.proofs.HeldActs.{IsKeptIf, plain_keeping}
 use Rattle.rtc_sctp_laws.proofs.KeptLists.{HasPart}

@@ -1,7 +1,7 @@
 -- Acts by which no item comes: an end that is connected stays so, and one of which that is not to be reported is not, unless it becomes so.
 use Rattle.std.proofs.Common.{◌≡◌, ◌∙◌, ◌≤◌, inr, ◌∷◌, ℕ, Bool, true, false, true≢false, List, [], refl, sym, ap, subst, arith}
-use Rattle.rtc_part_association.specs.AssociationActs.{AssociationAct, Given, Acted, Moved, moved-one}
-use Rattle.rtc_part_association.specs.AssociationWords.{given}
+use Rattle.rtc_parts.specs.AssociationActs.{AssociationAct, Given, Acted, Moved, moved-one}
+use Rattle.rtc_parts.specs.AssociationWords.{given}
 use Rattle.rtc_assoc_state.specs.Contents.{Contents, is_started}
 use Rattle.rtc_assoc_state.specs.PlainMeaning.{plain_meaning}
 use Rattle.rtc_assoc_state.proofs.PlainLaws.{plain_laws}

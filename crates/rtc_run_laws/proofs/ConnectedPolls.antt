@@ -2,16 +2,16 @@
 use Rattle.std.proofs.Common.{◌≡◌, ◌∙◌, ℕ, Bool, true, false, [], Option, Some, None, Result, Ok, Err, refl, sym, ap, subst}
 use Rattle.std.specs.declared.alloc.AllocError.{AllocError}
 use Rattle.rtc_assoc_state.proofs.PlainLaws.{plain_laws}
-use Rattle.rtc_part_values.specs.declared.reason.Reason.TheVariants.{NotHappening}
-use Rattle.rtc_part_values.specs.Draws.{Draws}
-use Rattle.rtc_part_ice.specs.declared.ice_event.IceEvent.{IceEvent}
-use Rattle.rtc_part_ice.specs.declared.ice_event.IceEvent.TheVariants as ice_events
-use Rattle.rtc_part_dtls.specs.declared.dtls_error.DtlsError.{DtlsError}
-use Rattle.rtc_part_dtls.specs.declared.dtls_error.DtlsError.TheVariants.{Fault, Alloc as DtlsAlloc}
-use Rattle.rtc_part_dtls.specs.declared.dtls_output.DtlsOutput.{DtlsOutput}
-use Rattle.rtc_part_dtls.specs.declared.dtls_output.DtlsOutput.TheVariants as outputs
-use Rattle.rtc_part_dtls.specs.DtlsState.{DtlsState, HandsOn, PollsOutput, drawn_by}
-use Rattle.rtc_part_dtls.specs.DtlsWords.{takes}
+use Rattle.rtc_parts.specs.declared.reason.Reason.TheVariants.{NotHappening}
+use Rattle.rtc_parts.specs.Draws.{Draws}
+use Rattle.rtc_parts.specs.declared.ice_event.IceEvent.{IceEvent}
+use Rattle.rtc_parts.specs.declared.ice_event.IceEvent.TheVariants as ice_events
+use Rattle.rtc_parts.specs.declared.dtls_error.DtlsError.{DtlsError}
+use Rattle.rtc_parts.specs.declared.dtls_error.DtlsError.TheVariants.{Fault, Alloc as DtlsAlloc}
+use Rattle.rtc_parts.specs.declared.dtls_output.DtlsOutput.{DtlsOutput}
+use Rattle.rtc_parts.specs.declared.dtls_output.DtlsOutput.TheVariants as outputs
+use Rattle.rtc_parts.specs.DtlsState.{DtlsState, HandsOn, PollsOutput, drawn_by}
+use Rattle.rtc_parts.specs.DtlsWords.{takes}
 use Rattle.rtc_plain_dtls.specs.Calls.{dtls_time_passed}
 use Rattle.rtc_plain_dtls.specs.Contents.{DtlsContents, phase_is_finished}
 use Rattle.rtc_plain_dtls.specs.PlainMeaning.{plain_dtls}

@@ -3,10 +3,10 @@ use Rattle.std.proofs.Common.{◌≡◌, ◌∙◌, ◌&&◌, ◌∷◌, ℕ, Bo
 use Rattle.std.specs.Prelude.{is_some}
 use Rattle.rtc_wire.specs.declared.addr.Addr.{Addr}
 use Rattle.rtc_assoc_state.proofs.PlainLaws.{plain_laws}
-use Rattle.rtc_part_values.specs.Draws.{Draws}
-use Rattle.rtc_part_dtls.specs.DtlsActs.{DtlsMoved}
-use Rattle.rtc_part_dtls.specs.DtlsWords.{dtls_given}
-use Rattle.rtc_part_ice.specs.IceConnectionState.{state_is_connected}
+use Rattle.rtc_parts.specs.Draws.{Draws}
+use Rattle.rtc_parts.specs.DtlsActs.{DtlsMoved}
+use Rattle.rtc_parts.specs.DtlsWords.{dtls_given}
+use Rattle.rtc_parts.specs.IceConnectionState.{state_is_connected}
 use Rattle.rtc_plain_ice.specs.PlainMeaning.{plain_ice}
 use Rattle.rtc_plain_dtls.specs.Contents.{fresh_dtls, phase_is_finished}
 use Rattle.rtc_plain_dtls.specs.PlainMeaning.{plain_dtls}

@@ -1,13 +1,13 @@
 -- What the stages of a poll that serve the connection do to the counts of faults.
 use Rattle.std.proofs.Common.{inr, ℕ, Bool, true, false, List, Option, Some, None, Result, Ok, Err, alloc_error, refl, ap}
 use Rattle.std.specs.declared.alloc.AllocError.{AllocError}
-use Rattle.rtc_part_values.specs.Why.{Other}
-use Rattle.rtc_part_values.specs.declared.srtp_profile.SrtpProfile.{SrtpProfile}
-use Rattle.rtc_part_ice.specs.declared.ice_event.IceEvent.{IceEvent}
-use Rattle.rtc_part_dtls.specs.declared.dtls_error.DtlsError.TheVariants.{Fault, Alloc as DtlsAlloc}
-use Rattle.rtc_part_dtls.specs.declared.dtls_output.DtlsOutput.{DtlsOutput}
-use Rattle.rtc_part_dtls.specs.declared.dtls_output.DtlsOutput.TheVariants as outputs
-use Rattle.rtc_part_media.specs.MediaActs.{MediaStirred, Keyed}
+use Rattle.rtc_parts.specs.Why.{Other}
+use Rattle.rtc_parts.specs.declared.srtp_profile.SrtpProfile.{SrtpProfile}
+use Rattle.rtc_parts.specs.declared.ice_event.IceEvent.{IceEvent}
+use Rattle.rtc_parts.specs.declared.dtls_error.DtlsError.TheVariants.{Fault, Alloc as DtlsAlloc}
+use Rattle.rtc_parts.specs.declared.dtls_output.DtlsOutput.{DtlsOutput}
+use Rattle.rtc_parts.specs.declared.dtls_output.DtlsOutput.TheVariants as outputs
+use Rattle.rtc_parts.specs.MediaActs.{MediaStirred, Keyed}
 use Rattle.rtc_peer_core.specs.declared.rtc_error.RtcError.TheVariants.{RemoteSdp, Dtls, Alloc}
 use Rattle.rtc_peer_core.specs.Meanings.{Meanings, PartsLaws}
 use Rattle.rtc_peer_transport.specs.declared.event.Event.TheVariants as told

@@ -4,7 +4,7 @@ use Rattle.rtc_wire.specs.DatagramRecv.{bytes_lent}
 use Rattle.rtc_wire.specs.declared.datagram_recv.DatagramRecv.{DatagramRecv}
 use Rattle.rtc_wire.specs.declared.datagram_recv.DatagramRecv.TheVariants as datagrams
 use Rattle.rtc_wire.specs.declared.transmit.Transmit.{Transmit}
-use Rattle.rtc_part_values.specs.Among.{Member}
+use Rattle.rtc_parts.specs.Among.{Member}
 use Rattle.rtc_peer_laws.specs.PeerActs.{came_of_datagram}
 use Rattle.rtc_peer_laws.specs.JoinedPeers.{CarriesData}
 use Rattle.rtc_peer_laws.proofs.JoinedLemmas.{begun_carries}

@@ -2,21 +2,21 @@
 use Rattle.std.proofs.Common.{◌≡◌, ◌≤◌, ◌+◌, ◌-◌, ◌^◌, ◌⊎◌, inl, inr, ℕ, Bool, true, false, List, [], Option, Some, None, Result, Ok, Err, sym, ap, subst, arith}
 use Rattle.std.specs.Prelude.{min}
 use Rattle.rtc_io.specs.Faults.{Rose}
-use Rattle.rtc_part_dtls.specs.declared.dtls_error.DtlsError.{DtlsError}
-use Rattle.rtc_part_dtls.specs.declared.dtls_error.DtlsError.TheVariants.{WouldBlock, Fault, Alloc as DtlsAlloc}
-use Rattle.rtc_part_dtls.specs.DtlsActs.{Given, Stirred, Activated, TimedAt}
-use Rattle.rtc_part_dtls.specs.DtlsLaws.{DtlsLaws, DtlsAnswered}
-use Rattle.rtc_part_dtls.specs.DtlsMeaning.{DtlsMeaning}
-use Rattle.rtc_part_dtls.specs.DtlsState.{DtlsState}
+use Rattle.rtc_parts.specs.declared.dtls_error.DtlsError.{DtlsError}
+use Rattle.rtc_parts.specs.declared.dtls_error.DtlsError.TheVariants.{WouldBlock, Fault, Alloc as DtlsAlloc}
+use Rattle.rtc_parts.specs.DtlsActs.{Given, Stirred, Activated, TimedAt}
+use Rattle.rtc_parts.specs.DtlsLaws.{DtlsLaws, DtlsAnswered}
+use Rattle.rtc_parts.specs.DtlsMeaning.{DtlsMeaning}
+use Rattle.rtc_parts.specs.DtlsState.{DtlsState}
 use Rattle.rtc_sdp_values.specs.declared.line_row.LineRow.{LineRow}
-use Rattle.rtc_part_values.specs.Why.{Other}
-use Rattle.rtc_part_association.specs.declared.assoc_error.AssocError.{AssocError}
-use Rattle.rtc_part_association.specs.declared.assoc_error.AssocError.TheVariants as assoc
-use Rattle.rtc_part_association.specs.AssociationActs.{Started, Stirred as AssociationStirred, ByConnect, ByAccept, BySnap}
-use Rattle.rtc_part_association.specs.AssociationActs.{ConnectRefused, AcceptRefused, SnapRefused}
-use Rattle.rtc_part_association.specs.AssociationLaws.{AssociationLaws}
-use Rattle.rtc_part_association.specs.AssociationMeaning.{AssociationMeaning}
-use Rattle.rtc_part_association.specs.AssociationNeeds.{Answered}
+use Rattle.rtc_parts.specs.Why.{Other}
+use Rattle.rtc_parts.specs.declared.assoc_error.AssocError.{AssocError}
+use Rattle.rtc_parts.specs.declared.assoc_error.AssocError.TheVariants as assoc
+use Rattle.rtc_parts.specs.AssociationActs.{Started, Stirred as AssociationStirred, ByConnect, ByAccept, BySnap}
+use Rattle.rtc_parts.specs.AssociationActs.{ConnectRefused, AcceptRefused, SnapRefused}
+use Rattle.rtc_parts.specs.AssociationLaws.{AssociationLaws}
+use Rattle.rtc_parts.specs.AssociationMeaning.{AssociationMeaning}
+use Rattle.rtc_parts.specs.AssociationNeeds.{Answered}
 use Rattle.rtc_sctp_entries.specs.declared.asked.Asked.{Asked}
 use Rattle.rtc_sctp_entries.specs.declared.asked.Asked.TheVariants as did
 use Rattle.rtc_sctp_entries.specs.Answers.{asked_of}

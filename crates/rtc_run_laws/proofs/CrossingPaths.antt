@@ -2,7 +2,7 @@
 use Rattle.std.proofs.lemmas.Bool.{ne_eqb}
 use Rattle.std.proofs.Common.{◌≡◌, ◌+◌, ◌++◌, ◌==◌, ℕ, false, List, [], ◌∷◌, refl, sym, ap, subst, arith, inl, inr, append-nil}
 use Rattle.std.proofs.lemmas.List.{append_assoc}
-use Rattle.rtc_part_values.specs.Among.{Member}
+use Rattle.rtc_parts.specs.Among.{Member}
 use Rattle.rtc_run_history.specs.declared.op.Op.{Op}
 use Rattle.rtc_run_history.specs.declared.side.Side.{Side}
 use Rattle.rtc_run_history.specs.declared.step.Step.{Step}

@@ -1,14 +1,14 @@
 -- Where a side was drained for a channel, all was got that was sent over it.
 use Rattle.std.proofs.Common.{◌≡◌, ◌∙◌, ◌∷◌, ◌&&◌, ap, if◌then◌else◌, ℕ, Bool, true, false, true≢false, List, [], refl, sym, subst}
-use Rattle.rtc_part_association.specs.AssociationActs.{LimitsSet, Stirred}
-use Rattle.rtc_part_values.specs.Why.{Other}
+use Rattle.rtc_parts.specs.AssociationActs.{LimitsSet, Stirred}
+use Rattle.rtc_parts.specs.Why.{Other}
 use Rattle.rtc_assoc_state.proofs.PlainLaws.{plain_laws}
 use Rattle.rtc_assoc_state.specs.Contents.{Contents, fresh_contents, is_started}
 use Rattle.rtc_plain_dtls.specs.Contents.{DtlsContents}
 use Rattle.rtc_plain_ice.specs.Contents.{IceContents}
 use Rattle.rtc_plain_media.specs.MediaContents.{MediaContents}
 use Rattle.rtc_plain_media.specs.declared.plain_media_event.PlainMediaEvent.{PlainMediaEvent}
-use Rattle.rtc_part_values.specs.Draws.{Draws}
+use Rattle.rtc_parts.specs.Draws.{Draws}
 use Rattle.rtc_sctp.specs.Streams.{SctpStreams}
 use Rattle.rtc_peer_core.specs.Built.{payload_of_mtu}
 use Rattle.rtc_peer_core.specs.declared.peer.Peer.{Peer}

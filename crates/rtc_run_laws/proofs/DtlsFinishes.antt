@@ -2,12 +2,12 @@
 use Rattle.std.proofs.Common.{◌≡◌, ◌∙◌, ◌⊎◌, ◌++◌, ◌∷◌, if◌then◌else◌, inl, inr, ℕ, Bool, true, false, true≢false, List, [], Result, Ok, Err, refl, sym, ap, subst}
 use Rattle.std.specs.Prelude.{nat_le}
 use Rattle.std.specs.declared.alloc.AllocError.{AllocError}
-use Rattle.rtc_part_values.specs.Among.{Member}
-use Rattle.rtc_part_dtls.specs.declared.dtls_error.DtlsError.{DtlsError}
-use Rattle.rtc_part_dtls.specs.declared.dtls_error.DtlsError.TheVariants.{WouldBlock, Fault, Alloc}
-use Rattle.rtc_part_dtls.specs.DtlsActs.{DtlsAct, DtlsCall, DtlsActed, DtlsCalled, DtlsMoved, Given, Taken, Sent, Got, Stirred}
-use Rattle.rtc_part_dtls.specs.DtlsActs.{CertificateSet, Activated, VersionSet, SendRefused, TimedAt, Closed, Showed}
-use Rattle.rtc_part_dtls.specs.DtlsDrawn.{DtlsDrawn, DrewConnected, DrewData, DrewPacket}
+use Rattle.rtc_parts.specs.Among.{Member}
+use Rattle.rtc_parts.specs.declared.dtls_error.DtlsError.{DtlsError}
+use Rattle.rtc_parts.specs.declared.dtls_error.DtlsError.TheVariants.{WouldBlock, Fault, Alloc}
+use Rattle.rtc_parts.specs.DtlsActs.{DtlsAct, DtlsCall, DtlsActed, DtlsCalled, DtlsMoved, Given, Taken, Sent, Got, Stirred}
+use Rattle.rtc_parts.specs.DtlsActs.{CertificateSet, Activated, VersionSet, SendRefused, TimedAt, Closed, Showed}
+use Rattle.rtc_parts.specs.DtlsDrawn.{DtlsDrawn, DrewConnected, DrewData, DrewPacket}
 use Rattle.rtc_plain_dtls.specs.declared.output.Output.{Output}
 use Rattle.rtc_plain_dtls.specs.declared.output.Output.TheVariants.{PeerCert, Keying, Connected, Data, Close}
 use Rattle.rtc_plain_dtls.specs.declared.phase.Phase.{Phase}

@@ -1,7 +1,7 @@
 -- Data that comes while the open message of a stream waits for its answer: it is handed out before the stream is told to be open.
 use Rattle.std.proofs.Common.{false, [], ◌∷◌, Some, None, refl}
-use Rattle.rtc_part_association.specs.declared.ppi.Ppi.TheVariants as ppi
-use Rattle.rtc_part_association.specs.AssociationMeaning.{AssociationMeaning}
+use Rattle.rtc_parts.specs.declared.ppi.Ppi.TheVariants as ppi
+use Rattle.rtc_parts.specs.AssociationMeaning.{AssociationMeaning}
 use Rattle.rtc_sctp_entries.specs.declared.heard.Heard.TheVariants as heard
 use Rattle.rtc_sctp_entries.specs.declared.met.Met.{Met}
 use Rattle.rtc_sctp_entries.specs.declared.met.Met.TheVariants.{Output}

@@ -1,9 +1,9 @@
 -- A side that read something has finished its handshake: a plain association that was given no packet reads nothing.
 use Rattle.std.proofs.Common.{◌≡◌, ◌∙◌, ◌∷◌, ℕ, Bool, true, false, true≢false, List, [], map, inl, refl, sym, subst}
-use Rattle.rtc_part_values.specs.Among.{Among, Member}
-use Rattle.rtc_part_association.specs.AssociationActs.{AssociationAct, Given, Read, Moved}
-use Rattle.rtc_part_association.specs.AssociationWords.{given}
-use Rattle.rtc_part_dtls.specs.DtlsWords.{dtls_got}
+use Rattle.rtc_parts.specs.Among.{Among, Member}
+use Rattle.rtc_parts.specs.AssociationActs.{AssociationAct, Given, Read, Moved}
+use Rattle.rtc_parts.specs.AssociationWords.{given}
+use Rattle.rtc_parts.specs.DtlsWords.{dtls_got}
 use Rattle.rtc_plain_dtls.specs.Contents.{fresh_dtls, phase_is_finished}
 use Rattle.rtc_assoc_state.specs.Contents.{Contents, fresh_contents, has_unread}
 use Rattle.rtc_assoc_state.specs.Streams.{stream_of}
@@ -11,7 +11,7 @@ use Rattle.rtc_assoc_state.specs.Calls.{next_message}
 use Rattle.rtc_assoc_state.specs.PlainMeaning.{plain_meaning}
 use Rattle.rtc_assoc_state.proofs.DoesLemmas.{reads_some}
 use Rattle.rtc_assoc_state.proofs.ReadableLemmas.{some-unread}
-use Rattle.rtc_part_values.specs.Draws.{Draws}
+use Rattle.rtc_parts.specs.Draws.{Draws}
 use Rattle.rtc_sctp_laws.specs.StreamMessages.{StreamMessage, read_act, reads_of}
 use Rattle.rtc_peer_laws.specs.PeerActs.{PeerActs}
 use Rattle.rtc_run_laws.specs.PlainPairs.{PlainPolled}

@@ -1,9 +1,9 @@
 -- In runs of new pairs nothing stands unread at a side before its association is started, and a handshake that is finished has its role.
 use Rattle.std.proofs.Common.{◌≡◌, ◌∙◌, ◌⊎◌, inl, inr, ℕ, Bool, true, false, true≢false, List, [], ◌∷◌, refl, sym, ap, subst}
 use Rattle.std.specs.Prelude.{is_some}
-use Rattle.rtc_part_association.specs.AssociationActs.{Stirred, LimitsSet}
-use Rattle.rtc_part_values.specs.Draws.{Draws}
-use Rattle.rtc_part_values.specs.Why.{Other}
+use Rattle.rtc_parts.specs.AssociationActs.{Stirred, LimitsSet}
+use Rattle.rtc_parts.specs.Draws.{Draws}
+use Rattle.rtc_parts.specs.Why.{Other}
 use Rattle.rtc_assoc_state.specs.Contents.{Contents, fresh_contents, has_unread, is_started}
 use Rattle.rtc_plain_dtls.specs.Contents.{DtlsContents, phase_is_finished}
 use Rattle.rtc_plain_ice.specs.Contents.{IceContents}

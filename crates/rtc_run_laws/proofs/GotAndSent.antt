@@ -1,9 +1,9 @@
 -- What one side got of a channel, the other one sent.
 use Rattle.std.proofs.Common.{◌≡◌, ◌∙◌, ◌++◌, ◌∷◌, ◌&&◌, ◌||◌, ℕ, Bool, true, false, true≢false, List, [], map, Option, Some, refl, sym, ap, subst}
-use Rattle.rtc_part_association.specs.AssociationWords.{AssociationMessage, read, written}
-use Rattle.rtc_part_association.specs.Ppi.{ppi_number, ppi_of}
+use Rattle.rtc_parts.specs.AssociationWords.{AssociationMessage, read, written}
+use Rattle.rtc_parts.specs.Ppi.{ppi_number, ppi_of}
 use Rattle.rtc_assoc.specs.Unread.{IsPrefix}
-use Rattle.rtc_part_values.specs.Draws.{Draws}
+use Rattle.rtc_parts.specs.Draws.{Draws}
 use Rattle.rtc_sctp_laws.specs.StreamMessages.{StreamMessage, HaveNamedPpis, IsNamedPpi, is_dcep, is_dcep_message}
 use Rattle.rtc_sctp_laws.specs.StreamUses.{any_dcep, begins_with_dcep, messages_of}
 use Rattle.rtc_sctp_laws.specs.Contents.{contents_by, contents_of, numbered_message}

@@ -7,10 +7,10 @@ use Rattle.rtc_wire.specs.declared.datagram_recv.DatagramRecv.{DatagramRecv}
 use Rattle.rtc_wire.specs.declared.datagram_recv.DatagramRecv.TheVariants as datagrams
 use Rattle.rtc_wire.specs.declared.receive.Receive.{Receive}
 use Rattle.rtc_sdp_values.specs.declared.fingerprint.Fingerprint.{Fingerprint}
-use Rattle.rtc_part_ice.specs.declared.ice_event.IceEvent.{IceEvent}
-use Rattle.rtc_part_ice.specs.declared.ice_event.IceEvent.TheVariants as events
-use Rattle.rtc_part_dtls.specs.declared.dtls_output.DtlsOutput.{DtlsOutput}
-use Rattle.rtc_part_dtls.specs.declared.dtls_output.DtlsOutput.TheVariants as outputs
+use Rattle.rtc_parts.specs.declared.ice_event.IceEvent.{IceEvent}
+use Rattle.rtc_parts.specs.declared.ice_event.IceEvent.TheVariants as events
+use Rattle.rtc_parts.specs.declared.dtls_output.DtlsOutput.{DtlsOutput}
+use Rattle.rtc_parts.specs.declared.dtls_output.DtlsOutput.TheVariants as outputs
 use Rattle.rtc_sctp_entries.specs.declared.sctp_event.SctpEvent.{SctpEvent}
 use Rattle.rtc_sctp_entries.specs.declared.sctp_event.SctpEvent.TheVariants as event
 use Rattle.rtc_channels.specs.Holds.{holds_lost}

@@ -1,10 +1,10 @@
 -- A side of which a channel that was announced has no whole message unread: it stays so until more comes.
 use Rattle.std.proofs.Common.{◌≡◌, ◌∙◌, ◌⊎◌, ◌++◌, ◌∷◌, ℕ, Bool, true, false, true≢false, List, [], Some, None, inl, inr, refl, sym, ap, subst}
-use Rattle.rtc_part_association.specs.AssociationWords.{given}
-use Rattle.rtc_part_values.specs.Among.{Member}
-use Rattle.rtc_part_dtls.specs.DtlsWords.{dtls_got}
+use Rattle.rtc_parts.specs.AssociationWords.{given}
+use Rattle.rtc_parts.specs.Among.{Member}
+use Rattle.rtc_parts.specs.DtlsWords.{dtls_got}
 use Rattle.rtc_assoc_state.specs.Contents.{Contents, generation_of, has_unread}
-use Rattle.rtc_part_values.specs.Draws.{Draws}
+use Rattle.rtc_parts.specs.Draws.{Draws}
 use Rattle.rtc_sctp_laws.specs.StreamMessages.{StreamMessage}
 use Rattle.rtc_channels.specs.Channels.{Channel}
 use Rattle.rtc_peer_core.specs.declared.phase.Phase.TheVariants.{Closed}

@@ -1,7 +1,7 @@
 -- Steps of negotiation keep the use of each stream, and live channels.
 use Rattle.std.proofs.Common.{◌≡◌, ◌∙◌, ◌∷◌, Bool, true, false, not, ◌&&◌, ℕ, List, [], Option, Some, None, Result, Ok, Err, alloc_error, refl, ap}
 use Rattle.std.specs.declared.alloc.AllocError.{AllocError}
-use Rattle.rtc_part_association.specs.AssociationLaws.{AssociationLaws}
+use Rattle.rtc_parts.specs.AssociationLaws.{AssociationLaws}
 use Rattle.rtc_sdp_values.specs.declared.direction.Direction.{Direction}
 use Rattle.rtc_sdp_values.specs.declared.direction.Direction.TheVariants.{Inactive}
 use Rattle.rtc_peer_rows.specs.RowChanges.{RowChange, directed_row, stopped_row}

@@ -1,10 +1,10 @@
 -- In runs of new pairs each stream of which a message stands unread has an entry, or is to be told of; and what is established is started.
 use Rattle.std.proofs.Common.{◌≡◌, ◌∙◌, ◌⊎◌, inl, inr, ℕ, Bool, true, false, true≢false, List, [], ◌∷◌, refl, sym, ap, subst}
-use Rattle.rtc_part_association.specs.AssociationActs.{Stirred, LimitsSet}
-use Rattle.rtc_part_values.specs.Why.{Other}
+use Rattle.rtc_parts.specs.AssociationActs.{Stirred, LimitsSet}
+use Rattle.rtc_parts.specs.Why.{Other}
 use Rattle.rtc_assoc_state.specs.Contents.{Contents, fresh_contents}
 use Rattle.rtc_assoc_state.specs.PlainMeaning.{plain_meaning}
-use Rattle.rtc_part_values.specs.Draws.{Draws}
+use Rattle.rtc_parts.specs.Draws.{Draws}
 use Rattle.rtc_plain_dtls.specs.Contents.{DtlsContents}
 use Rattle.rtc_plain_ice.specs.Contents.{IceContents}
 use Rattle.rtc_plain_media.specs.MediaContents.{MediaContents}

@@ -1,12 +1,12 @@
 -- In a settled pair no message stands unread of a stream that its side did not close, or its opening from there is refused for now.
 use Rattle.std.proofs.Common.{ap, ◌||◌, ◌≡◌, ◌∙◌, ◌⊎◌, ◌∷◌, inl, inr, ℕ, Bool, true, false, true≢false, List, [], refl, sym, subst}
-use Rattle.rtc_part_association.specs.declared.assoc_event.AssocEvent.{AssocEvent}
-use Rattle.rtc_part_association.specs.declared.assoc_event.AssocEvent.TheVariants.{Readable}
-use Rattle.rtc_part_values.specs.Among.{Member}
+use Rattle.rtc_parts.specs.declared.assoc_event.AssocEvent.{AssocEvent}
+use Rattle.rtc_parts.specs.declared.assoc_event.AssocEvent.TheVariants.{Readable}
+use Rattle.rtc_parts.specs.Among.{Member}
 use Rattle.rtc_assoc_state.proofs.PlainLaws.{plain_laws}
 use Rattle.rtc_assoc_state.specs.Contents.{Contents, closed_here, generation_of, has_stream, is_started, has_unread}
 use Rattle.rtc_assoc_state.specs.PlainMeaning.{plain_meaning}
-use Rattle.rtc_part_values.specs.Draws.{Draws}
+use Rattle.rtc_parts.specs.Draws.{Draws}
 use Rattle.rtc_sctp_entries.specs.declared.stream_entry_state.StreamEntryState.TheVariants.{AwaitOpen}
 use Rattle.rtc_sctp_entries.specs.declared.stream_entry.StreamEntry.{StreamEntry}
 use Rattle.rtc_sctp_entries.specs.Entries.{is_open_awaited}

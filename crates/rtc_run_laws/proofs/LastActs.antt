@@ -1,17 +1,17 @@
 -- What acts of the plain association leave of the last item with data of a stream that is not acknowledged.
 use Rattle.std.proofs.Common.{◌≡◌, ◌+◌, ◌-◌, ◌<◌, ◌++◌, ◌∷◌, ◌==◌, ◌&&◌, not, cond, ℕ, Bool, true, false, List, [], length, Option, Some, None, Result, refl, sym, subst}
 use Rattle.std.specs.declared.alloc.AllocError.{AllocError}
-use Rattle.rtc_part_association.specs.declared.assoc_event.AssocEvent.TheVariants.{Connected}
-use Rattle.rtc_part_association.specs.Ppi.{ppi_number}
-use Rattle.rtc_part_association.specs.AssociationActs.{AssociationAct, Started, Opened, Wrote, Ended, Given, Taken, Read, Told as ToldEvent, Stirred, Starts, ByConnect, ByAccept, BySnap, Stirs, LimitsSet, ConnectRefused, AcceptRefused, SnapRefused, OpenRefused, WriteRefused, ReadRefused, EndRefused, ThresholdSet, ReliabilitySet, Acted}
-use Rattle.rtc_part_values.specs.Why.{Timed, Shut as ShutDown, Other}
-use Rattle.rtc_assoc_packets.specs.declared.item.Item.{Item}
-use Rattle.rtc_assoc_packets.specs.declared.item_part.ItemPart.{ItemPart}
-use Rattle.rtc_assoc_packets.specs.declared.item_part.ItemPart.TheVariants.{More, Last, Close}
-use Rattle.rtc_assoc_packets.specs.declared.frame.Frame.{Frame}
-use Rattle.rtc_assoc_packets.specs.declared.frame.Frame.TheVariants.{Hello, Welcome, Data, Acknowledgement, Shutdown}
-use Rattle.rtc_assoc_packets.specs.Packets.{frame_in}
-use Rattle.rtc_assoc_packets.specs.Pieces.{close_of, pieces_of}
+use Rattle.rtc_parts.specs.declared.assoc_event.AssocEvent.TheVariants.{Connected}
+use Rattle.rtc_parts.specs.Ppi.{ppi_number}
+use Rattle.rtc_parts.specs.AssociationActs.{AssociationAct, Started, Opened, Wrote, Ended, Given, Taken, Read, Told as ToldEvent, Stirred, Starts, ByConnect, ByAccept, BySnap, Stirs, LimitsSet, ConnectRefused, AcceptRefused, SnapRefused, OpenRefused, WriteRefused, ReadRefused, EndRefused, ThresholdSet, ReliabilitySet, Acted}
+use Rattle.rtc_parts.specs.Why.{Timed, Shut as ShutDown, Other}
+use Rattle.rtc_assoc_state.specs.declared.item.Item.{Item}
+use Rattle.rtc_assoc_state.specs.declared.item_part.ItemPart.{ItemPart}
+use Rattle.rtc_assoc_state.specs.declared.item_part.ItemPart.TheVariants.{More, Last, Close}
+use Rattle.rtc_assoc_state.specs.declared.frame.Frame.{Frame}
+use Rattle.rtc_assoc_state.specs.declared.frame.Frame.TheVariants.{Hello, Welcome, Data, Acknowledgement, Shutdown}
+use Rattle.rtc_assoc_state.specs.Packets.{frame_in}
+use Rattle.rtc_assoc_state.specs.Pieces.{close_of, pieces_of}
 use Rattle.rtc_assoc_state.specs.declared.close_state.CloseState.{CloseState}
 use Rattle.rtc_assoc_state.specs.declared.close_state.CloseState.TheVariants.{Unclosed, Queued, Acknowledged}
 use Rattle.rtc_assoc_state.specs.declared.stream_row.StreamRow.{StreamRow}

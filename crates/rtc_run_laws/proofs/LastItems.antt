@@ -1,10 +1,10 @@
 -- The last of the items with data that are not acknowledged carries bytes: so it is behind a message that is not empty.
 use Rattle.std.proofs.Common.{◌≡◌, ◌∙◌, ◌+◌, ◌-◌, ◌<◌, ◌==◌, ◌&&◌, ◌||◌, nat_le, cond, zero, suc, ℕ, Bool, true, false, true≢false, List, [], ◌∷◌, ◌++◌, drop, take, length, length-drop, refl, sym, ap, arith}
 use Rattle.std.proofs.lemmas.List.Folds.{list_any-append}
-use Rattle.rtc_part_association.specs.Ppi.{ppi_of}
-use Rattle.rtc_assoc_packets.specs.declared.item.Item.{Item}
-use Rattle.rtc_assoc_packets.specs.declared.item_part.ItemPart.TheVariants.{Last, More}
-use Rattle.rtc_assoc_packets.specs.Pieces.{close_of, piece, pieces_within}
+use Rattle.rtc_parts.specs.Ppi.{ppi_of}
+use Rattle.rtc_assoc_state.specs.declared.item.Item.{Item}
+use Rattle.rtc_assoc_state.specs.declared.item_part.ItemPart.TheVariants.{Last, More}
+use Rattle.rtc_assoc_state.specs.Pieces.{close_of, piece, pieces_within}
 use Rattle.rtc_assoc_state.specs.Outbox.{buffered, bytes_for}
 use Rattle.rtc_run_laws.specs.AcknowledgedData.{carries_data, has_unacknowledged_data, is_data_item}
 

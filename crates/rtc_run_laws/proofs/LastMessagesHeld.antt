@@ -2,12 +2,12 @@
 use Rattle.std.proofs.Common.{◌≡◌, ◌∙◌, ◌≤◌, ◌<◌, ◌++◌, ◌∷◌, ◌==◌, ◌&&◌, cond, ℕ, Bool, true, false, true≢false, List, [], length, append-nil, refl, sym, ap, subst, arith}
 use Rattle.std.specs.Prelude.{nat_lt}
 use Rattle.std.proofs.lemmas.Bool.{eqb-true}
-use Rattle.rtc_part_association.specs.declared.ppi.Ppi.{Ppi}
-use Rattle.rtc_part_association.specs.declared.ppi.Ppi.TheVariants as ppi
-use Rattle.rtc_part_association.specs.AssociationActs.{AssociationAct, Wrote, Given, Acted, Moved}
-use Rattle.rtc_part_association.specs.AssociationWords.{AssociationMessage, written}
-use Rattle.rtc_part_association.specs.Ppi.{ppi_of}
-use Rattle.rtc_part_association.proofs.AssociationLemmas.{adds_all, generation_rises, written-append}
+use Rattle.rtc_parts.specs.declared.ppi.Ppi.{Ppi}
+use Rattle.rtc_parts.specs.declared.ppi.Ppi.TheVariants as ppi
+use Rattle.rtc_parts.specs.AssociationActs.{AssociationAct, Wrote, Given, Acted, Moved}
+use Rattle.rtc_parts.specs.AssociationWords.{AssociationMessage, written}
+use Rattle.rtc_parts.specs.Ppi.{ppi_of}
+use Rattle.rtc_parts.proofs.AssociationLemmas.{adds_all, generation_rises, written-append}
 use Rattle.rtc_assoc_state.specs.Contents.{Contents, buffered_of, generation_of, has_stream}
 use Rattle.rtc_assoc_state.specs.Outbox.{buffered}
 use Rattle.rtc_assoc_state.specs.PlainMeaning.{plain_meaning}

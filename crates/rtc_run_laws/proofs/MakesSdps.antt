@@ -11,7 +11,7 @@ use Rattle.rtc_peer_rows.specs.ParsedLines.{parsed_lines}
 use Rattle.rtc_peer_rows.specs.Table.{IsTable, Distinct}
 use Rattle.rtc_change.specs.TableAfter.{table_after}
 use Rattle.rtc_peer_core.specs.Stance.{Stance}
-use Rattle.rtc_part_media.specs.declared.media_update.MediaUpdate.{MediaUpdate}
+use Rattle.rtc_parts.specs.declared.media_update.MediaUpdate.{MediaUpdate}
 use Rattle.rtc_peer_core.specs.MadeSdp.{offer_sdp, answer_sdp, row_told, offer_head, offered_told, answer_head, answered_told}
 use Rattle.rtc_peer_core.specs.SdpHalves.{offer_init, answer_init}
 use Rattle.rtc_peer_core.proofs.ToldRows.{rows_of_offered, rows_of_answered}

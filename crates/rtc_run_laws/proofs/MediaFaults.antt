@@ -1,10 +1,10 @@
 -- The count of faults of a media part never falls as its peer accepts or refuses an offer or an answer.
 use Rattle.std.proofs.Common.{◌≡◌, ◌≤◌, inl, inr, Bool, List, Option, Result, Ok, Err, ap, arith}
 use Rattle.std.specs.declared.alloc.AllocError.{AllocError}
-use Rattle.rtc_part_values.specs.Why.{Other}
-use Rattle.rtc_part_media.specs.MediaActs.{MediaStirred, Committed, Prepared}
-use Rattle.rtc_part_media.specs.MediaLaws.{MediaLaws}
-use Rattle.rtc_part_media.specs.declared.media_update.MediaUpdate.{MediaUpdate}
+use Rattle.rtc_parts.specs.Why.{Other}
+use Rattle.rtc_parts.specs.MediaActs.{MediaStirred, Committed, Prepared}
+use Rattle.rtc_parts.specs.MediaLaws.{MediaLaws}
+use Rattle.rtc_parts.specs.declared.media_update.MediaUpdate.{MediaUpdate}
 use Rattle.rtc_sdp_values.specs.declared.ice_creds.IceCreds.{IceCreds}
 use Rattle.rtc_sdp_values.specs.declared.sdp.Sdp.{Sdp}
 use Rattle.rtc_change.specs.declared.change.Change.{Change}

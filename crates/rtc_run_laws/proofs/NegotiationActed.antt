@@ -4,10 +4,10 @@ use Rattle.std.specs.Prelude.{alloc_error}
 use Rattle.std.specs.declared.alloc.AllocError.{AllocError}
 use Rattle.rtc_sdp_values.specs.declared.direction.Direction.{Direction}
 use Rattle.rtc_sdp_values.specs.declared.direction.Direction.TheVariants.{Inactive}
-use Rattle.rtc_part_values.specs.Among.{Among}
-use Rattle.rtc_part_association.proofs.AmongLemmas.{among_none}
-use Rattle.rtc_part_ice.specs.IceActs.{ControllingSet, Stirred, ice_moved-one}
-use Rattle.rtc_part_dtls.specs.DtlsState.{DtlsState}
+use Rattle.rtc_parts.specs.Among.{Among}
+use Rattle.rtc_parts.proofs.AmongLemmas.{among_none}
+use Rattle.rtc_parts.specs.IceActs.{ControllingSet, Stirred, ice_moved-one}
+use Rattle.rtc_parts.specs.DtlsState.{DtlsState}
 use Rattle.rtc_sctp_entries.specs.declared.stream_entry.StreamEntry.{StreamEntry}
 use Rattle.rtc_change.specs.declared.change.Change.{Change}
 use Rattle.rtc_change.specs.PendingOffer.{PendingOffer}

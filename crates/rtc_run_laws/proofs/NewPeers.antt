@@ -2,23 +2,23 @@
 use Rattle.std.proofs.Common.{◌≡◌, ◌∙◌, ◌∷◌, inr, ℕ, Bool, List, [], None, Result, Ok, refl, sym, ap, subst}
 use Rattle.std.specs.declared.alloc.AllocError.{AllocError}
 use Rattle.rtc_sdp_values.specs.declared.candidate.Candidate.{Candidate}
-use Rattle.rtc_part_values.specs.Among.{Among, Member}
-use Rattle.rtc_part_values.specs.Why.{Other}
-use Rattle.rtc_part_association.specs.AssociationActs.{LimitsSet, Stirred as AssociationStirred}
-use Rattle.rtc_part_association.proofs.AmongLemmas.{among_none}
-use Rattle.rtc_part_ice.specs.IceMeaning.{IceMeaning}
-use Rattle.rtc_part_ice.specs.IceActs.{RtoSet, LiteSet, LocalSet, LocalAdded, Stirred as IceStirred}
-use Rattle.rtc_part_dtls.specs.DtlsActs.{VersionSet, CertificateSet, Stirred as DtlsStirred}
-use Rattle.rtc_part_dtls.specs.DtlsState.{DtlsState}
-use Rattle.rtc_part_dtls.specs.DtlsWords.{dtls_given}
-use Rattle.rtc_part_media.specs.MediaActs.{Configured, MediaStirred}
+use Rattle.rtc_parts.specs.Among.{Among, Member}
+use Rattle.rtc_parts.specs.Why.{Other}
+use Rattle.rtc_parts.specs.AssociationActs.{LimitsSet, Stirred as AssociationStirred}
+use Rattle.rtc_parts.proofs.AmongLemmas.{among_none}
+use Rattle.rtc_parts.specs.IceMeaning.{IceMeaning}
+use Rattle.rtc_parts.specs.IceActs.{RtoSet, LiteSet, LocalSet, LocalAdded, Stirred as IceStirred}
+use Rattle.rtc_parts.specs.DtlsActs.{VersionSet, CertificateSet, Stirred as DtlsStirred}
+use Rattle.rtc_parts.specs.DtlsState.{DtlsState}
+use Rattle.rtc_parts.specs.DtlsWords.{dtls_given}
+use Rattle.rtc_parts.specs.MediaActs.{Configured, MediaStirred}
 use Rattle.rtc_sctp.specs.Streams.{SctpStreams}
 use Rattle.rtc_plain_ice.specs.Contents.{IceContents}
 use Rattle.rtc_plain_ice.specs.PlainMeaning.{plain_ice}
 use Rattle.rtc_plain_dtls.specs.Contents.{DtlsContents}
 use Rattle.rtc_assoc_state.specs.Contents.{Contents}
 use Rattle.rtc_plain_media.specs.MediaContents.{MediaContents}
-use Rattle.rtc_part_values.specs.Draws.{Draws}
+use Rattle.rtc_parts.specs.Draws.{Draws}
 use Rattle.rtc_sctp_laws.specs.StreamMessages.{pushed_packets, reads_of, writes_of}
 use Rattle.rtc_peer_core.specs.declared.peer.Peer.{Peer}
 use Rattle.rtc_peer_core.specs.Built.{payload_of_mtu, creds_or, cert_or, session_drawn, creds_drawn}

@@ -2,13 +2,13 @@
 use Rattle.std.proofs.Common.{◌≡◌, ◌∙◌, ◌⊎◌, ◌∷◌, ◌&&◌, ◌||◌, ◌==◌, if◌then◌else◌, ℕ, Bool, true, false, true≢false, List, [], Option, Some, None, inl, inr, refl, sym, ap, subst, arith}
 use Rattle.std.specs.Prelude.{option_and_then}
 use Rattle.std.proofs.lemmas.Bool.{eqb-true}
-use Rattle.rtc_part_values.specs.Among.{Member}
-use Rattle.rtc_part_dtls.specs.DtlsState.{can_send}
+use Rattle.rtc_parts.specs.Among.{Member}
+use Rattle.rtc_parts.specs.DtlsState.{can_send}
 use Rattle.rtc_plain_dtls.specs.PlainMeaning.{plain_dtls}
 use Rattle.rtc_assoc_state.proofs.PlainLaws.{plain_laws}
 use Rattle.rtc_assoc_state.specs.Contents.{Contents, closed_here, generation_of, is_ending, is_started}
 use Rattle.rtc_assoc_state.specs.PlainMeaning.{plain_meaning}
-use Rattle.rtc_part_values.specs.Draws.{Draws}
+use Rattle.rtc_parts.specs.Draws.{Draws}
 use Rattle.rtc_sctp_entries.specs.declared.stream_entry.StreamEntry.{StreamEntry}
 use Rattle.rtc_sctp_entries.specs.Entries.{fits_generation, has_open, is_open_state}
 use Rattle.rtc_sctp.specs.Calls.{is_open_stream}
@@ -25,7 +25,7 @@ use Rattle.rtc_peer_laws.specs.Drained.{AllHeard, AreHeard, IsHeard}
 use Rattle.rtc_peer_laws.specs.PeerActs.{PeerActs}
 use Rattle.rtc_peer_laws.proofs.ChannelsOver.{under_over}
 use Rattle.rtc_peer_laws.proofs.DrainedPolls.{Ends, AtRest, Waiting, poll_ends}
-use Rattle.rtc_peer_resting.proofs.Draining.{visit_drains}
+use Rattle.rtc_peer_polling.proofs.Draining.{visit_drains}
 use Rattle.rtc_peer_laws.proofs.HeardPolls.{timeout_heard}
 use Rattle.rtc_run_laws.specs.PlainPairs.{PlainPolled, plain_over}
 use Rattle.rtc_run_laws.proofs.StepsExchange.{plain_over_laws}

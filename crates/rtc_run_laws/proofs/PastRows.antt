@@ -1,5 +1,5 @@
 -- At most one token of a side is right, and while it is, the rows of the side stay as its offer left them where its ops set and stop no line.
-use Rattle.rtc_part_dtls.specs.declared.dtls_error.DtlsError.TheVariants.{Fault}
+use Rattle.rtc_parts.specs.declared.dtls_error.DtlsError.TheVariants.{Fault}
 use Rattle.std.proofs.Common.{◌≡◌, ℕ, Bool, true, false, not, List, [], ◌∷◌, length, Option, Some, None, refl, sym, ◌∙◌, ap, subst, ◌⊎◌, inl, inr}
 use Rattle.std.specs.Prelude.{slice_get}
 use Rattle.std.proofs.lemmas.Bool.{eq-eqb, both_ways, or_parts, and_parts}

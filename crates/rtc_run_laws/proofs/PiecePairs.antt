@@ -1,13 +1,13 @@
 -- Of two ends of the plain association: a part of a message that one holds is of a generation of a stream to which the other one wrote.
 use Rattle.std.proofs.Common.{◌≡◌, ◌∙◌, ◌⊎◌, inl, inr, ℕ, true, List, [], ◌∷◌, ◌++◌, append-nil, append_assoc, drop, length, Option, Some, None, refl, sym, subst, arith}
-use Rattle.rtc_part_values.specs.Among.{Among}
-use Rattle.rtc_part_association.specs.AssociationActs.{AssociationAct, Given, Moved}
-use Rattle.rtc_part_association.specs.AssociationWords.{AssociationMessage, ended, given, taken, written}
-use Rattle.rtc_part_association.proofs.AssociationLemmas.{written-append}
-use Rattle.rtc_assoc_packets.specs.declared.item.Item.{Item}
-use Rattle.rtc_assoc_packets.specs.declared.frame.Frame.{Frame}
-use Rattle.rtc_assoc_packets.specs.declared.frame.Frame.TheVariants.{Hello, Welcome, Data, Acknowledgement, Shutdown}
-use Rattle.rtc_assoc_packets.specs.Packets.{frame_in}
+use Rattle.rtc_parts.specs.Among.{Among}
+use Rattle.rtc_parts.specs.AssociationActs.{AssociationAct, Given, Moved}
+use Rattle.rtc_parts.specs.AssociationWords.{AssociationMessage, ended, given, taken, written}
+use Rattle.rtc_parts.proofs.AssociationLemmas.{written-append}
+use Rattle.rtc_assoc_state.specs.declared.item.Item.{Item}
+use Rattle.rtc_assoc_state.specs.declared.frame.Frame.{Frame}
+use Rattle.rtc_assoc_state.specs.declared.frame.Frame.TheVariants.{Hello, Welcome, Data, Acknowledgement, Shutdown}
+use Rattle.rtc_assoc_state.specs.Packets.{frame_in}
 use Rattle.rtc_assoc_state.specs.Contents.{Contents, fresh_contents}
 use Rattle.rtc_assoc_state.specs.PlainMeaning.{plain_meaning}
 use Rattle.rtc_assoc.specs.Joined.{Ends, fresh_ends, Move, LeftMoves, RightMoves, Goes, Run}

@@ -13,7 +13,7 @@ use Rattle.rtc_sdp_values.specs.declared.candidate.Candidate.{Candidate}
 use Rattle.rtc_sdp_values.specs.declared.ssrc.Ssrc.{Ssrc}
 use Rattle.rtc_sdp_writer.specs.Plain.{IsLegible, IsHost, IsLegibleLine, AreNamed, SuitsKind, StandFirst}
 use Rattle.rtc_sdp_writer.specs.SessionRows.{enabled_mids as named_mids}
-use Rattle.rtc_part_media.specs.declared.media_update.MediaUpdate.{MediaUpdate}
+use Rattle.rtc_parts.specs.declared.media_update.MediaUpdate.{MediaUpdate}
 use Rattle.rtc_change.specs.PendingOffer.{added_rows}
 use Rattle.rtc_peer_rows.specs.ParsedLines.{parsed_line, parsed_lines}
 use Rattle.rtc_peer_core.specs.declared.sdp_head.SdpHead.{SdpHead}

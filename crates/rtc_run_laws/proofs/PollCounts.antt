@@ -1,9 +1,9 @@
 -- What a poll does to the counts of faults: none falls, and an error that tells a fault of a part comes only where that part's count rose.
 use Rattle.std.proofs.Common.{◌≡◌, ◌≤◌, inr, if◌then◌else◌, ◌∙◌, ℕ, Bool, true, false, List, [], ◌∷◌, Option, Some, None, Result, Ok, Err, refl, sym, ap, subst}
-use Rattle.rtc_part_values.specs.Why.{Other}
-use Rattle.rtc_part_media.specs.MediaActs.{MediaTaken, MediaStirred, EventTold, FallibleTold, FeedbackCleared}
-use Rattle.rtc_part_media.specs.declared.media_error.MediaError.{MediaError}
-use Rattle.rtc_part_media.specs.declared.media_error.MediaError.TheVariants.{Alloc as MediaAlloc}
+use Rattle.rtc_parts.specs.Why.{Other}
+use Rattle.rtc_parts.specs.MediaActs.{MediaTaken, MediaStirred, EventTold, FallibleTold, FeedbackCleared}
+use Rattle.rtc_parts.specs.declared.media_error.MediaError.{MediaError}
+use Rattle.rtc_parts.specs.declared.media_error.MediaError.TheVariants.{Alloc as MediaAlloc}
 use Rattle.rtc_peer_core.specs.declared.phase.Phase.{Phase}
 use Rattle.rtc_peer_core.specs.declared.phase.Phase.TheVariants.{Alive, Closing, Closed}
 use Rattle.rtc_peer_core.specs.declared.rtc_error.RtcError.{RtcError}
@@ -19,8 +19,8 @@ use Rattle.rtc_peer_transport.specs.Closing.{is_closing_complete}
 use Rattle.rtc_peer_polling.specs.DtlsStages.{is_dtls_due}
 use Rattle.rtc_peer_polling.specs.MediaStages.{TellsMedia, TellsFallibleMedia}
 use Rattle.rtc_peer_polling.specs.SendStages.{SendsChecks, SendsDtlsPacket, SendsMediaDatagram, SendsBy, SendsByPair}
-use Rattle.rtc_part_media.specs.declared.stats_event.StatsEvent.{StatsEvent}
-use Rattle.rtc_part_media.specs.declared.stats_event.StatsEvent.TheVariants as reports
+use Rattle.rtc_parts.specs.declared.stats_event.StatsEvent.{StatsEvent}
+use Rattle.rtc_parts.specs.declared.stats_event.StatsEvent.TheVariants as reports
 use Rattle.rtc_config.specs.Stats.{Reporting}
 use Rattle.rtc_peer_transport.specs.Statistics.{TellsReport, TellsReportOf, TellsStatistics}
 use Rattle.rtc_peer_polling.specs.StreamStages.{TellsStreams}

@@ -2,16 +2,16 @@
 use Rattle.std.proofs.Common.{◌≡◌, inl, inr, ◌∙◌, ◌∷◌, if◌then◌else◌, not, ℕ, Bool, true, false, true≢false, List, [], length, append-nil, None, Result, Ok, Err, refl, sym, ap, subst}
 use Rattle.std.specs.declared.alloc.AllocError.{AllocError}
 use Rattle.std.specs.Prelude.{nat_le}
-use Rattle.rtc_part_values.specs.Among.{Member}
-use Rattle.rtc_part_values.specs.Why.{Timed, Shut, Other}
-use Rattle.rtc_part_association.specs.Ppi.{ppi_number}
-use Rattle.rtc_part_association.specs.AssociationActs.{AssociationAct, Started, Opened, Wrote, Ended, Given, Taken, Read, Told as ToldEvent, Stirred, Starts, ByConnect, ByAccept, BySnap, Stirs, LimitsSet, ConnectRefused, AcceptRefused, SnapRefused, OpenRefused, WriteRefused, ReadRefused, EndRefused, ThresholdSet, ReliabilitySet, Acted, Moved}
-use Rattle.rtc_part_association.specs.AssociationWords.{given}
-use Rattle.rtc_part_dtls.specs.declared.dtls_error.DtlsError.{DtlsError}
-use Rattle.rtc_part_dtls.specs.declared.dtls_error.DtlsError.TheVariants.{WouldBlock, Fault, Alloc}
-use Rattle.rtc_part_dtls.specs.DtlsDrawn.{DtlsDrawn, DrewPacket, DrewData}
-use Rattle.rtc_part_dtls.specs.DtlsActs.{DtlsAct, DtlsCall, DtlsActed, DtlsCalled, DtlsMoved, Given as DtlsGiven, Taken as DtlsTaken, Sent, Got, Stirred as DtlsStirred, CertificateSet, Activated, VersionSet, SendRefused, TimedAt, Closed, Showed}
-use Rattle.rtc_part_dtls.specs.DtlsWords.{dtls_given, dtls_got}
+use Rattle.rtc_parts.specs.Among.{Member}
+use Rattle.rtc_parts.specs.Why.{Timed, Shut, Other}
+use Rattle.rtc_parts.specs.Ppi.{ppi_number}
+use Rattle.rtc_parts.specs.AssociationActs.{AssociationAct, Started, Opened, Wrote, Ended, Given, Taken, Read, Told as ToldEvent, Stirred, Starts, ByConnect, ByAccept, BySnap, Stirs, LimitsSet, ConnectRefused, AcceptRefused, SnapRefused, OpenRefused, WriteRefused, ReadRefused, EndRefused, ThresholdSet, ReliabilitySet, Acted, Moved}
+use Rattle.rtc_parts.specs.AssociationWords.{given}
+use Rattle.rtc_parts.specs.declared.dtls_error.DtlsError.{DtlsError}
+use Rattle.rtc_parts.specs.declared.dtls_error.DtlsError.TheVariants.{WouldBlock, Fault, Alloc}
+use Rattle.rtc_parts.specs.DtlsDrawn.{DtlsDrawn, DrewPacket, DrewData}
+use Rattle.rtc_parts.specs.DtlsActs.{DtlsAct, DtlsCall, DtlsActed, DtlsCalled, DtlsMoved, Given as DtlsGiven, Taken as DtlsTaken, Sent, Got, Stirred as DtlsStirred, CertificateSet, Activated, VersionSet, SendRefused, TimedAt, Closed, Showed}
+use Rattle.rtc_parts.specs.DtlsWords.{dtls_given, dtls_got}
 use Rattle.rtc_plain_dtls.specs.Contents.{DtlsContents, asks_of, phase_is_finished}
 use Rattle.rtc_plain_dtls.specs.Calls.{went_on, certificate_kept, role_set, start_came, packet_came, data_queued, sent_again, moment_taken, dtls_time_passed, dtls_shut_down, dtls_packet_given}
 use Rattle.rtc_plain_dtls.specs.PlainMeaning.{plain_dtls, LeavesDtls, SendsDtls, PollsDtls, KeepsCert}

@@ -1,11 +1,11 @@
 -- A side of which a poll ended in a timeout rests: what stands unread is of streams that are shut, or no channel is announced in-band.
 use Rattle.std.proofs.Common.{◌≡◌, ◌∙◌, ◌⊎◌, ◌+◌, ◌&&◌, ◌∷◌, ℕ, Bool, true, false, true≢false, List, [], length, Option, Some, None, Ok, inl, inr, refl, sym, ap, subst, arith}
 use Rattle.std.specs.Prelude.{is_some}
-use Rattle.rtc_part_association.specs.AssociationActs.{AssociationAct, Moved}
-use Rattle.rtc_part_association.specs.AssociationWords.{given}
-use Rattle.rtc_part_association.specs.declared.assoc_event.AssocEvent.{AssocEvent}
-use Rattle.rtc_part_dtls.specs.DtlsState.{DtlsState, can_send}
-use Rattle.rtc_part_dtls.specs.DtlsWords.{dtls_got}
+use Rattle.rtc_parts.specs.AssociationActs.{AssociationAct, Moved}
+use Rattle.rtc_parts.specs.AssociationWords.{given}
+use Rattle.rtc_parts.specs.declared.assoc_event.AssocEvent.{AssocEvent}
+use Rattle.rtc_parts.specs.DtlsState.{DtlsState, can_send}
+use Rattle.rtc_parts.specs.DtlsWords.{dtls_got}
 use Rattle.rtc_plain_dtls.specs.declared.output.Output.{Output}
 use Rattle.rtc_plain_dtls.specs.Contents.{DtlsContents, fresh_dtls, phase_is_finished}
 use Rattle.rtc_plain_dtls.specs.PlainLaws.{plain_dtls_laws}
@@ -13,7 +13,7 @@ use Rattle.rtc_plain_dtls.specs.PlainMeaning.{plain_dtls}
 use Rattle.rtc_assoc_state.specs.Contents.{Contents, fresh_contents, generation_of, has_stream, has_unread, is_started}
 use Rattle.rtc_assoc_state.specs.PlainMeaning.{plain_meaning}
 use Rattle.rtc_assoc_state.proofs.PlainLaws.{plain_laws}
-use Rattle.rtc_part_values.specs.Draws.{Draws}
+use Rattle.rtc_parts.specs.Draws.{Draws}
 use Rattle.rtc_sctp_entries.specs.declared.stream_entry.StreamEntry.{StreamEntry}
 use Rattle.rtc_sctp.specs.Streams.{is_established}
 use Rattle.rtc_sctp_laws.proofs.BackedRows.{plain_sound, plain_unread}
@@ -28,10 +28,10 @@ use Rattle.rtc_peer_laws.specs.Exchanging.{parts_past}
 use Rattle.rtc_peer_laws.specs.JoinedPeers.{ends_of, packet_parts}
 use Rattle.rtc_peer_laws.specs.PeerActs.{PeerActs}
 use Rattle.rtc_peer_laws.proofs.DrainedPolls.{Ends, AtRest, Waiting, poll_ends}
-use Rattle.rtc_peer_resting.proofs.Draining.{visit_drains}
+use Rattle.rtc_peer_polling.proofs.Draining.{visit_drains}
 use Rattle.rtc_peer_laws.proofs.HeardPolls.{timeout_heard}
-use Rattle.rtc_peer_resting.proofs.RestingConnection.{DtlsRests}
-use Rattle.rtc_peer_resting.proofs.RestingStages.{Drained}
+use Rattle.rtc_peer_polling.proofs.RestingConnection.{DtlsRests}
+use Rattle.rtc_peer_polling.proofs.RestingStages.{Drained}
 use Rattle.rtc_run_history.specs.declared.side.Side.{Side}
 use Rattle.rtc_run_history.specs.declared.side.Side.TheVariants.{Left, Right}
 use Rattle.rtc_run_laws.specs.ChannelUses.{ChannelUse}

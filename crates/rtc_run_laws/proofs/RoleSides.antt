@@ -2,13 +2,13 @@
 -- and a handshake that is finished is one of both roles.
 use Rattle.std.proofs.Common.{◌≡◌, ◌∙◌, ◌⊎◌, inl, inr, ℕ, Bool, true, false, true≢false, List, [], ◌∷◌, Some, None, refl, sym, ap, subst}
 use Rattle.std.specs.Prelude.{is_some, ◌&&◌}
-use Rattle.rtc_part_dtls.specs.DtlsActs.{DtlsMoved}
-use Rattle.rtc_part_dtls.specs.DtlsState.{can_send}
-use Rattle.rtc_part_dtls.specs.DtlsWords.{dtls_given}
+use Rattle.rtc_parts.specs.DtlsActs.{DtlsMoved}
+use Rattle.rtc_parts.specs.DtlsState.{can_send}
+use Rattle.rtc_parts.specs.DtlsWords.{dtls_given}
 use Rattle.rtc_plain_dtls.specs.Contents.{fresh_dtls, phase_is_finished}
 use Rattle.rtc_plain_dtls.specs.PlainMeaning.{plain_dtls}
 use Rattle.rtc_assoc_state.specs.PlainMeaning.{plain_meaning}
-use Rattle.rtc_part_values.specs.Draws.{Draws}
+use Rattle.rtc_parts.specs.Draws.{Draws}
 use Rattle.rtc_plain_media.specs.declared.plain_media_event.PlainMediaEvent.{PlainMediaEvent}
 use Rattle.rtc_sctp.specs.Streams.{SctpStreams}
 use Rattle.rtc_peer_core.specs.declared.phase.Phase.TheVariants.{Closed}

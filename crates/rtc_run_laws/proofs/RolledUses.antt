@@ -1,7 +1,7 @@
 -- What a rollback leaves of the channels that were announced: those that it removes, and the others.
 use Rattle.std.proofs.Common.{◌≡◌, ◌∙◌, ◌⊎◌, ◌++◌, ◌<◌, ◌≤◌, ◌==◌, ◌||◌, ◌&&◌, not, if◌then◌else◌, ℕ, Bool, true, false, true≢false, List, [], ◌∷◌, append-nil, Some, None, inl, inr, refl, sym, ap, arith}
 use Rattle.std.proofs.lemmas.Bool.{eqb-true, eqb-false, ne_eqb}
-use Rattle.rtc_part_association.specs.AssociationLaws.{AssociationLaws}
+use Rattle.rtc_parts.specs.AssociationLaws.{AssociationLaws}
 use Rattle.rtc_sctp_laws.specs.StreamMessages.{StreamMessage}
 use Rattle.rtc_sctp_laws.specs.GenerationLaws.{GenerationLaws}
 use Rattle.rtc_sctp_laws.specs.StreamUses.{messages_of}

@@ -1,12 +1,12 @@
 -- Runs leave the exchange of a pair, and what one side reads of it the other side wrote.
 use Rattle.std.proofs.Common.{◌≡◌, ◌++◌, ◌∷◌, ℕ, Bool, true, false, List, [], sym, subst}
-use Rattle.rtc_part_association.specs.AssociationWords.{ended, written, read}
+use Rattle.rtc_parts.specs.AssociationWords.{ended, written, read}
 use Rattle.rtc_assoc.specs.Unread.{IsPrefix, unread}
 use Rattle.rtc_assoc.proofs.DirectedLemmas.{directed_all}
 use Rattle.rtc_assoc.proofs.RunLemmas.{both_run}
 use Rattle.rtc_assoc_state.specs.Outbox.{has_unacknowledged}
 use Rattle.rtc_plain_media.specs.declared.plain_media_event.PlainMediaEvent.{PlainMediaEvent}
-use Rattle.rtc_part_values.specs.Draws.{Draws}
+use Rattle.rtc_parts.specs.Draws.{Draws}
 use Rattle.rtc_peer_laws.specs.Exchanging.{parts_past}
 use Rattle.rtc_peer_laws.specs.JoinedPeers.{ends_of, packet_parts}
 use Rattle.rtc_peer_laws.proofs.ExchangeLemmas.{left_reads, right_reads}

@@ -1,15 +1,15 @@
 -- Runs keep what holds of the channels that both sides announced, and what one channel hands out was sent over the other.
 use Rattle.std.proofs.Common.{◌≡◌, ◌∙◌, ◌∷◌, if◌then◌else◌, ℕ, Bool, true, List, [], Some, inl, inr, refl, sym, ap, subst}
-use Rattle.rtc_part_values.specs.Among.{Among}
-use Rattle.rtc_part_association.proofs.AmongLemmas.{among_none}
-use Rattle.rtc_part_dtls.specs.DtlsWords.{dtls_got}
+use Rattle.rtc_parts.specs.Among.{Among}
+use Rattle.rtc_parts.proofs.AmongLemmas.{among_none}
+use Rattle.rtc_parts.specs.DtlsWords.{dtls_got}
 use Rattle.rtc_assoc_state.specs.Contents.{Contents}
 use Rattle.rtc_assoc_state.specs.PlainMeaning.{plain_meaning}
 use Rattle.rtc_plain_dtls.specs.Contents.{DtlsContents}
 use Rattle.rtc_plain_ice.specs.Contents.{IceContents}
 use Rattle.rtc_plain_media.specs.MediaContents.{MediaContents}
 use Rattle.rtc_plain_media.specs.declared.plain_media_event.PlainMediaEvent.{PlainMediaEvent}
-use Rattle.rtc_part_values.specs.Draws.{Draws}
+use Rattle.rtc_parts.specs.Draws.{Draws}
 use Rattle.rtc_sctp_entries.specs.declared.stream_entry.StreamEntry.{StreamEntry}
 use Rattle.rtc_sctp.specs.Streams.{SctpStreams}
 use Rattle.rtc_sctp_laws.specs.StreamUses.{HasOpenInBand, IsUsed, messages_of}

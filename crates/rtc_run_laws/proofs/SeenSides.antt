@@ -3,7 +3,7 @@ use Rattle.std.proofs.Common.{◌≡◌, ◌&&◌, ◌||◌, ℕ, Bool, true, fa
 use Rattle.std.specs.Prelude.{is_some, option_map}
 use Rattle.std.specs.Option.{option_or}
 use Rattle.std.proofs.lemmas.Bool.{and_parts}
-use Rattle.rtc_part_ice.specs.IceMeaning.{IceSettings}
+use Rattle.rtc_parts.specs.IceMeaning.{IceSettings}
 use Rattle.rtc_sctp_values.specs.InitChunk.{chunk_text, chunk_of_text}
 use Rattle.rtc_sctp_values.specs.InitHalves.{InitHalves, remote_text}
 use Rattle.rtc_sctp_values.specs.SnapHalves.{KeptHalves, text_in}

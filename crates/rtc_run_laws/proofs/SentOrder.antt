@@ -1,8 +1,8 @@
 -- The items that an end sent, in order: the closes below the generation of an item stand before it, and none of its own generation does.
 use Rattle.std.proofs.Common.{◌≡◌, ◌∙◌, ◌⊎◌, inl, inr, ◌<◌, ◌≤◌, nat_le, ℕ, zero, suc, cond, Bool, true, false, List, [], ◌∷◌, ◌++◌, take, drop, length, take-append-drop, append-nil, append_assoc, refl, sym, subst, arith}
-use Rattle.rtc_assoc_packets.specs.declared.item.Item.{Item}
-use Rattle.rtc_assoc_packets.specs.declared.item_part.ItemPart.TheVariants.{Close, Last, More}
-use Rattle.rtc_assoc_packets.specs.Pieces.{piece, pieces_within}
+use Rattle.rtc_assoc_state.specs.declared.item.Item.{Item}
+use Rattle.rtc_assoc_state.specs.declared.item_part.ItemPart.TheVariants.{Close, Last, More}
+use Rattle.rtc_assoc_state.specs.Pieces.{piece, pieces_within}
 use Rattle.rtc_assoc.proofs.MessageLemmas.{HasClose, close-append, close-left}
 
 abbrev pub IsAfter : List Item → Item → Type 0

@@ -1,13 +1,13 @@
 -- A channel that is open at one side of a settled pair is open at both.
 use Rattle.std.proofs.Common.{◌≡◌, ◌∙◌, ◌++◌, ℕ, false, List, Some, sym, ap, subst}
-use Rattle.rtc_part_association.specs.AssociationWords.{ended, read, written}
+use Rattle.rtc_parts.specs.AssociationWords.{ended, read, written}
 use Rattle.rtc_assoc.specs.Unread.{IsPrefix, unread}
 use Rattle.rtc_assoc_state.specs.Contents.{closed_here, generation_of}
 use Rattle.rtc_assoc_state.specs.Outbox.{has_unacknowledged}
 use Rattle.rtc_assoc_state.specs.PlainMeaning.{plain_meaning}
 use Rattle.rtc_peer_laws.specs.Drained.{AreHeard}
 use Rattle.rtc_peer_laws.specs.PeerActs.{PeerActs}
-use Rattle.rtc_part_values.specs.Draws.{Draws}
+use Rattle.rtc_parts.specs.Draws.{Draws}
 use Rattle.rtc_run_laws.specs.PlainPairs.{PlainPolled, plain_over}
 use Rattle.rtc_run_laws.specs.ChannelUses.{ChannelUse}
 use Rattle.rtc_run_laws.specs.HandedOut.{AreAllHandedOut}

@@ -10,7 +10,7 @@ use Rattle.rtc_peer_transport.specs.ChannelCalls.{stream_under}
 use Rattle.rtc_peer_laws.specs.ChannelStreams.{AreNumberedChannels}
 use Rattle.rtc_peer_laws.specs.Drained.{AreHeard, AreTriedAgain}
 use Rattle.rtc_plain_media.specs.declared.plain_media_event.PlainMediaEvent.{PlainMediaEvent}
-use Rattle.rtc_part_values.specs.Draws.{Draws}
+use Rattle.rtc_parts.specs.Draws.{Draws}
 use Rattle.rtc_run_history.specs.declared.side.Side.{Side}
 use Rattle.rtc_run_history.specs.declared.side.Side.TheVariants.{Left, Right}
 use Rattle.rtc_run_history.specs.Native.{are_native}

@@ -2,7 +2,7 @@
 use Rattle.std.proofs.Common.{◌≡◌, ◌≢◌, ℕ, Bool, true, false, not, ◌&&◌, ◌||◌, List, [], ◌∷◌, length, Option, Some, None, refl, ◌∙◌, ap}
 use Rattle.std.specs.Prelude.{is_some, slice_get, IfSome}
 use Rattle.std.proofs.lemmas.Slice.Eq.{bytes_eq-Decides}
-use Rattle.rtc_part_ice.specs.IceMeaning.{IceSettings}
+use Rattle.rtc_parts.specs.IceMeaning.{IceSettings}
 use Rattle.rtc_sctp_values.specs.SnapHalves.{KeptHalves}
 use Rattle.rtc_sdp_values.specs.Sdp.{creds_of, sdp_fingerprint, sdp_sctp_init}
 use Rattle.rtc_sdp_values.specs.declared.fingerprint.Fingerprint.{Fingerprint}

@@ -1,6 +1,6 @@
 -- What holds of a side of a run: of its streams, of its channels, and of those that it announced.
 use Rattle.std.proofs.Common.{◌≡◌, ◌++◌, ◌∷◌, ℕ, Bool, true, List, [], append-nil, Some, Result, Ok, Err, inl, inr, refl, sym, subst}
-use Rattle.rtc_part_association.specs.AssociationLaws.{AssociationLaws}
+use Rattle.rtc_parts.specs.AssociationLaws.{AssociationLaws}
 use Rattle.rtc_sctp.specs.Calls.{is_nil, written_ppi}
 use Rattle.rtc_sctp_laws.specs.StreamMessages.{StreamMessage, HaveNamedPpis, NamesReadings, stream_message}
 use Rattle.rtc_sctp_laws.specs.GenerationLaws.{GenerationLaws}

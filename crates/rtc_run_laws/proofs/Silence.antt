@@ -1,9 +1,9 @@
 -- Nothing is told of what was not sent.
 use Rattle.std.proofs.Common.{◌≡◌, ◌∙◌, ◌⊎◌, ◌<◌, ◌-◌, ◌^◌, ◌++◌, ◌∷◌, ℕ, Bool, true, List, [], Some, inl, inr, refl, sym, ap, subst, arith}
 use Rattle.rtc_assoc.specs.Unread.{IsPrefix}
-use Rattle.rtc_part_association.specs.AssociationWords.{AssociationMessage, read, written}
-use Rattle.rtc_part_values.specs.Among.{Member}
-use Rattle.rtc_part_values.specs.Draws.{Draws}
+use Rattle.rtc_parts.specs.AssociationWords.{AssociationMessage, read, written}
+use Rattle.rtc_parts.specs.Among.{Member}
+use Rattle.rtc_parts.specs.Draws.{Draws}
 use Rattle.rtc_peer_laws.specs.PeerActs.{PeerActs}
 use Rattle.rtc_run_history.specs.PairState.{rtc_at}
 use Rattle.rtc_run_history.specs.Sides.{other_side}

@@ -1,8 +1,8 @@
 -- Ends of the plain association that are to report no message, and no room: by acts without packets, and by packets that bring no item.
 use Rattle.std.proofs.Common.{◌≡◌, ◌∷◌, inl, ℕ, false, List, Result}
 use Rattle.std.specs.declared.alloc.AllocError.{AllocError}
-use Rattle.rtc_part_association.specs.declared.assoc_event.AssocEvent.{AssocEvent}
-use Rattle.rtc_part_association.specs.AssociationActs.{AssociationAct, Acted}
+use Rattle.rtc_parts.specs.declared.assoc_event.AssocEvent.{AssocEvent}
+use Rattle.rtc_parts.specs.AssociationActs.{AssociationAct, Acted}
 use Rattle.rtc_assoc_state.specs.Contents.{Contents}
 use Rattle.rtc_assoc_state.specs.PlainMeaning.{plain_meaning, Gives}
 use Rattle.rtc_sctp_laws.specs.GenerationLaws.{gives_packet}

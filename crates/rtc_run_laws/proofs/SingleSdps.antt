@@ -10,7 +10,7 @@ use Rattle.rtc_sdp_values.specs.declared.media_line.MediaLine.{MediaLine}
 use Rattle.rtc_sdp_values.specs.declared.sdp.Sdp.{Sdp}
 use Rattle.rtc_sdp_reader.specs.PlainSources.{numbers_of, AreNumbersApart}
 use Rattle.rtc_sdp_writer.specs.AsRead.{AreSourcesApart}
-use Rattle.rtc_part_media.specs.declared.media_update.MediaUpdate.{MediaUpdate}
+use Rattle.rtc_parts.specs.declared.media_update.MediaUpdate.{MediaUpdate}
 use Rattle.rtc_peer_core.specs.declared.sdp_head.SdpHead.{SdpHead}
 use Rattle.rtc_peer_core.specs.declared.told_row.ToldRow.{ToldRow}
 use Rattle.rtc_peer_core.specs.MadeSdp.{shown_ssrcs, row_line, told_line, with_candidates, sdp_of_rows, offer_head, offered_told, answer_head, answered_told, offer_sdp, answer_sdp}

@@ -1,6 +1,6 @@
 -- An act that comes in time leaves an end that took no stray where it took none.
 use Rattle.std.proofs.Common.{◌∙◌}
-use Rattle.rtc_part_association.specs.AssociationActs.{Acted, AssociationAct}
+use Rattle.rtc_parts.specs.AssociationActs.{Acted, AssociationAct}
 use Rattle.rtc_assoc_state.specs.Contents.{Contents}
 use Rattle.rtc_assoc_state.specs.PlainMeaning.{plain_meaning}
 use Rattle.rtc_sctp_laws.proofs.BackedRows.{plain_sound}

@@ -1,10 +1,10 @@
 -- The exchange of a pair as the side sees it that acts.
 use Rattle.std.proofs.Common.{◌≡◌, ◌∙◌, ◌++◌, ◌∷◌, inl, inr, ℕ, Bool, List, [], Option, None, sym, ap, subst, arith}
-use Rattle.rtc_part_values.specs.Among.{Member}
-use Rattle.rtc_part_association.proofs.AmongLemmas.{member-append, member-left}
-use Rattle.rtc_part_dtls.specs.DtlsWords.{dtls_given, dtls_taken}
-use Rattle.rtc_part_dtls.proofs.DtlsLemmas.{dtls_given-append, dtls_taken-append}
-use Rattle.rtc_part_values.specs.Draws.{Draws}
+use Rattle.rtc_parts.specs.Among.{Member}
+use Rattle.rtc_parts.proofs.AmongLemmas.{member-append, member-left}
+use Rattle.rtc_parts.specs.DtlsWords.{dtls_given, dtls_taken}
+use Rattle.rtc_parts.proofs.DtlsLemmas.{dtls_given-append, dtls_taken-append}
+use Rattle.rtc_parts.specs.Draws.{Draws}
 use Rattle.rtc_sctp_laws.specs.StreamMessages.{StreamMessage}
 use Rattle.rtc_peer_laws.specs.Acts.{PeerDid, NegotiationActs}
 use Rattle.rtc_peer_laws.specs.PeerActs.{Came, PeerActs, acts_with, dtls_roles, roles_after}

@@ -1,19 +1,19 @@
 -- The side of a pair that acts: what was done to it, its exchange with the other one, and what holds of the channels that it announced.
 use Rattle.std.proofs.Common.{◌≡◌, ◌∙◌, ◌++◌, ℕ, Bool, List, [], append-nil, map, sym, subst, ap}
 use Rattle.std.proofs.lemmas.List.{map-append}
-use Rattle.rtc_part_values.specs.Among.{Among}
-use Rattle.rtc_part_association.specs.AssociationActs.{AssociationAct, Moved, moved-append}
-use Rattle.rtc_part_association.specs.AssociationWords.{given}
-use Rattle.rtc_part_association.proofs.AssociationLemmas.{given-append}
-use Rattle.rtc_part_dtls.specs.DtlsActs.{DtlsMoved, dtls_moved-append}
-use Rattle.rtc_part_dtls.specs.DtlsWords.{dtls_got}
-use Rattle.rtc_part_dtls.proofs.DtlsLemmas.{dtls_got-append}
+use Rattle.rtc_parts.specs.Among.{Among}
+use Rattle.rtc_parts.specs.AssociationActs.{AssociationAct, Moved, moved-append}
+use Rattle.rtc_parts.specs.AssociationWords.{given}
+use Rattle.rtc_parts.proofs.AssociationLemmas.{given-append}
+use Rattle.rtc_parts.specs.DtlsActs.{DtlsMoved, dtls_moved-append}
+use Rattle.rtc_parts.specs.DtlsWords.{dtls_got}
+use Rattle.rtc_parts.proofs.DtlsLemmas.{dtls_got-append}
 use Rattle.rtc_plain_dtls.specs.Contents.{fresh_dtls}
 use Rattle.rtc_plain_dtls.specs.PlainMeaning.{plain_dtls}
 use Rattle.rtc_assoc_state.proofs.PlainLaws.{plain_laws}
 use Rattle.rtc_assoc_state.specs.Contents.{fresh_contents}
 use Rattle.rtc_assoc_state.specs.PlainMeaning.{plain_meaning}
-use Rattle.rtc_part_values.specs.Draws.{Draws}
+use Rattle.rtc_parts.specs.Draws.{Draws}
 use Rattle.rtc_sctp_laws.specs.StreamMessages.{StreamMessage, read_act, reads_of, write_act, writes_of}
 use Rattle.rtc_sctp_laws.specs.StreamUses.{messages_of}
 use Rattle.rtc_sctp_laws.proofs.GenerationMessages.{messages-append}

@@ -2,7 +2,7 @@
 use Rattle.std.proofs.Common.{◌≡◌, ◌∙◌, ◌<◌, ◌^◌, ℕ, Bool, true, false, not, ◌&&◌, ◌||◌, List, [], ◌∷◌, Option, Some, None, refl, sym, ap, subst}
 use Rattle.std.specs.Prelude.{IfSome}
 use Rattle.std.proofs.lemmas.Bool.{or_parts}
-use Rattle.rtc_part_dtls.specs.declared.dtls_error.DtlsError.TheVariants.{Fault, WouldBlock, Alloc as DtlsAlloc}
+use Rattle.rtc_parts.specs.declared.dtls_error.DtlsError.TheVariants.{Fault, WouldBlock, Alloc as DtlsAlloc}
 use Rattle.rtc_sdp_values.specs.declared.ice_creds.IceCreds.{IceCreds}
 use Rattle.rtc_sdp_values.specs.declared.line_row.LineRow.{LineRow}
 use Rattle.rtc_sctp_values.specs.InitHalves.{InitHalves}
@@ -49,7 +49,7 @@ use Rattle.rtc_run_laws.proofs.StanceRuns.{IsFreshStance, StanceRan, ran_reached
 use Rattle.rtc_run_laws.proofs.StanceSteps.{PairStance, StanceMakesOf, StancePerformsOps, StanceNegotiates, StanceStepAcceptsOffer, StanceStepAcceptsAnswer, StanceStepRollsBack, StanceActs, StancePerforms, lent}
 use Rattle.rtc_run_laws.proofs.StartHalves.{HasReadHalf, begun_none, told_read, begun_read}
 use Rattle.rtc_run_laws.proofs.Tells.{Tells}
-use Rattle.rtc_part_ice.specs.IceMeaning.{IceSettings}
+use Rattle.rtc_parts.specs.IceMeaning.{IceSettings}
 use Rattle.rtc_sctp_values.specs.SnapHalves.{KeptHalves}
 use Rattle.rtc_sdp_values.specs.declared.fingerprint.Fingerprint.{Fingerprint}
 

@@ -1,8 +1,8 @@
 -- What a poll takes from the streams, and what it sends of their packets, does to the counts of faults.
 use Rattle.std.proofs.Common.{inl, inr, ℕ, Bool, false, List, [], ◌∷◌, Option, Some, None, Result, Ok, Err, refl, ap}
 use Rattle.std.specs.declared.alloc.AllocError.{AllocError}
-use Rattle.rtc_part_dtls.specs.declared.dtls_error.DtlsError.TheVariants.{Fault, Alloc as DtlsAlloc}
-use Rattle.rtc_part_dtls.specs.DtlsState.{can_send}
+use Rattle.rtc_parts.specs.declared.dtls_error.DtlsError.TheVariants.{Fault, Alloc as DtlsAlloc}
+use Rattle.rtc_parts.specs.DtlsState.{can_send}
 use Rattle.rtc_sctp_entries.specs.declared.sctp_event.SctpEvent.{SctpEvent}
 use Rattle.rtc_sctp_entries.specs.declared.sctp_event.SctpEvent.TheVariants as event
 use Rattle.rtc_channels.specs.Holds.{holds_lost}

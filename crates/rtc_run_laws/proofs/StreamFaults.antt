@@ -6,12 +6,12 @@ use Rattle.std.specs.declared.alloc.AllocError.{AllocError}
 use Rattle.rtc_io.specs.Faults.{Rose}
 use Rattle.rtc_ready.specs.Signals.{Signals, both}
 use Rattle.rtc_wire.specs.declared.channel_config.ChannelConfig.{ChannelConfig}
-use Rattle.rtc_part_association.specs.AssociationActs.{AssociationAct, Moved}
-use Rattle.rtc_part_association.specs.AssociationLaws.{AssociationLaws}
-use Rattle.rtc_part_association.specs.AssociationMeaning.{AssociationMeaning}
-use Rattle.rtc_part_association.specs.declared.assoc_error.AssocError.{AssocError}
-use Rattle.rtc_part_association.specs.declared.assoc_error.AssocError.TheVariants as assoc
-use Rattle.rtc_part_association.specs.AssociationNeeds.{Answered, closing_need, need}
+use Rattle.rtc_parts.specs.AssociationActs.{AssociationAct, Moved}
+use Rattle.rtc_parts.specs.AssociationLaws.{AssociationLaws}
+use Rattle.rtc_parts.specs.AssociationMeaning.{AssociationMeaning}
+use Rattle.rtc_parts.specs.declared.assoc_error.AssocError.{AssocError}
+use Rattle.rtc_parts.specs.declared.assoc_error.AssocError.TheVariants as assoc
+use Rattle.rtc_parts.specs.AssociationNeeds.{Answered, closing_need, need}
 use Rattle.rtc_sctp_entries.specs.declared.sctp_event.SctpEvent.{SctpEvent}
 use Rattle.rtc_sctp_values.specs.declared.proto_error.ProtoError.TheVariants as proto
 use Rattle.rtc_sctp_values.specs.declared.sctp_error.SctpError.{SctpError}

@@ -2,13 +2,13 @@
 use Rattle.std.proofs.Common.{◌≡◌, ◌∙◌, ◌⊎◌, inl, inr, ◌+◌, ◌<◌, ◌≤◌, nat_le, nat_lt, ℕ, not, true, false, true≢false, List, [], ◌∷◌, ◌++◌, drop, take, length, Option, Some, None, refl, sym, ap, subst, arith}
 use Rattle.std.proofs.Math.Seq.{drop-drop, take-append_seam}
 use Rattle.std.proofs.lemmas.Bool.Decides.{leb_tells}
-use Rattle.rtc_part_values.specs.Among.{Among, Member}
-use Rattle.rtc_part_association.specs.AssociationActs.{AssociationAct, Given}
-use Rattle.rtc_part_association.specs.AssociationWords.{given, taken}
-use Rattle.rtc_assoc_packets.specs.Packets.{frame_in}
-use Rattle.rtc_assoc_packets.specs.declared.item.Item.{Item}
-use Rattle.rtc_assoc_packets.specs.declared.frame.Frame.{Frame}
-use Rattle.rtc_assoc_packets.specs.declared.frame.Frame.TheVariants.{Acknowledgement, Data, Hello, Shutdown, Welcome}
+use Rattle.rtc_parts.specs.Among.{Among, Member}
+use Rattle.rtc_parts.specs.AssociationActs.{AssociationAct, Given}
+use Rattle.rtc_parts.specs.AssociationWords.{given, taken}
+use Rattle.rtc_assoc_state.specs.Packets.{frame_in}
+use Rattle.rtc_assoc_state.specs.declared.item.Item.{Item}
+use Rattle.rtc_assoc_state.specs.declared.frame.Frame.{Frame}
+use Rattle.rtc_assoc_state.specs.declared.frame.Frame.TheVariants.{Acknowledgement, Data, Hello, Shutdown, Welcome}
 use Rattle.rtc_assoc_state.specs.declared.close_state.CloseState.{CloseState}
 use Rattle.rtc_assoc_state.specs.declared.close_state.CloseState.TheVariants.{Unclosed, Queued, Acknowledged}
 use Rattle.rtc_assoc_state.specs.declared.stream_row.StreamRow.{StreamRow}

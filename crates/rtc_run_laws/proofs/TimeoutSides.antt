@@ -2,15 +2,15 @@
 use Rattle.std.proofs.Common.{◌≡◌, ◌∙◌, ◌⊎◌, ◌+◌, ◌++◌, ◌∷◌, ◌==◌, ◌&&◌, ◌||◌, if◌then◌else◌, ℕ, Bool, true, false, true≢false, List, [], length, Option, Some, None, Ok, inl, inr, refl, sym, ap, subst, arith}
 use Rattle.std.specs.Prelude.{is_some}
 use Rattle.std.proofs.lemmas.Bool.{eqb-true}
-use Rattle.rtc_part_association.specs.AssociationMeaning.{AssociationMeaning}
-use Rattle.rtc_part_dtls.specs.DtlsState.{DtlsState, can_send}
+use Rattle.rtc_parts.specs.AssociationMeaning.{AssociationMeaning}
+use Rattle.rtc_parts.specs.DtlsState.{DtlsState, can_send}
 use Rattle.rtc_plain_dtls.specs.declared.output.Output.{Output}
 use Rattle.rtc_plain_dtls.specs.Contents.{DtlsContents, phase_is_finished}
 use Rattle.rtc_plain_dtls.specs.PlainLaws.{plain_dtls_laws}
 use Rattle.rtc_plain_dtls.specs.PlainMeaning.{plain_dtls}
 use Rattle.rtc_assoc_state.specs.Contents.{Contents, generation_of, has_unread, is_started}
 use Rattle.rtc_assoc_state.specs.PlainMeaning.{plain_meaning}
-use Rattle.rtc_part_values.specs.Draws.{Draws}
+use Rattle.rtc_parts.specs.Draws.{Draws}
 use Rattle.rtc_sctp_entries.specs.declared.stream_entry.StreamEntry.{StreamEntry}
 use Rattle.rtc_sctp_entries.specs.Entries.{has_open, is_open_state}
 use Rattle.rtc_sctp.specs.Streams.{SctpStreams, is_established}
@@ -25,10 +25,10 @@ use Rattle.rtc_peer_laws.specs.ChannelStreams.{IsGone}
 use Rattle.rtc_peer_laws.specs.Drained.{AllHeard, AreHeard, IsHeard}
 use Rattle.rtc_peer_laws.specs.PeerActs.{PeerActs}
 use Rattle.rtc_peer_laws.proofs.DrainedPolls.{Ends, AtRest, Waiting, poll_ends}
-use Rattle.rtc_peer_resting.proofs.Draining.{visit_drains}
+use Rattle.rtc_peer_polling.proofs.Draining.{visit_drains}
 use Rattle.rtc_peer_laws.proofs.HeardPolls.{timeout_heard}
-use Rattle.rtc_peer_resting.proofs.RestingConnection.{DtlsRests}
-use Rattle.rtc_peer_resting.proofs.RestingStages.{Drained, WaitsOver}
+use Rattle.rtc_peer_polling.proofs.RestingConnection.{DtlsRests}
+use Rattle.rtc_peer_polling.proofs.RestingStages.{Drained, WaitsOver}
 use Rattle.rtc_run_laws.proofs.UnusedStreams.{IsUnused}
 use Rattle.rtc_run_laws.specs.PlainPairs.{PlainPolled, plain_over}
 use Rattle.rtc_run_laws.proofs.StepsExchange.{plain_over_laws}

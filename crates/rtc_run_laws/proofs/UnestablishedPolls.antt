@@ -1,8 +1,8 @@
 -- Polls of streams establish no association of which it is not to be reported that it is connected.
 use Rattle.std.proofs.Common.{◌≡◌, ◌∙◌, ◌&&◌, ◌∷◌, ℕ, zero, suc, Bool, true, false, true≢false, List, [], Option, Some, None, Result, refl, sym, ap, subst}
 use Rattle.std.specs.declared.alloc.AllocError.{AllocError}
-use Rattle.rtc_part_association.specs.declared.assoc_event.AssocEvent.{AssocEvent}
-use Rattle.rtc_part_association.specs.declared.assoc_event.AssocEvent.TheVariants as assoc
+use Rattle.rtc_parts.specs.declared.assoc_event.AssocEvent.{AssocEvent}
+use Rattle.rtc_parts.specs.declared.assoc_event.AssocEvent.TheVariants as assoc
 use Rattle.rtc_assoc_state.specs.Contents.{Contents}
 use Rattle.rtc_assoc_state.specs.PlainMeaning.{plain_meaning}
 use Rattle.rtc_assoc_state.proofs.DoesLemmas.{polls_none, polls_some, transmits_none, transmits_some}

@@ -2,11 +2,11 @@
 use Rattle.std.proofs.Common.{◌≡◌, ◌∙◌, ◌∷◌, ◌++◌, if◌then◌else◌, ℕ, Bool, true, false, true≢false, List, [], Result, Ok, Err, refl, sym, ap, subst}
 use Rattle.std.specs.declared.alloc.AllocError.{AllocError}
 use Rattle.std.specs.Prelude.{nat_le}
-use Rattle.rtc_part_dtls.specs.declared.dtls_error.DtlsError.{DtlsError}
-use Rattle.rtc_part_dtls.specs.declared.dtls_error.DtlsError.TheVariants.{WouldBlock, Fault, Alloc}
-use Rattle.rtc_part_dtls.specs.DtlsDrawn.{DtlsDrawn, DrewPacket, DrewData}
-use Rattle.rtc_part_dtls.specs.DtlsActs.{DtlsAct, DtlsCall, DtlsActed, DtlsCalled, DtlsMoved, Given as DtlsGiven, Taken as DtlsTaken, Sent, Got, Stirred as DtlsStirred, CertificateSet, Activated, VersionSet, SendRefused, TimedAt, Closed, Showed}
-use Rattle.rtc_part_dtls.specs.DtlsWords.{dtls_got}
+use Rattle.rtc_parts.specs.declared.dtls_error.DtlsError.{DtlsError}
+use Rattle.rtc_parts.specs.declared.dtls_error.DtlsError.TheVariants.{WouldBlock, Fault, Alloc}
+use Rattle.rtc_parts.specs.DtlsDrawn.{DtlsDrawn, DrewPacket, DrewData}
+use Rattle.rtc_parts.specs.DtlsActs.{DtlsAct, DtlsCall, DtlsActed, DtlsCalled, DtlsMoved, Given as DtlsGiven, Taken as DtlsTaken, Sent, Got, Stirred as DtlsStirred, CertificateSet, Activated, VersionSet, SendRefused, TimedAt, Closed, Showed}
+use Rattle.rtc_parts.specs.DtlsWords.{dtls_got}
 use Rattle.rtc_plain_dtls.specs.Contents.{DtlsContents, asks_of, phase_is_finished}
 use Rattle.rtc_plain_dtls.specs.Calls.{went_on, certificate_kept, role_taken, role_set, start_came, hello_came, certificate_came, finish_came, data_came, close_told, dtls_close_came, frame_came, packet_came, data_queued, sent_again, moment_taken, dtls_time_passed, dtls_shut_down, dtls_packet_given, dtls_output_given}
 use Rattle.rtc_plain_dtls.specs.Frames as said

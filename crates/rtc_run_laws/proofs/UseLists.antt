@@ -1,9 +1,9 @@
 -- Lists of uses of channels, prefixes, and what is written of a message of a user.
 use Rattle.std.proofs.Common.{◌≡◌, ◌∙◌, ◌++◌, ◌∷◌, ◌==◌, if◌then◌else◌, ℕ, Bool, true, false, List, [], map, append-nil, append_assoc, inl, inr, refl, sym, ap, subst}
-use Rattle.rtc_part_values.specs.Among.{Member}
+use Rattle.rtc_parts.specs.Among.{Member}
 use Rattle.rtc_channels.specs.Channels.{Channel}
 use Rattle.rtc_assoc.specs.Unread.{IsPrefix}
-use Rattle.rtc_part_association.specs.AssociationWords.{AssociationMessage}
+use Rattle.rtc_parts.specs.AssociationWords.{AssociationMessage}
 use Rattle.rtc_sctp.specs.Calls.{is_nil, written_ppi}
 use Rattle.rtc_sctp_laws.specs.StreamMessages.{StreamMessage, HaveNamedPpis, stream_message}
 use Rattle.rtc_sctp_laws.specs.StreamUses.{is_of_generation, messages_of}

@@ -1,7 +1,7 @@
 -- What a poll leaves of a channel that it announces.
 use Rattle.std.proofs.Common.{◌≡◌, ◌∙◌, ◌⊎◌, ◌++◌, ◌∷◌, not, ℕ, Bool, true, false, true≢false, List, [], append-nil, Option, Some, Ok, inl, inr, refl, sym, ap, subst}
 use Rattle.std.specs.Prelude.{is_some}
-use Rattle.rtc_part_association.specs.AssociationLaws.{AssociationLaws}
+use Rattle.rtc_parts.specs.AssociationLaws.{AssociationLaws}
 use Rattle.rtc_sctp_entries.specs.declared.stream_entry.StreamEntry.{StreamEntry}
 use Rattle.rtc_sctp_entries.specs.Entries.{config_or_fresh}
 use Rattle.rtc_sctp_laws.specs.StreamMessages.{StreamMessage}

@@ -2,7 +2,7 @@
 -- written of its generation, and what was got is a prefix of what was read of this behind the message that opened it.
 use Rattle.std.proofs.Common.{◌≡◌, ◌∙◌, ◌⊎◌, ◌++◌, ◌∷◌, ◌==◌, ℕ, Bool, true, false, List, [], append-nil, append_assoc, Option, Some, None, Ok, refl, sym, ap, subst}
 use Rattle.std.proofs.lemmas.Bool.{eqb-true, eqb-false}
-use Rattle.rtc_part_association.specs.AssociationLaws.{AssociationLaws}
+use Rattle.rtc_parts.specs.AssociationLaws.{AssociationLaws}
 use Rattle.rtc_assoc.specs.Unread.{IsPrefix}
 use Rattle.rtc_sctp.specs.Calls.{is_nil, written_ppi}
 use Rattle.rtc_sctp_laws.specs.StreamMessages.{StreamMessage, is_dcep_message, stream_message}

@@ -1,6 +1,6 @@
 -- Sides that rest, or do not, worked by hand.
 use Rattle.std.proofs.Common.{◌∷◌, ◌<◌, [], None, arith}
-use Rattle.rtc_part_values.specs.declared.reason.Reason.TheVariants.{NotHappening}
+use Rattle.rtc_parts.specs.declared.reason.Reason.TheVariants.{NotHappening}
 use Rattle.rtc_run_history.specs.declared.outcome.Outcome.{Outcome}
 use Rattle.rtc_run_history.specs.declared.outcome.Outcome.TheVariants.{Done, Polled, NoSuch, Alloc}
 use Rattle.rtc_run_history.specs.declared.poll_end.PollEnd.TheVariants.{Ended}

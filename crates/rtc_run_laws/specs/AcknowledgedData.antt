@@ -2,12 +2,12 @@
 -- drained reader has all of it.
 use Rattle.std.specs.Prelude.{ℕ, ◌≡◌, ◌==◌, ◌&&◌, nat_lt, Bool, true, false, List, [], ◌∷◌, length, Some}
 use Rattle.std.specs.List.{list_any}
-use Rattle.rtc_part_association.specs.declared.ppi.Ppi.{Ppi}
-use Rattle.rtc_part_association.specs.declared.ppi.Ppi.TheVariants as ppi
-use Rattle.rtc_part_association.specs.Ppi.{ppi_of}
-use Rattle.rtc_part_values.specs.Among.{Member}
-use Rattle.rtc_part_values.specs.Draws.{Draws}
-use Rattle.rtc_assoc_packets.specs.declared.item.Item.{Item}
+use Rattle.rtc_parts.specs.declared.ppi.Ppi.{Ppi}
+use Rattle.rtc_parts.specs.declared.ppi.Ppi.TheVariants as ppi
+use Rattle.rtc_parts.specs.Ppi.{ppi_of}
+use Rattle.rtc_parts.specs.Among.{Member}
+use Rattle.rtc_parts.specs.Draws.{Draws}
+use Rattle.rtc_assoc_state.specs.declared.item.Item.{Item}
 use Rattle.rtc_assoc_state.specs.Contents.{generation_of}
 use Rattle.rtc_plain_media.specs.declared.plain_media_event.PlainMediaEvent.{PlainMediaEvent}
 use Rattle.rtc_peer_transport.specs.ChannelCalls.{bytes_buffered}

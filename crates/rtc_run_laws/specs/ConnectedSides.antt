@@ -1,7 +1,7 @@
 -- What a side of a pair that is connected can do.
 use Rattle.std.specs.Prelude.{◌≡◌, true}
-use Rattle.rtc_part_dtls.specs.DtlsState.{can_send}
-use Rattle.rtc_part_values.specs.Draws.{Draws}
+use Rattle.rtc_parts.specs.DtlsState.{can_send}
+use Rattle.rtc_parts.specs.Draws.{Draws}
 use Rattle.rtc_plain_dtls.specs.PlainMeaning.{plain_dtls}
 use Rattle.rtc_peer_transport.specs.Readings.{is_peer_connected}
 use Rattle.rtc_run_history.specs.declared.side.Side.{Side}

@@ -1,6 +1,6 @@
 -- That a channel handed out all that the other side sent, also if the writer or an association is closing or closed.
 use Rattle.std.specs.Prelude.{ℕ, ◌≡◌, true, false, List, Some}
-use Rattle.rtc_part_values.specs.Among.{Member}
+use Rattle.rtc_parts.specs.Among.{Member}
 use Rattle.rtc_assoc_state.specs.Contents.{closed_here, generation_of}
 use Rattle.rtc_assoc_state.specs.Outbox.{has_unacknowledged}
 use Rattle.rtc_peer_transport.specs.ChannelCalls.{open_stream_under}

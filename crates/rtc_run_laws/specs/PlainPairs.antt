@@ -1,7 +1,7 @@
 -- Pairs of peers over plain parts, and what was done to these since they were fresh.
 use Rattle.std.specs.Prelude.{ℕ, ◌≡◌, List, ◌∷◌, None}
-use Rattle.rtc_part_values.specs.Among.{Member}
-use Rattle.rtc_part_dtls.specs.DtlsWords.{dtls_given, dtls_taken}
+use Rattle.rtc_parts.specs.Among.{Member}
+use Rattle.rtc_parts.specs.DtlsWords.{dtls_given, dtls_taken}
 use Rattle.rtc_plain_ice.specs.Contents.{IceContents}
 use Rattle.rtc_plain_ice.specs.PlainMeaning.{plain_ice}
 use Rattle.rtc_plain_dtls.specs.Contents.{DtlsContents}
@@ -12,7 +12,7 @@ use Rattle.rtc_plain_media.specs.MediaContents.{MediaContents}
 use Rattle.rtc_plain_media.specs.PlainMediaMeaning.{plain_media_meaning}
 use Rattle.rtc_plain_media.specs.declared.plain_media_event.PlainMediaEvent.{PlainMediaEvent}
 use Rattle.rtc_plain_media.specs.declared.plain_mark.PlainMark.{PlainMark}
-use Rattle.rtc_part_values.specs.Draws.{Draws}
+use Rattle.rtc_parts.specs.Draws.{Draws}
 use Rattle.rtc_peer_core.specs.Meanings.{Meanings, meanings}
 use Rattle.rtc_peer_transport.specs.declared.polled_peer.PolledPeer.{PolledPeer}
 use Rattle.rtc_peer_laws.specs.PeerActs.{PeerActs, dtls_roles, roles_after}

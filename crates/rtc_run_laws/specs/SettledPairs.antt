@@ -1,12 +1,12 @@
 -- Pairs with nothing in flight any more, and what holds of the channels of such a pair (RFC 8832, section 6).
 use Rattle.std.specs.Prelude.{ℕ, ◌≡◌, ◌+◌, ◌<◌, ◌-◌, ◌^◌, ◌⊎◌, Bool, true, false, List, [], ◌∷◌, Some, None}
-use Rattle.rtc_part_values.specs.Among.{Member}
-use Rattle.rtc_part_dtls.specs.DtlsState.{can_send}
+use Rattle.rtc_parts.specs.Among.{Member}
+use Rattle.rtc_parts.specs.DtlsState.{can_send}
 use Rattle.rtc_plain_dtls.specs.PlainMeaning.{plain_dtls}
 use Rattle.rtc_assoc_state.specs.Contents.{closed_here, generation_of, has_stream, is_ending}
 use Rattle.rtc_assoc_state.specs.PlainMeaning.{plain_meaning}
 use Rattle.rtc_plain_media.specs.declared.plain_media_event.PlainMediaEvent.{PlainMediaEvent}
-use Rattle.rtc_part_values.specs.Draws.{Draws}
+use Rattle.rtc_parts.specs.Draws.{Draws}
 use Rattle.rtc_sctp_entries.specs.declared.stream_entry_state.StreamEntryState.TheVariants.{AwaitOpen, AwaitDcepAck}
 use Rattle.rtc_sctp_entries.specs.declared.stream_entry.StreamEntry.{StreamEntry}
 use Rattle.rtc_sctp_entries.specs.Entries.{has_open, is_out_of_band}

@@ -1,6 +1,6 @@
 -- What is reported and got of a channel that the other side has not announced.
 use Rattle.std.specs.Prelude.{ℕ, ◌≡◌, ◌<◌, ◌-◌, ◌^◌, ◌⊎◌, Bool, true, List, [], Some}
-use Rattle.rtc_part_values.specs.Among.{Member}
+use Rattle.rtc_parts.specs.Among.{Member}
 use Rattle.rtc_run_history.specs.declared.side.Side.{Side}
 use Rattle.rtc_run_history.specs.PairState.{rtc_at}
 use Rattle.rtc_run_laws.specs.ChannelUses.{ChannelUse}

@@ -16,7 +16,7 @@ ghost use Rattle.rtc_run_laws.specs.PlainPairs.{PlainPair, plain_over};
 ghost use Rattle.rtc_run_laws.specs.SentMessages.{sent_over};
 ghost use Rattle.rtc_run_laws.specs.UsesOfRuns.{uses_of};
 
-use rtc_part_values::Ids;
+use rtc_parts::Ids;
 
 /// Let a side announce a channel, its stream have the generation still in which it was announced, and the last message
 /// that was sent to it not be empty. If the channel's buffered amount is 0, nothing that was sent over it is

@@ -10,7 +10,7 @@ ghost use Rattle.rtc_sctp_laws.specs.StreamUses.{IsLive};
 ghost use Rattle.rtc_run_laws.specs.SettledPairs.{IsInBandStream};
 ghost use Rattle.rtc_run_laws.specs.StreamCompletions.{AreBeginning, all_had_memory, closes_before, completed_resets};
 
-use rtc_part_association::Association;
+use rtc_parts::Association;
 
 /// Of any calls in turn on streams, from their beginning on: if a poll reports that a stream is open, its Close is
 /// reported before the completed reset of its generation. The completed resets of a stream end its generations in

@@ -9,11 +9,7 @@ ghost use Rattle.rtc_run_history.specs.Performs.{Enters};
 ghost use Rattle.rtc_run_history.specs.Runs.{Reached, Runs};
 ghost use Rattle.rtc_run_laws.specs.Drains.{AreUndriven, DrainsWithin, HaveMoments, ShowsWithin};
 
-use rtc_part_association::Association;
-use rtc_part_dtls::DtlsInstance;
-use rtc_part_ice::IceAgent;
-use rtc_part_media::MediaSession;
-use rtc_part_values::Ids;
+use rtc_parts::{Association, DtlsInstance, IceAgent, Ids, MediaSession};
 
 /// In a run of a pair at which no threshold is set, a drain shows at most as many outputs as its peer weighs before it.
 /// No step sets a threshold, and after no step the end of a handshake is still to be reported.

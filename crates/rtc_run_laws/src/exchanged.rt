@@ -1,6 +1,6 @@
 //! Runs of two peers over plain parts, whatever datagrams are lost, repeated or reordered.
 ghost use Rattle.std.specs.Prelude.{◌≡◌, ◌++◌, ℕ, Bool, true, false, List};
-ghost use Rattle.rtc_part_association.specs.AssociationWords.{ended, written, read};
+ghost use Rattle.rtc_parts.specs.AssociationWords.{ended, written, read};
 ghost use Rattle.rtc_assoc.specs.Unread.{IsPrefix, unread};
 ghost use Rattle.rtc_assoc_state.specs.Outbox.{has_unacknowledged};
 ghost use Rattle.rtc_plain_media.specs.declared.plain_media_event.PlainMediaEvent.{PlainMediaEvent};
@@ -16,7 +16,7 @@ ghost use Rattle.rtc_run_laws.specs.ConnectedSides.{ConnectedCanSend};
 ghost use Rattle.rtc_run_laws.specs.NewPairs.{IsNewPair};
 ghost use Rattle.rtc_run_laws.specs.PlainPairs.{HasExchanged, PairActs, PairExchanges, PlainPair, acts_at, plain_over};
 
-use rtc_part_values::Ids;
+use rtc_parts::Ids;
 
 /// The peers of a pair that were just built over fresh plain parts stay joined by every list of steps that bring in no
 /// text and no bytes of anybody. This holds whatever datagrams these lose, repeat or reorder. What the association of

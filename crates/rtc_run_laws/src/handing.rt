@@ -20,7 +20,7 @@ ghost use Rattle.rtc_run_laws.specs.SentMessages.{sent_over};
 ghost use Rattle.rtc_run_laws.specs.ToldMessages.{told_over};
 ghost use Rattle.rtc_run_laws.specs.UsesOfRuns.{uses_of};
 
-use rtc_part_values::Ids;
+use rtc_parts::Ids;
 
 /// Whatever datagrams a run of two peers loses, repeats or reorders, of channels that were opened in-band:
 ///

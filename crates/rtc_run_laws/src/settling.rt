@@ -22,7 +22,7 @@ ghost use Rattle.rtc_run_laws.specs.SettledPairs.{HasNothingDue, HasNothingSoon,
 ghost use Rattle.rtc_run_laws.specs.StillPairs.{IsStillPair};
 ghost use Rattle.rtc_run_laws.specs.UsesOfRuns.{uses_of};
 
-use rtc_part_values::Ids;
+use rtc_parts::Ids;
 
 /// The premises are: both peers are alive, with their DTLS connections and their associations; each was polled up to a
 /// timeout since its last input and its last call; no association has an unacknowledged item; and channel numbers are

@@ -2,11 +2,7 @@
 ghost use Rattle.rtc_peer_core.specs.Meanings.{meanings};
 ghost use Rattle.rtc_run_laws.specs.Taken.{RunsTakeTexts};
 
-use rtc_part_association::Association;
-use rtc_part_dtls::DtlsInstance;
-use rtc_part_ice::IceAgent;
-use rtc_part_media::MediaSession;
-use rtc_part_values::Ids;
+use rtc_parts::{Association, DtlsInstance, IceAgent, Ids, MediaSession};
 
 /// In a run of formed peers each session description that was accepted left the lines of its side taken by what it
 /// said. Of an offer or an answer of the other side, that is by the rows that this side had as it made it and those

@@ -15,7 +15,7 @@ ghost use Rattle.rtc_run_laws.specs.UsesOfRuns.{uses_of};
 ghost use Rattle.rtc_run_laws.specs.Unannounced.{AreGotOfAnnounced, AreGotOfSent, AreSentOfAnnounced, AreToldOfAnnounced, AreToldOfSent};
 ghost use Rattle.rtc_run_laws.specs.Unannounced.{HaveNumbersLeft};
 
-use rtc_part_values::Ids;
+use rtc_parts::Ids;
 
 /// Whatever datagrams a run of two peers loses, repeats or reorders: nothing is reported of a channel while it has a
 /// stream in a generation to which the other side sent nothing. A channel that was announced in-band over such a

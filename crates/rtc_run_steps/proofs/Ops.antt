@@ -13,7 +13,7 @@ use Rattle.rtc_peer_core.specs.declared.peer.Peer.{Peer}
 use Rattle.rtc_peer_core.specs.declared.rtc_error.RtcError.{RtcError}
 use Rattle.rtc_peer_core.specs.declared.rtc_error.RtcError.TheVariants.{Net, Media as MediaFailed}
 use Rattle.rtc_peer_core.specs.declared.rtc_error.RtcError.TheVariants.{RemoteSdp, Sdp, Dtls, Sctp, ChangesOutOfOrder, BadChannel, Alloc as PeerAlloc, Glare}
-use Rattle.rtc_part_values.proofs.LaterLemmas.{later_none}
+use Rattle.rtc_parts.proofs.LaterLemmas.{later_none}
 use Rattle.rtc_peer_core.specs.Calls.{AddsMedia, AddsChannel, SetsDirection, StopsMedia, StagesRestart}
 use Rattle.rtc_run_history.specs.declared.op.Op.{Op}
 use Rattle.rtc_run_history.specs.declared.op.Op.TheVariants.{AddMedia, SetDirection, StopMedia, AddChannel, IceRestart}

@@ -1,5 +1,5 @@
 -- The table of a peer: its lines and its channels.
-use Rattle.rtc_part_association.specs.AssociationMeaning.{AssociationMeaning}
+use Rattle.rtc_parts.specs.AssociationMeaning.{AssociationMeaning}
 use Rattle.rtc_peer_core.specs.declared.peer.Peer.{Peer}
 use Rattle.rtc_peer_core.specs.ChannelRows.{channel_rows}
 use Rattle.rtc_run_history.specs.declared.table.Table.{Table}

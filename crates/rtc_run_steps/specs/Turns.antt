@@ -1,6 +1,6 @@
 -- One poll of a step: what is shown of its output, or its error.
 use Rattle.std.specs.Prelude.{◌≡◌, ◌-◌, ◌^◌, ℕ, Bool, true, false, List, [], ◌∷◌, ◌++◌, length, Err}
-use Rattle.rtc_part_values.specs.declared.reason.Reason.{Reason}
+use Rattle.rtc_parts.specs.declared.reason.Reason.{Reason}
 use Rattle.rtc_peer_core.specs.Meanings.{Meanings}
 use Rattle.rtc_peer_transport.specs.declared.output.Output.{Output}
 use Rattle.rtc_peer_transport.specs.declared.output.Output.TheVariants as polled

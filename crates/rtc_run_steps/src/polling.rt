@@ -11,7 +11,7 @@ ghost use Rattle.rtc_peer.specs.CachedPeer.{polled_of};
 use crate::turn::Turn;
 use crate::{Room, make_channel_room, reply_no_memory, reply_with, room_for};
 use rtc_channels::ChannelRow;
-use rtc_part_values::Reason;
+use rtc_parts::Reason;
 use rtc_peer::{Association, DtlsInstance, IceAgent, Ids, MediaSession, Output, Rtc};
 use rtc_run_history::{Outcome, PollEnd, Reply, SentPacket, Shown, Side};
 use rtc_wire::{Moment, Seq, Transmit};

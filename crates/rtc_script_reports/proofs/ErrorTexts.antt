@@ -11,12 +11,12 @@ use Rattle.rtc_sdp_values.specs.declared.line_kind.LineKind.TheVariants.{Audio, 
 use Rattle.rtc_sdp_values.specs.declared.sdp_error.SdpError.{SdpError}
 use Rattle.rtc_sdp_values.specs.declared.sdp_error.SdpError.TheVariants as sdp
 use Rattle.rtc_sdp_values.specs.SdpErrorText.{inconsistent_text, sdp_error_text}
-use Rattle.rtc_part_dtls.specs.declared.dtls_error.DtlsError.{DtlsError}
-use Rattle.rtc_part_dtls.specs.declared.dtls_error.DtlsError.TheVariants as dtls
-use Rattle.rtc_part_dtls.specs.DtlsErrorText.{dtls_error_text}
-use Rattle.rtc_part_media.specs.declared.media_error.MediaError.{MediaError}
-use Rattle.rtc_part_media.specs.declared.media_error.MediaError.TheVariants as media
-use Rattle.rtc_part_media.specs.MediaErrorText.{media_error_text}
+use Rattle.rtc_parts.specs.declared.dtls_error.DtlsError.{DtlsError}
+use Rattle.rtc_parts.specs.declared.dtls_error.DtlsError.TheVariants as dtls
+use Rattle.rtc_parts.specs.DtlsErrorText.{dtls_error_text}
+use Rattle.rtc_parts.specs.declared.media_error.MediaError.{MediaError}
+use Rattle.rtc_parts.specs.declared.media_error.MediaError.TheVariants as media
+use Rattle.rtc_parts.specs.MediaErrorText.{media_error_text}
 use Rattle.rtc_sctp_values.specs.declared.proto_error.ProtoError.{ProtoError}
 use Rattle.rtc_sctp_values.specs.declared.proto_error.ProtoError.TheVariants as proto
 use Rattle.rtc_sctp_values.specs.declared.sctp_error.SctpError.{SctpError}

@@ -5,8 +5,8 @@ use Rattle.std.specs.List.{AllByRecursion, AllZip}
 use Rattle.std.proofs.Common.{◌≡◌, ◌==◌, ◌+◌, ◌-◌, ◌*◌, ◌++◌, ◌∷◌, ℕ, false, cond, List, [], map, refl, sym, ◌∙◌, ap, arith}
 use Rattle.std.proofs.lemmas.Fmt.{decimal_injective}
 use Rattle.std.proofs.lemmas.List.{append_cancel_left}
-use Rattle.rtc_part_values.specs.declared.reason.Reason.{Reason}
-use Rattle.rtc_part_values.specs.declared.reason.Reason.TheVariants as reasons
+use Rattle.rtc_parts.specs.declared.reason.Reason.{Reason}
+use Rattle.rtc_parts.specs.declared.reason.Reason.TheVariants as reasons
 use Rattle.rtc_plain_media.specs.declared.plain_media_event.PlainMediaEvent.{PlainMediaEvent}
 use Rattle.rtc_peer_core.specs.RtcErrorText.{rtc_error_text}
 use Rattle.rtc_peer_core.specs.declared.rtc_error.RtcError.{RtcError}

@@ -1,8 +1,8 @@
 -- What one report of two lists of replies says of them.
 use Rattle.std.specs.Prelude.{◌≡◌, ℕ, List, [], length, Option, Some, None}
 use Rattle.std.specs.List.{AllZip}
-use Rattle.rtc_part_media.specs.declared.raw_packet.RawPacket.{RawPacket}
-use Rattle.rtc_part_media.specs.declared.raw_packet.RawPacket.TheVariants.{RtcpTx, RtcpRx, RtpTx, RtpRx}
+use Rattle.rtc_parts.specs.declared.raw_packet.RawPacket.{RawPacket}
+use Rattle.rtc_parts.specs.declared.raw_packet.RawPacket.TheVariants.{RtcpTx, RtcpRx, RtpTx, RtpRx}
 use Rattle.rtc_plain_media.specs.declared.plain_media_event.PlainMediaEvent.{PlainMediaEvent}
 use Rattle.rtc_plain_media.specs.declared.plain_media_event.PlainMediaEvent.TheVariants.{Added, Changed as DirChanged, Rtp, Rtcp, Raw}
 use Rattle.rtc_peer_core.specs.RtcErrorText.{rtc_error_text}

@@ -1,11 +1,11 @@
 -- The words of events.
 use Rattle.std.specs.Prelude.{ℕ, List, ◌++◌, length, codes}
 use Rattle.std.specs.Fmt.{decimal}
-use Rattle.rtc_part_ice.specs.declared.ice_connection_state.IceConnectionState.{IceConnectionState}
-use Rattle.rtc_part_ice.specs.declared.ice_connection_state.IceConnectionState.TheVariants.{New, Checking, Connected, Completed}
-use Rattle.rtc_part_ice.specs.declared.ice_connection_state.IceConnectionState.TheVariants.{Disconnected}
-use Rattle.rtc_part_media.specs.declared.raw_packet.RawPacket.{RawPacket}
-use Rattle.rtc_part_media.specs.declared.raw_packet.RawPacket.TheVariants.{RtcpTx, RtcpRx, RtpTx, RtpRx}
+use Rattle.rtc_parts.specs.declared.ice_connection_state.IceConnectionState.{IceConnectionState}
+use Rattle.rtc_parts.specs.declared.ice_connection_state.IceConnectionState.TheVariants.{New, Checking, Connected, Completed}
+use Rattle.rtc_parts.specs.declared.ice_connection_state.IceConnectionState.TheVariants.{Disconnected}
+use Rattle.rtc_parts.specs.declared.raw_packet.RawPacket.{RawPacket}
+use Rattle.rtc_parts.specs.declared.raw_packet.RawPacket.TheVariants.{RtcpTx, RtcpRx, RtpTx, RtpRx}
 use Rattle.rtc_plain_media.specs.declared.plain_media_event.PlainMediaEvent.{PlainMediaEvent}
 use Rattle.rtc_plain_media.specs.declared.plain_media_event.PlainMediaEvent.TheVariants.{Added, Changed, Rtp, Rtcp, Raw}
 use Rattle.rtc_peer_transport.specs.declared.event.Event.{Event}

@@ -5,13 +5,13 @@ use Rattle.hex.specs.Hex.{IsBytes}
 use Rattle.rtc_wire_text.specs.Tokens.{is_short_token, is_token_byte}
 use Rattle.rtc_sdp_values.specs.declared.line_row.LineRow.{LineRow}
 use Rattle.rtc_sdp_values.specs.declared.line_row.LineRow.TheVariants.{Media, App}
-use Rattle.rtc_part_media.specs.declared.raw_packet.RawPacket.{RawPacket}
-use Rattle.rtc_part_media.specs.declared.raw_packet.RawPacket.TheVariants.{RtcpTx, RtcpRx, RtpTx, RtpRx}
+use Rattle.rtc_parts.specs.declared.raw_packet.RawPacket.{RawPacket}
+use Rattle.rtc_parts.specs.declared.raw_packet.RawPacket.TheVariants.{RtcpTx, RtcpRx, RtpTx, RtpRx}
 use Rattle.rtc_plain_media.specs.declared.plain_media_event.PlainMediaEvent.{PlainMediaEvent}
 use Rattle.rtc_plain_media.specs.declared.plain_media_event.PlainMediaEvent.TheVariants.{Added, Changed as DirChanged, Rtp, Rtcp, Raw}
 use Rattle.rtc_channels.specs.declared.channel_row.ChannelRow.{ChannelRow}
-use Rattle.rtc_part_media.specs.declared.media_error.MediaError.{MediaError}
-use Rattle.rtc_part_media.specs.declared.media_error.MediaError.TheVariants.{UnknownRid}
+use Rattle.rtc_parts.specs.declared.media_error.MediaError.{MediaError}
+use Rattle.rtc_parts.specs.declared.media_error.MediaError.TheVariants.{UnknownRid}
 use Rattle.rtc_peer_rows.specs.declared.new_line.NewLine.{NewLine}
 use Rattle.rtc_peer_rows.specs.declared.new_line.NewLine.TheVariants.{Count, NotMedia, NotChannel, NotOffered, OtherKind, OtherPlace}
 use Rattle.rtc_peer_rows.specs.declared.why.Why.{Why}

@@ -1,8 +1,8 @@
 -- The lines of what polls gave.
 use Rattle.std.specs.Prelude.{◌-◌, ◌^◌, ◌==◌, ℕ, List, [], ◌++◌, flat_map, codes, if◌then◌else◌}
 use Rattle.std.specs.Fmt.{decimal}
-use Rattle.rtc_part_values.specs.declared.reason.Reason.{Reason}
-use Rattle.rtc_part_values.specs.declared.reason.Reason.TheVariants as reasons
+use Rattle.rtc_parts.specs.declared.reason.Reason.{Reason}
+use Rattle.rtc_parts.specs.declared.reason.Reason.TheVariants as reasons
 use Rattle.rtc_plain_media.specs.declared.plain_media_event.PlainMediaEvent.{PlainMediaEvent}
 use Rattle.rtc_peer_core.specs.RtcErrorText.{rtc_error_text}
 use Rattle.rtc_peer_core.specs.declared.rtc_error.RtcError.{RtcError}

@@ -9,8 +9,7 @@ ghost use Rattle.rtc_peer_transport.specs.declared.event.Event.TheVariants.{Peer
 
 use crate::pushing::{push_named, push_word};
 use crate::words::{direction_word, kind_word};
-use rtc_part_ice::IceConnectionState;
-use rtc_part_media::{PeerStats, RawPacket};
+use rtc_parts::{IceConnectionState, PeerStats, RawPacket};
 use rtc_peer_transport::{ChannelData, Event};
 use rtc_plain_media::PlainMediaEvent;
 use rtc_sdp_values::Mid;

@@ -10,7 +10,7 @@ use crate::events::push_event;
 use crate::pushing::{push_named, push_number, push_word};
 use crate::reading::read_error;
 use crate::refusals::push_error_text;
-use rtc_part_values::Reason;
+use rtc_parts::Reason;
 use rtc_peer_core::RtcError;
 use rtc_plain_media::PlainMediaEvent;
 use rtc_run_history::{Outcome, PollEnd, Shown};

@@ -3,7 +3,7 @@
 //! They are read, since a contract sees only then that they are tokens.
 ghost use Rattle.rtc_script_reports.specs.Fits.{FitsError, FitsMediaError, FitsNewLine, FitsWhy};
 
-use rtc_part_media::MediaError;
+use rtc_parts::MediaError;
 use rtc_peer_core::RtcError;
 use rtc_peer_rows::{NewLine, Why};
 

@@ -1,9 +1,9 @@
 -- Whether the association is started behind a start, Ok or refused, and what is then kept of starts by session descriptions.
 use Rattle.std.proofs.Common.{◌≡◌, ◌∙◌, ℕ, Bool, true, false, Option, Some, None, Result, Ok, Err, sym, ap}
-use Rattle.rtc_part_association.specs.declared.assoc_error.AssocError.{AssocError}
-use Rattle.rtc_part_association.specs.declared.assoc_error.AssocError.TheVariants as assoc
-use Rattle.rtc_part_association.specs.AssociationMeaning.{AssociationMeaning}
-use Rattle.rtc_part_association.specs.AssociationLaws.{AssociationLaws, LeavesStarted}
+use Rattle.rtc_parts.specs.declared.assoc_error.AssocError.{AssocError}
+use Rattle.rtc_parts.specs.declared.assoc_error.AssocError.TheVariants as assoc
+use Rattle.rtc_parts.specs.AssociationMeaning.{AssociationMeaning}
+use Rattle.rtc_parts.specs.AssociationLaws.{AssociationLaws, LeavesStarted}
 use Rattle.rtc_sctp_entries.specs.Answers.{asked_of}
 use Rattle.rtc_sctp_entries.specs.declared.asked.Asked.{Asked}
 use Rattle.rtc_sctp_entries.specs.declared.asked.Asked.TheVariants as did

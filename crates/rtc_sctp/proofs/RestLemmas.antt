@@ -3,16 +3,16 @@ use Rattle.std.proofs.Common.{◌≡◌, ◌≢◌, ◌⊎◌, inl, inr, ℕ, ze
 use Rattle.std.specs.Prelude.{slice_set}
 use Rattle.std.proofs.lemmas.Bool.{cases_eq}
 use Rattle.std.proofs.lemmas.Bool.Decides.{eqb_tells}
-use Rattle.rtc_part_values.specs.Among.{Member}
-use Rattle.rtc_part_association.specs.declared.assoc_event.AssocEvent.{AssocEvent}
-use Rattle.rtc_part_association.specs.declared.assoc_event.AssocEvent.TheVariants as assoc
-use Rattle.rtc_part_association.specs.AssociationMeaning.{AssociationMeaning}
-use Rattle.rtc_part_association.specs.AssociationLaws.{AssociationLaws}
-use Rattle.rtc_part_association.specs.AssociationActs.{Told}
-use Rattle.rtc_part_association.specs.AssociationEvents.{AddsEvents}
-use Rattle.rtc_part_association.specs.AssociationWords.{completions}
-use Rattle.rtc_part_association.proofs.AmongLemmas.{member-left, member-right}
-use Rattle.rtc_part_association.proofs.AssociationLemmas.{adds_all}
+use Rattle.rtc_parts.specs.Among.{Member}
+use Rattle.rtc_parts.specs.declared.assoc_event.AssocEvent.{AssocEvent}
+use Rattle.rtc_parts.specs.declared.assoc_event.AssocEvent.TheVariants as assoc
+use Rattle.rtc_parts.specs.AssociationMeaning.{AssociationMeaning}
+use Rattle.rtc_parts.specs.AssociationLaws.{AssociationLaws}
+use Rattle.rtc_parts.specs.AssociationActs.{Told}
+use Rattle.rtc_parts.specs.AssociationEvents.{AddsEvents}
+use Rattle.rtc_parts.specs.AssociationWords.{completions}
+use Rattle.rtc_parts.proofs.AmongLemmas.{member-left, member-right}
+use Rattle.rtc_parts.proofs.AssociationLemmas.{adds_all}
 use Rattle.rtc_sctp_values.specs.StreamIds.{StreamIds, has_id}
 use Rattle.rtc_sctp_entries.specs.declared.stream_entry_state.StreamEntryState.{StreamEntryState}
 use Rattle.rtc_sctp_entries.specs.declared.stream_entry_state.StreamEntryState.TheVariants.{AwaitOpen, AwaitConfig, AwaitDcepAck, Open, Closed}

@@ -1,9 +1,9 @@
 -- What a start leaves of the streams: their generations, and whether they are open.
 use Rattle.std.proofs.Common.{◌≡◌, ◌∙◌, ℕ, Bool, true, false, List, Option, Some, None, Result, Ok, Err, refl, sym, ap}
 use Rattle.std.specs.Prelude.{◌&&◌}
-use Rattle.rtc_part_association.specs.declared.assoc_error.AssocError.{AssocError}
-use Rattle.rtc_part_association.specs.AssociationMeaning.{AssociationMeaning}
-use Rattle.rtc_part_association.specs.AssociationLaws.{AssociationLaws, LeavesStarted}
+use Rattle.rtc_parts.specs.declared.assoc_error.AssocError.{AssocError}
+use Rattle.rtc_parts.specs.AssociationMeaning.{AssociationMeaning}
+use Rattle.rtc_parts.specs.AssociationLaws.{AssociationLaws, LeavesStarted}
 use Rattle.rtc_sctp_entries.specs.Answers.{asked_of}
 use Rattle.rtc_sctp_entries.specs.Entries.{has_open}
 use Rattle.rtc_sctp_entries.specs.declared.asked.Asked.{Asked}

@@ -2,8 +2,8 @@
 use Rattle.std.proofs.Common.{◌≡◌, ◌≢◌, ◌⊎◌, inl, inr, ℕ, zero, suc, ◌+◌, ◌<◌, ◌≤◌, ◌||◌, not, Bool, true, false, true≢false, List, [], ◌∷◌, length, get_or, set, Some, refl, sym, ap, subst, ◌∙◌, arith}
 use Rattle.std.proofs.lemmas.List.{get_or_default}
 use Rattle.std.proofs.lemmas.Option.{slice_get-get_or}
-use Rattle.rtc_part_association.specs.AssociationMeaning.{AssociationMeaning}
-use Rattle.rtc_part_association.specs.AssociationLaws.{AssociationLaws}
+use Rattle.rtc_parts.specs.AssociationMeaning.{AssociationMeaning}
+use Rattle.rtc_parts.specs.AssociationLaws.{AssociationLaws}
 use Rattle.rtc_sctp_values.specs.StreamIds.{StreamIds, has_id}
 use Rattle.rtc_sctp_entries.specs.declared.stream_entry_state.StreamEntryState.{StreamEntryState}
 use Rattle.rtc_sctp_entries.specs.declared.stream_entry_state.StreamEntryState.TheVariants.{AwaitOpen, AwaitConfig, AwaitDcepAck, Open, Closed}

@@ -1,8 +1,8 @@
 -- A walk over the streams of a set is one over all entries.
 use Rattle.std.proofs.Common.{◌≡◌, ◌≢◌, ◌⊎◌, inl, inr, ℕ, zero, suc, ◌+◌, ◌<◌, ◌≤◌, ◌==◌, Bool, true, false, true≢false, List, [], ◌∷◌, length, get_or, set, nat_lt, Option, Some, None, refl, sym, ap, subst, ◌∙◌, arith}
 use Rattle.std.proofs.lemmas.Bool.{cases_lt, cases_eq}
-use Rattle.rtc_part_association.specs.declared.assoc_event.AssocEvent.{AssocEvent}
-use Rattle.rtc_part_association.specs.AssociationMeaning.{AssociationMeaning}
+use Rattle.rtc_parts.specs.declared.assoc_event.AssocEvent.{AssocEvent}
+use Rattle.rtc_parts.specs.AssociationMeaning.{AssociationMeaning}
 use Rattle.rtc_sctp_values.specs.StreamIds.{StreamIds, has_id}
 use Rattle.rtc_sctp_entries.specs.declared.buffered_threshold_config.BufferedThresholdConfig.{BufferedThresholdConfig}
 use Rattle.rtc_sctp_entries.specs.declared.buffered_threshold_config.BufferedThresholdConfig.TheVariants.{Unconfigured, Desired, Configured}

@@ -1,7 +1,7 @@
 -- What the calls on SNAP INIT chunks leave of the streams: nothing else changes.
 use Rattle.std.specs.Prelude.{ℕ, ◌≡◌, Bool, List, Result}
 use Rattle.std.specs.declared.alloc.AllocError.{AllocError}
-use Rattle.rtc_part_values.specs.Draws.{Draws}
+use Rattle.rtc_parts.specs.Draws.{Draws}
 use Rattle.rtc_sctp_values.specs.SnapHalves.{KeepsRemote, EnsuresLocal}
 use Rattle.rtc_sctp.specs.Streams.{SctpStreams}
 

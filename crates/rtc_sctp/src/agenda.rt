@@ -84,7 +84,7 @@ impl Agenda {
         self.buffered.put(id, false);
     }
 
-    /// Whether something of a stream may not be acknowledged.
+    /// Keeps whether something of a stream may not be acknowledged.
     pub fn count(&mut self, id: u16, some: bool)
         ensures here { has_id id self.new.buffered ≡ some }
         ensures apart { (other : ℕ) → other ≢ id → has_id other self.new.buffered ≡ has_id other self.old.buffered }

@@ -6,7 +6,7 @@ ghost use Rattle.rtc_sctp.specs.Rest.{has_entry, may_buffer as MayBuffer, AreCou
 
 use crate::StreamEntry;
 use crate::agenda::Agenda;
-use rtc_part_association::Association;
+use rtc_parts::Association;
 use rtc_sctp_entries::entries::place_of;
 use rtc_sctp_values::StreamSet;
 
@@ -59,7 +59,7 @@ fn is_counted<S: Association>(association: &S, entries: &[StreamEntry], id: u16)
     }
 }
 
-/// Looks at the next noted stream, and forgets it once all of it is acknowledged.
+/// Looks at the next stream that may have something buffered, and forgets it if it has no entry or all of it is acknowledged.
 pub fn sift<S: Association>(association: &S, entries: &[StreamEntry], agenda: &mut Agenda)
     requires { AreTended S.association association.now entries.now agenda.old }
     ensures { AreTended S.association association.now entries.now agenda.new }

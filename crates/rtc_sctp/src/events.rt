@@ -10,7 +10,7 @@ ghost use Rattle.rtc_sctp.specs.Rest.{IsTouched};
 
 use crate::agenda::Agenda;
 use crate::{BufferedThresholdConfig, RtcSctpState, SctpEvent, StreamEntry, StreamEntryState};
-use rtc_part_association::AssocEvent;
+use rtc_parts::AssocEvent;
 use rtc_sctp_entries::Met;
 use rtc_sctp_entries::entries::{place_of, put_reserved};
 use rtc_sctp_entries::resets::{drop_reset, note_reset};
@@ -156,7 +156,7 @@ fn apply_event(
 
 /// Does what an event does, if there is room for what it adds.
 ///
-/// Then it makes room for the next one, if there is memory for it, so that a poll with nothing to give allocates nothing.
+/// Then it makes room for the next one, so that a poll with nothing to give allocates nothing, or tells that there is no memory for it.
 pub fn apply_event_with_room(
     event: AssocEvent,
     state: &mut RtcSctpState,
@@ -164,6 +164,7 @@ pub fn apply_event_with_room(
     resets: &mut Vec<u16>,
     completed: &mut VecDeque<u16>,
     agenda: &mut Agenda,
+    lacks_room: &mut bool,
 ) -> Met
     requires ascend { Ascend entries.old.items }
     requires entry_room { vec_len entries.old < vec_capacity entries.old }
@@ -180,6 +181,6 @@ pub fn apply_event_with_room(
 {
     note_event(event, agenda);
     let met = apply_event(event, state, entries, resets, completed);
-    let _made = make_room(entries, resets, completed);
+    *lacks_room = !make_room(entries, resets, completed);
     met
 }

@@ -11,7 +11,7 @@ use crate::events::{apply_event_with_room, make_room};
 use crate::streams::RtcSctp;
 use crate::walk::visit_all;
 use crate::{RtcSctpState, SctpEvent, StreamEntry};
-use rtc_part_association::Association;
+use rtc_parts::Association;
 use rtc_sctp_entries::Met;
 use rtc_sctp_entries::entries::drop_closed;
 use rtc_wire::{Bytes, Seq};
@@ -19,21 +19,18 @@ use std::alloc::{AllocError, Global};
 use std::collections::VecDeque;
 use std::mem;
 
-/// Room for one packet, if there is memory for it.
-pub fn make_packet_room(alloc: Global) -> Vec<Bytes>
-    ensures { result.items ≡ [] }
-{
-    let mut room = Vec::new(alloc);
-    let _made = room.reserve(1).is_ok();
-    room
-}
-
 // One packet of an association. There is room for it before it is taken; the room for the next one is made with it, and kept until then.
-fn take_packet<S: Association>(alloc: Global, room: &mut Vec<Bytes>, association: &mut S) -> Met
+// A poll that finds that room ahead was refused reports it.
+fn take_packet<S: Association>(
+    alloc: Global,
+    room: &mut Vec<Bytes>,
+    lacks_room: &mut bool,
+    association: &mut S,
+) -> Met
     ensures { TakesPacket S.association association.old result association.new }
 {
     room.clear();
-    if room.reserve(1).is_err() {
+    if mem::replace(lacks_room, false) || room.reserve(1).is_err() {
         return Met::OutOfMemory;
     }
     let Some(packet) = association.poll_transmit() else {
@@ -41,7 +38,7 @@ fn take_packet<S: Association>(alloc: Global, room: &mut Vec<Bytes>, association
     };
     let mut packets = mem::replace(room, Vec::new(alloc));
     packets.push_reserved(Bytes::new(packet));
-    *room = make_packet_room(alloc);
+    *lacks_room = room.reserve(1).is_err();
     Met::Output(SctpEvent::Transmit {
         packets: Seq::new(packets),
     })
@@ -55,6 +52,7 @@ fn take_event<S: Association>(
     resets: &mut Vec<u16>,
     completed: &mut VecDeque<u16>,
     agenda: &mut Agenda,
+    lacks_room: &mut bool,
 ) -> Met
     requires { AreTended S.association association.old entries.old.items agenda.old }
     ensures tended { AreTended S.association association.new entries.new.items agenda.new }
@@ -71,7 +69,7 @@ fn take_event<S: Association>(
     let Some(event) = association.poll() else {
         return Met::Nothing;
     };
-    apply_event_with_room(event, state, entries, resets, completed, agenda)
+    apply_event_with_room(event, state, entries, resets, completed, agenda, lacks_room)
 }
 
 /// Drops the closed entries, if there are any.
@@ -96,7 +94,12 @@ impl<S: Association> RtcSctp<S> {
             Some(packets) => Met::Output(SctpEvent::Transmit { packets }),
             None => {
                 if self.association.is_started() {
-                    return take_packet(self.alloc, &mut self.room, &mut self.association);
+                    return take_packet(
+                        self.alloc,
+                        &mut self.room,
+                        &mut self.lacks_room,
+                        &mut self.association,
+                    );
                 }
                 Met::Nothing
             }
@@ -114,6 +117,7 @@ impl<S: Association> RtcSctp<S> {
             &mut self.resets,
             &mut self.completed,
             &mut self.agenda,
+            &mut self.lacks_room,
         )
     }
 

@@ -18,8 +18,7 @@ ghost use Rattle.rtc_sctp.specs.SnapCalls.{EnsuresLocalHalf, TakesRemoteHalf};
 
 use crate::SctpInitData;
 use crate::streams::RtcSctp;
-use rtc_part_association::Association;
-use rtc_part_values::Ids;
+use rtc_parts::{Association, Ids};
 use std::alloc::AllocError;
 
 impl<S: Association> RtcSctp<S> {

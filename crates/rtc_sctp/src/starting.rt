@@ -8,10 +8,9 @@ ghost use Rattle.rtc_sctp.specs.Calls.{started_state as StartedState, begun_stat
 ghost use Rattle.rtc_sctp.specs.Refusals.{IsRefusedAs, refusal_of_start};
 
 use crate::events::make_room;
-use crate::polls::make_packet_room;
 use crate::streams::RtcSctp;
 use crate::{ProtoError, RtcSctpState, SctpError, SctpInitData};
-use rtc_part_association::Association;
+use rtc_parts::Association;
 use rtc_sctp_entries::{Asked, part};
 use rtc_wire::{DEFAULT_REMOTE_MAX_MESSAGE_SIZE, Moment};
 use rtc_wire_drops::release;
@@ -112,7 +111,7 @@ impl<S: Association> RtcSctp<S> {
         }
     }
 
-    // Keeps what the association was started with, and makes room for the first packet and the first event, if there is memory for it.
+    // Keeps what the association was started with, and makes room for the first packet and the first event, or keeps that this failed.
     fn begin(&mut self, client: bool, max: u32, snap: Option<SctpInitData>)
         ensures { self.new ≡ record self.old {
           client = client;
@@ -127,8 +126,9 @@ impl<S: Association> RtcSctp<S> {
         self.state = begun_state(&snap, client);
         self.snap.begin(snap);
         self.rests = false;
-        self.room = make_packet_room(self.alloc);
-        let _made = make_room(&mut self.entries, &mut self.resets, &mut self.completed);
+        let packet = self.room.reserve(1).is_ok();
+        let event = make_room(&mut self.entries, &mut self.resets, &mut self.completed);
+        self.lacks_room = !(packet && event);
     }
 
     /// Starts the association. `snap` has the SNAP INIT chunks: with both it is established at once. `remote_max` is

@@ -8,7 +8,7 @@ ghost use Rattle.rtc_sctp.specs.StreamCalls.{EndsStream, EndsIf, ClosesAt, Close
 
 use crate::streams::RtcSctp;
 use crate::{BufferedThresholdConfig, StreamEntry, StreamEntryState};
-use rtc_part_association::Association;
+use rtc_parts::Association;
 use rtc_sctp_entries::entries::{place_of, put_entry};
 use rtc_sctp_entries::resets::note_reset;
 use rtc_sctp_entries::{Asked, part};

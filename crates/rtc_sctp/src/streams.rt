@@ -6,7 +6,7 @@ ghost use Rattle.rtc_sctp.specs.Streams.{no_streams, ArePushedShort};
 use crate::agenda::Agenda;
 use crate::pushed_back::PushedBack;
 use crate::{RtcSctpState, StreamEntry};
-use rtc_part_association::Association;
+use rtc_parts::Association;
 use rtc_sctp_entries::entries::config_of;
 use rtc_sctp_values::SnapHalves;
 use rtc_wire::{
@@ -37,6 +37,8 @@ pub struct RtcSctp<S: Association> {
     pub(crate) completed: VecDeque<u16>,
     // Room for the packet that is taken next, so that a poll with nothing to give allocates nothing.
     pub(crate) room: Vec<Bytes>,
+    // Whether there was no memory for the room of the next packet or event, which the next poll reports.
+    pub(crate) lacks_room: bool,
     pub(crate) agenda: Agenda,
     // Whether a poll gave nothing, and nothing changed since but for packets that were pushed back.
     pub(crate) rests: bool,
@@ -90,6 +92,7 @@ impl<S: Association + Drop> Drop for RtcSctp<S> {
             resets: _resets,
             completed: _completed,
             room: _room,
+            lacks_room: _lacks_room,
             agenda: _agenda,
             rests: _rests,
         } = self;
@@ -131,6 +134,7 @@ impl<S: Association> RtcSctp<S> {
             resets: Vec::new(alloc),
             completed: VecDeque::new(alloc),
             room: Vec::new(alloc),
+            lacks_room: false,
             agenda: Agenda::new(),
             rests: false,
         }

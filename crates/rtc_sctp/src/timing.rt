@@ -11,7 +11,7 @@ ghost use Rattle.rtc_sctp.specs.Calls.{attached_wake as AttachedWake, retry_wake
 use crate::polls::sweep;
 use crate::streams::RtcSctp;
 use crate::{RtcSctpState, StreamEntry};
-use rtc_part_association::Association;
+use rtc_parts::Association;
 use rtc_ready::Wake;
 use rtc_sctp_entries::entries::{is_retrying, place_of};
 use rtc_sctp_values::StreamSet;

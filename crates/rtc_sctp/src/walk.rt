@@ -8,7 +8,7 @@ ghost use Rattle.rtc_sctp.specs.TourSteps.{StepsBy};
 use crate::StreamEntry;
 use crate::agenda::Agenda;
 use crate::buffered::may_buffer;
-use rtc_part_association::Association;
+use rtc_parts::Association;
 use rtc_sctp_entries::Met;
 use rtc_sctp_entries::entries::place_of;
 use rtc_sctp_entries::visit::visit;

@@ -8,7 +8,7 @@ ghost use Rattle.rtc_sctp.specs.Refusals.{IsRefusedAs, refusal_of_message};
 use crate::buffered::{left_of, sift};
 use crate::streams::RtcSctp;
 use crate::{ProtoError, SctpError};
-use rtc_part_association::{AssocError, Association, Ppi};
+use rtc_parts::{AssocError, Association, Ppi};
 use rtc_sctp_entries::entries::{fits_generation, generation_of, has_open};
 
 fn written_ppi(binary: bool, empty: bool) -> Ppi
@@ -82,7 +82,7 @@ impl<S: Association> RtcSctp<S> {
         )
     }
 
-    // Looks at a stream that was written to, whether all of it is acknowledged.
+    // Looks at the next stream that may have something buffered, whether all of it is acknowledged.
     fn sift(&mut self)
         ensures { self.new ≡ self.old }
     {

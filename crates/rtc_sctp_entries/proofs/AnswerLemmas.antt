@@ -1,8 +1,8 @@
 -- The answers of an association that streams tell apart.
 use Rattle.std.proofs.Common.{◌≡◌, ℕ, List, Option, Some, None, Result, Ok, Err, refl}
-use Rattle.rtc_part_association.specs.declared.assoc_error.AssocError.{AssocError}
-use Rattle.rtc_part_association.specs.declared.assoc_error.AssocError.TheVariants.{NoStream, TooLong, Closing, Alloc, Fault, StreamExists, ResetPending}
-use Rattle.rtc_part_association.specs.declared.ppi.Ppi.{Ppi}
+use Rattle.rtc_parts.specs.declared.assoc_error.AssocError.{AssocError}
+use Rattle.rtc_parts.specs.declared.assoc_error.AssocError.TheVariants.{NoStream, TooLong, Closing, Alloc, Fault, StreamExists, ResetPending}
+use Rattle.rtc_parts.specs.declared.ppi.Ppi.{Ppi}
 use Rattle.rtc_sctp_entries.specs.declared.heard.Heard.TheVariants as heard
 use Rattle.rtc_sctp_entries.specs.declared.opening.Opening.TheVariants as opened
 use Rattle.rtc_sctp_entries.specs.Answers.{opening_of, heard_of}

@@ -1,9 +1,9 @@
 -- A visit takes work away.
 use Rattle.std.proofs.Common.{◌≡◌, ℕ, ◌+◌, ◌≤◌, Bool, true, false, List, ◌++◌, length, length-append, Option, Some, None, refl, sym, ap, subst, arith}
-use Rattle.rtc_part_association.specs.declared.ppi.Ppi.{Ppi}
-use Rattle.rtc_part_association.specs.declared.ppi.Ppi.TheVariants as ppi
-use Rattle.rtc_part_association.specs.AssociationMeaning.{AssociationMeaning}
-use Rattle.rtc_part_association.specs.AssociationLaws.{AssociationLaws}
+use Rattle.rtc_parts.specs.declared.ppi.Ppi.{Ppi}
+use Rattle.rtc_parts.specs.declared.ppi.Ppi.TheVariants as ppi
+use Rattle.rtc_parts.specs.AssociationMeaning.{AssociationMeaning}
+use Rattle.rtc_parts.specs.AssociationLaws.{AssociationLaws}
 use Rattle.rtc_wire.specs.ChannelConfig.{open_of}
 use Rattle.rtc_wire.specs.DcepOpen.{open_bytes, header_bytes}
 use Rattle.rtc_wire.specs.declared.dcep_open.DcepOpen.{DcepOpen}

@@ -1,15 +1,15 @@
 -- The calls of an association leave it started, and what they add to its work.
 use Rattle.std.proofs.Common.{◌≡◌, ℕ, Bool, true, List, Option, Some, None, Result, Ok, Err, refl, ◌∙◌, ap, arith}
 use Rattle.rtc_wire.specs.declared.reliability_type.ReliabilityType.{ReliabilityType}
-use Rattle.rtc_part_association.specs.declared.assoc_error.AssocError.{AssocError}
-use Rattle.rtc_part_association.specs.declared.assoc_error.AssocError.TheVariants.{StreamExists, ResetPending, NoStream, TooLong, Closing, Fault, Alloc}
-use Rattle.rtc_part_association.specs.declared.ppi.Ppi.{Ppi}
-use Rattle.rtc_part_association.specs.Ppi.{ppi_number}
-use Rattle.rtc_part_association.specs.AssociationMeaning.{AssociationMeaning}
-use Rattle.rtc_part_association.specs.AssociationLaws.{AssociationLaws}
-use Rattle.rtc_part_association.specs.AssociationActs.{Opened, Wrote, Ended, Read, Stirred}
-use Rattle.rtc_part_association.specs.AssociationActs.{OpenRefused, WriteRefused, ReadRefused, EndRefused, ThresholdSet, ReliabilitySet}
-use Rattle.rtc_part_values.specs.Why.{Other}
+use Rattle.rtc_parts.specs.declared.assoc_error.AssocError.{AssocError}
+use Rattle.rtc_parts.specs.declared.assoc_error.AssocError.TheVariants.{StreamExists, ResetPending, NoStream, TooLong, Closing, Fault, Alloc}
+use Rattle.rtc_parts.specs.declared.ppi.Ppi.{Ppi}
+use Rattle.rtc_parts.specs.Ppi.{ppi_number}
+use Rattle.rtc_parts.specs.AssociationMeaning.{AssociationMeaning}
+use Rattle.rtc_parts.specs.AssociationLaws.{AssociationLaws}
+use Rattle.rtc_parts.specs.AssociationActs.{Opened, Wrote, Ended, Read, Stirred}
+use Rattle.rtc_parts.specs.AssociationActs.{OpenRefused, WriteRefused, ReadRefused, EndRefused, ThresholdSet, ReliabilitySet}
+use Rattle.rtc_parts.specs.Why.{Other}
 use Rattle.rtc_sctp_entries.specs.Answers.{heard_of}
 use Rattle.rtc_sctp_entries.specs.Part.{ReadUnits}
 

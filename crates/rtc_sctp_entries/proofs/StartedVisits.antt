@@ -1,7 +1,7 @@
 -- A visit leaves the association started.
 use Rattle.std.proofs.Common.{◌≡◌, ℕ, true, refl}
-use Rattle.rtc_part_association.specs.AssociationMeaning.{AssociationMeaning}
-use Rattle.rtc_part_association.specs.AssociationLaws.{AssociationLaws}
+use Rattle.rtc_parts.specs.AssociationMeaning.{AssociationMeaning}
+use Rattle.rtc_parts.specs.AssociationLaws.{AssociationLaws}
 use Rattle.rtc_sctp_entries.specs.declared.met.Met.{Met}
 use Rattle.rtc_sctp_entries.specs.Visits.{Turn, Visits}
 use Rattle.rtc_sctp_entries.proofs.KeptVisits.{KeepsCalls, visits_keep}

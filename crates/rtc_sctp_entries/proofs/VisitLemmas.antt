@@ -3,7 +3,7 @@ use Rattle.std.proofs.Common.{◌≡◌, ◌<◌, ◌+◌, ◌-◌, ◌^◌, ℕ
 use Rattle.std.specs.Prelude.{◌&&◌, IfSome, IfNone, IsErrOf, nat_le, nat_lt}
 use Rattle.rtc_wire.specs.declared.dcep_error.DcepError.{DcepError}
 use Rattle.rtc_wire.specs.declared.dcep_open.DcepOpen.{DcepOpen}
-use Rattle.rtc_part_association.specs.AssociationMeaning.{AssociationMeaning}
+use Rattle.rtc_parts.specs.AssociationMeaning.{AssociationMeaning}
 use Rattle.rtc_sctp_entries.specs.declared.met.Met.{Met}
 use Rattle.rtc_sctp_entries.specs.Visits.{Turn, Closes, Announces, AnnouncesIf, BegunAs, RetriedIf, RetriedAt, AttendsIf, opening_ends, is_opening_over}
 

@@ -2,7 +2,7 @@
 ghost use Rattle.std.specs.Prelude.{◌≡◌};
 ghost use Rattle.rtc_sctp_entries.specs.Answers.{asked_of};
 
-use rtc_part_association::AssocError;
+use rtc_parts::AssocError;
 
 /// Whether an association did what it was asked for.
 #[derive(Clone, Copy, Debug, PartialEq, Eq)]

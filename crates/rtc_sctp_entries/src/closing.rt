@@ -8,7 +8,7 @@ use crate::asked::Asked;
 use crate::met::Met;
 use crate::resets::{has_reset, note_reset};
 use crate::{SctpEvent, StreamEntry, StreamEntryState, part};
-use rtc_part_association::Association;
+use rtc_parts::Association;
 
 /// Marks an entry, to be closed.
 pub fn mark(entry: &mut StreamEntry) -> Met

@@ -1,9 +1,9 @@
 //! What an association returns for a reading.
 ghost use Rattle.std.specs.Prelude.{◌≡◌};
-ghost use Rattle.rtc_part_association.specs.Returned.{message_of};
+ghost use Rattle.rtc_parts.specs.Returned.{returned_message};
 ghost use Rattle.rtc_sctp_entries.specs.Answers.{heard_of};
 
-use rtc_part_association::{AssocError, Ppi};
+use rtc_parts::{AssocError, Ppi};
 use rtc_wire::Bytes;
 
 /// What was read of a stream.
@@ -18,7 +18,7 @@ pub enum Heard {
 impl Heard {
     /// What a result is to streams.
     pub fn of(answer: Result<Option<(Ppi, Vec<u8>)>, AssocError>) -> Heard
-        ensures { result ≡ heard_of (message_of answer) }
+        ensures { result ≡ heard_of (returned_message answer) }
     {
         match answer {
             Ok(None) => Heard::Nothing,

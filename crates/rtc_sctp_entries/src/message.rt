@@ -11,7 +11,7 @@ use crate::met::Met;
 use crate::opens::{set_reliability, settle};
 use crate::read_message::ReadMessage;
 use crate::{SctpEvent, StreamEntry, StreamEntryState, part};
-use rtc_part_association::{Association, Ppi};
+use rtc_parts::{Association, Ppi};
 use rtc_wire::{Bytes, ChannelConfig, DcepAck, DcepError, DcepOpen, Text};
 use std::alloc::Global;
 

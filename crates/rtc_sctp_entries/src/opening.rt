@@ -2,7 +2,7 @@
 ghost use Rattle.std.specs.Prelude.{◌≡◌};
 ghost use Rattle.rtc_sctp_entries.specs.Answers.{opening_of};
 
-use rtc_part_association::AssocError;
+use rtc_parts::AssocError;
 
 /// Whether an association opened a stream.
 #[derive(Clone, Copy, Debug, PartialEq, Eq)]

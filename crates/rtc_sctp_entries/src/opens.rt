@@ -13,7 +13,7 @@ use crate::met::Met;
 use crate::opening::Opening;
 use crate::resets::has_reset;
 use crate::{SctpEvent, StreamEntry, StreamEntryState, part};
-use rtc_part_association::{Association, Ppi};
+use rtc_parts::{Association, Ppi};
 use rtc_wire::{
     Bytes, ChannelConfig, DCEP_MAX_TEXT_SIZE, DcepOpen, Moment, STREAM_OPEN_TIMEOUT, Text, TryCopy,
 };

@@ -8,7 +8,7 @@ ghost use Rattle.rtc_sctp_entries.specs.Part.{AsksStart, AsksShutdown};
 use crate::asked::Asked;
 use crate::heard::Heard;
 use crate::opening::Opening;
-use rtc_part_association::{Association, Ppi};
+use rtc_parts::{Association, Ppi};
 use rtc_wire::{ChannelConfig, Moment};
 
 pub fn open<S: Association>(association: &mut S, id: u16) -> Opening

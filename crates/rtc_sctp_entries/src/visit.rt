@@ -11,7 +11,7 @@ use crate::message::take_message;
 use crate::met::Met;
 use crate::opens::open_entry;
 use crate::{BufferedThresholdConfig, StreamEntry, StreamEntryState, part};
-use rtc_part_association::Association;
+use rtc_parts::Association;
 use rtc_wire::Moment;
 use std::alloc::Global;
 

@@ -1,14 +1,14 @@
 -- What starts, shuts down and writes to streams does it by acts that open and read no stream, and by which no event is told.
 use Rattle.std.proofs.Common.{◌≡◌, ◌∙◌, ◌++◌, ◌∷◌, ℕ, Bool, true, false, List, [], Option, Some, None, Result, Ok, Err, refl, ap}
-use Rattle.rtc_part_association.specs.declared.assoc_error.AssocError.{AssocError}
-use Rattle.rtc_part_association.specs.declared.ppi.Ppi.{Ppi}
-use Rattle.rtc_part_association.specs.Ppi.{ppi_number}
-use Rattle.rtc_part_association.specs.AssociationActs.{AssociationAct, Started, Wrote, Stirred, Acted, Moved, moved-append}
-use Rattle.rtc_part_association.specs.AssociationActs.{ByConnect, ByAccept, BySnap, ConnectRefused, AcceptRefused, SnapRefused, WriteRefused}
-use Rattle.rtc_part_association.specs.AssociationMeaning.{AssociationMeaning}
-use Rattle.rtc_part_association.specs.AssociationWords.{told}
-use Rattle.rtc_part_association.proofs.AssociationLemmas.{told-append}
-use Rattle.rtc_part_values.specs.Why.{Shut, Other}
+use Rattle.rtc_parts.specs.declared.assoc_error.AssocError.{AssocError}
+use Rattle.rtc_parts.specs.declared.ppi.Ppi.{Ppi}
+use Rattle.rtc_parts.specs.Ppi.{ppi_number}
+use Rattle.rtc_parts.specs.AssociationActs.{AssociationAct, Started, Wrote, Stirred, Acted, Moved, moved-append}
+use Rattle.rtc_parts.specs.AssociationActs.{ByConnect, ByAccept, BySnap, ConnectRefused, AcceptRefused, SnapRefused, WriteRefused}
+use Rattle.rtc_parts.specs.AssociationMeaning.{AssociationMeaning}
+use Rattle.rtc_parts.specs.AssociationWords.{told}
+use Rattle.rtc_parts.proofs.AssociationLemmas.{told-append}
+use Rattle.rtc_parts.specs.Why.{Shut, Other}
 use Rattle.rtc_sctp_entries.specs.declared.asked.Asked.{Asked}
 use Rattle.rtc_sctp_entries.specs.declared.asked.Asked.TheVariants as did
 use Rattle.rtc_sctp_entries.specs.Part.{StartedAs}

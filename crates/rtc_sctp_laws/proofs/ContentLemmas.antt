@@ -1,10 +1,10 @@
 -- What messages carry, by lists that are joined, and what of it is answered.
 use Rattle.std.proofs.Common.{◌≡◌, ℕ, ◌==◌, ◌&&◌, ◌||◌, not, cond, Bool, true, false, true≢false, List, [], ◌∷◌, ◌++◌, map, append_assoc, Result, Ok, Err, refl, sym, ap, ◌∙◌}
-use Rattle.rtc_part_association.specs.declared.ppi.Ppi.{Ppi}
-use Rattle.rtc_part_association.specs.declared.ppi.Ppi.TheVariants as ppi
-use Rattle.rtc_part_association.specs.Ppi.{ppi_of}
-use Rattle.rtc_part_association.specs.AssociationActs.{AssociationAct, Wrote, Read}
-use Rattle.rtc_part_association.specs.AssociationWords.{AssociationMessage, written, read}
+use Rattle.rtc_parts.specs.declared.ppi.Ppi.{Ppi}
+use Rattle.rtc_parts.specs.declared.ppi.Ppi.TheVariants as ppi
+use Rattle.rtc_parts.specs.Ppi.{ppi_of}
+use Rattle.rtc_parts.specs.AssociationActs.{AssociationAct, Wrote, Read}
+use Rattle.rtc_parts.specs.AssociationWords.{AssociationMessage, written, read}
 use Rattle.rtc_sctp_entries.specs.declared.sctp_event.SctpEvent.{SctpEvent}
 use Rattle.rtc_sctp_values.specs.declared.sctp_error.SctpError.{SctpError}
 use Rattle.rtc_sctp.specs.Calls.{written_ppi, is_nil}

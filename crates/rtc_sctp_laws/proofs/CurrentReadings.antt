@@ -1,9 +1,9 @@
 -- What is read of a stream by acts that give no packet is of the generation that the stream has behind them.
 use Rattle.std.proofs.Common.{◌≡◌, ◌∙◌, ℕ, ◌==◌, ◌||◌, ◌&&◌, not, Bool, true, false, List, [], ◌∷◌, map, refl, sym, ap, arith}
 use Rattle.std.proofs.lemmas.Bool.{eqb-true}
-use Rattle.rtc_part_association.specs.AssociationActs.{AssociationAct, Given, Read, Moved}
-use Rattle.rtc_part_association.specs.AssociationMeaning.{AssociationMeaning}
-use Rattle.rtc_part_association.specs.AssociationWords.{given}
+use Rattle.rtc_parts.specs.AssociationActs.{AssociationAct, Given, Read, Moved}
+use Rattle.rtc_parts.specs.AssociationMeaning.{AssociationMeaning}
+use Rattle.rtc_parts.specs.AssociationWords.{given}
 use Rattle.rtc_sctp_laws.specs.StreamMessages.{StreamMessage, read_act, reads_of}
 use Rattle.rtc_sctp_laws.specs.GenerationLaws.{GenerationLaws}
 use Rattle.rtc_sctp_laws.specs.StreamUses.{are_of_generation}

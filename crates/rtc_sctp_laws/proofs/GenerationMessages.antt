@@ -3,7 +3,7 @@ use Rattle.std.proofs.Common.{◌≡◌, ℕ, ◌<◌, ◌==◌, ◌&&◌, ◌||
 use Rattle.std.proofs.lemmas.Bool.{ne_eqb, eqb-true}
 use Rattle.std.proofs.lemmas.List.Elements.{filter-append}
 use Rattle.std.proofs.lemmas.List.Folds.{list_all-append}
-use Rattle.rtc_part_association.specs.declared.ppi.Ppi.{Ppi}
+use Rattle.rtc_parts.specs.declared.ppi.Ppi.{Ppi}
 use Rattle.rtc_sctp_laws.specs.StreamMessages.{StreamMessage, stream_message, is_dcep_message, are_dcep}
 use Rattle.rtc_sctp_laws.specs.StreamUses.{is_of_generation, messages_of, are_of_stream, begins_with_dcep, any_dcep}
 

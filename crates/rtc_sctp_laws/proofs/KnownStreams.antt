@@ -1,15 +1,15 @@
 -- Streams of which a message stands unread: each has an entry, or the event that tells of its message is due.
 use Rattle.std.proofs.Common.{◌≡◌, ◌∙◌, ◌⊎◌, ◌<◌, ◌++◌, ◌∷◌, inl, inr, ℕ, Bool, true, false, true≢false, List, [], refl, sym, ap, subst, arith}
-use Rattle.rtc_part_association.specs.declared.assoc_event.AssocEvent.{AssocEvent}
-use Rattle.rtc_part_association.specs.declared.assoc_event.AssocEvent.TheVariants.{Readable}
-use Rattle.rtc_part_association.specs.AssociationActs.{AssociationAct, Given, Told, Acted, Moved}
-use Rattle.rtc_part_association.specs.AssociationEvents.{AddsEvents}
-use Rattle.rtc_part_association.specs.AssociationLaws.{AssociationLaws}
-use Rattle.rtc_part_association.specs.AssociationMeaning.{AssociationMeaning}
-use Rattle.rtc_part_association.specs.AssociationWords.{given, told}
-use Rattle.rtc_part_association.proofs.AmongLemmas.{member-left, member-right}
-use Rattle.rtc_part_association.proofs.AssociationLemmas.{adds_all, generation_rises}
-use Rattle.rtc_part_values.specs.Among.{Member}
+use Rattle.rtc_parts.specs.declared.assoc_event.AssocEvent.{AssocEvent}
+use Rattle.rtc_parts.specs.declared.assoc_event.AssocEvent.TheVariants.{Readable}
+use Rattle.rtc_parts.specs.AssociationActs.{AssociationAct, Given, Told, Acted, Moved}
+use Rattle.rtc_parts.specs.AssociationEvents.{AddsEvents}
+use Rattle.rtc_parts.specs.AssociationLaws.{AssociationLaws}
+use Rattle.rtc_parts.specs.AssociationMeaning.{AssociationMeaning}
+use Rattle.rtc_parts.specs.AssociationWords.{given, told}
+use Rattle.rtc_parts.proofs.AmongLemmas.{member-left, member-right}
+use Rattle.rtc_parts.proofs.AssociationLemmas.{adds_all, generation_rises}
+use Rattle.rtc_parts.specs.Among.{Member}
 use Rattle.rtc_sctp_entries.specs.declared.stream_entry.StreamEntry.{StreamEntry}
 use Rattle.rtc_sctp_entries.specs.Entries.{is_closed_state}
 use Rattle.rtc_sctp.specs.Streams.{SctpStreams, is_established}

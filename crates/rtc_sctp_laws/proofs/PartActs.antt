@@ -1,16 +1,16 @@
 -- What acts leave of the parts of messages at an end of the plain association, and of the pieces that it sends.
 use Rattle.std.proofs.Common.{◌≡◌, ◌∙◌, ◌⊎◌, ◌-◌, ◌++◌, ◌∷◌, inl, inr, cond, ℕ, Bool, true, false, List, [], length, Option, Some, None, Result, refl, sym, subst}
 use Rattle.std.specs.declared.alloc.AllocError.{AllocError}
-use Rattle.rtc_part_association.specs.declared.assoc_event.AssocEvent.TheVariants.{Connected}
-use Rattle.rtc_part_association.specs.Ppi.{ppi_number}
-use Rattle.rtc_part_association.specs.AssociationActs.{AssociationAct, Started, Opened, Wrote, Ended, Given, Taken, Read, Told as ToldEvent, Stirred, Starts, ByConnect, ByAccept, BySnap, Stirs, LimitsSet, ConnectRefused, AcceptRefused, SnapRefused, OpenRefused, WriteRefused, ReadRefused, EndRefused, ThresholdSet, ReliabilitySet, Acted}
-use Rattle.rtc_part_association.specs.AssociationWords.{written}
-use Rattle.rtc_part_values.specs.Why.{Timed, Shut as ShutDown, Other}
-use Rattle.rtc_assoc_packets.specs.declared.item.Item.{Item}
-use Rattle.rtc_assoc_packets.specs.declared.frame.Frame.{Frame}
-use Rattle.rtc_assoc_packets.specs.declared.frame.Frame.TheVariants.{Hello, Welcome, Data, Acknowledgement, Shutdown}
-use Rattle.rtc_assoc_packets.specs.Packets.{frame_in}
-use Rattle.rtc_assoc_packets.specs.Pieces.{pieces_of}
+use Rattle.rtc_parts.specs.declared.assoc_event.AssocEvent.TheVariants.{Connected}
+use Rattle.rtc_parts.specs.Ppi.{ppi_number}
+use Rattle.rtc_parts.specs.AssociationActs.{AssociationAct, Started, Opened, Wrote, Ended, Given, Taken, Read, Told as ToldEvent, Stirred, Starts, ByConnect, ByAccept, BySnap, Stirs, LimitsSet, ConnectRefused, AcceptRefused, SnapRefused, OpenRefused, WriteRefused, ReadRefused, EndRefused, ThresholdSet, ReliabilitySet, Acted}
+use Rattle.rtc_parts.specs.AssociationWords.{written}
+use Rattle.rtc_parts.specs.Why.{Timed, Shut as ShutDown, Other}
+use Rattle.rtc_assoc_state.specs.declared.item.Item.{Item}
+use Rattle.rtc_assoc_state.specs.declared.frame.Frame.{Frame}
+use Rattle.rtc_assoc_state.specs.declared.frame.Frame.TheVariants.{Hello, Welcome, Data, Acknowledgement, Shutdown}
+use Rattle.rtc_assoc_state.specs.Packets.{frame_in}
+use Rattle.rtc_assoc_state.specs.Pieces.{pieces_of}
 use Rattle.rtc_assoc_state.specs.Contents.{Contents, generation_of, is_server}
 use Rattle.rtc_assoc_state.specs.Streams.{stream_of}
 use Rattle.rtc_assoc_state.specs.Calls.{limited, started_as, said_hello, connected, accepted, snapped, opened, sent, message_written, next_message, taken_out, stream_ended, thresholded, shut_down, greeted, welcomed, acknowledged, answered, lost, framed, at_moment, half_taken, timed, event_given, packet_given}

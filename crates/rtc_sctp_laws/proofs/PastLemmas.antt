@@ -1,11 +1,11 @@
 -- A stream that is past a generation stays so by all acts, and nothing is written to the generation.
 use Rattle.std.proofs.Common.{◌≡◌, ◌≢◌, inl, inr, ℕ, ◌<◌, ◌≤◌, ◌==◌, ◌&&◌, cond, Bool, true, false, true≢false, List, [], ◌∷◌, ◌++◌, refl, sym, ap, subst, ◌∙◌, arith}
 use Rattle.std.proofs.lemmas.Bool.{eqb-true, eqb-false}
-use Rattle.rtc_part_association.specs.AssociationMeaning.{AssociationMeaning}
-use Rattle.rtc_part_association.specs.AssociationActs.{AssociationAct, Wrote, Given, Acted, Moved}
-use Rattle.rtc_part_association.specs.AssociationWords.{AssociationMessage, written}
-use Rattle.rtc_part_association.specs.AssociationLaws.{AssociationLaws}
-use Rattle.rtc_part_association.proofs.AssociationLemmas.{generation_rises, written-append}
+use Rattle.rtc_parts.specs.AssociationMeaning.{AssociationMeaning}
+use Rattle.rtc_parts.specs.AssociationActs.{AssociationAct, Wrote, Given, Acted, Moved}
+use Rattle.rtc_parts.specs.AssociationWords.{AssociationMessage, written}
+use Rattle.rtc_parts.specs.AssociationLaws.{AssociationLaws}
+use Rattle.rtc_parts.proofs.AssociationLemmas.{generation_rises, written-append}
 use Rattle.rtc_sctp_laws.specs.GenerationLaws.{KeepsGeneration, GenerationLaws}
 use Rattle.std.specs.Prelude.{nat_lt}
 use Rattle.rtc_sctp_entries.specs.declared.stream_entry_state.StreamEntryState.{StreamEntryState}

@@ -1,8 +1,8 @@
 -- The plain association comes to another generation of a stream by packets alone.
 use Rattle.std.proofs.Common.{◌≡◌, ◌⊎◌, inl, inr, ℕ, ◌<◌, ◌≤◌, ◌||◌, not, Bool, true, false, List, length, Some, None, refl, sym, ap, subst, ◌∙◌, arith}
-use Rattle.rtc_part_association.specs.Ppi.{ppi_number}
-use Rattle.rtc_part_association.specs.AssociationActs.{AssociationAct, Started, Opened, Wrote, Ended, Given, Taken, Read, Told as ToldEvent, Stirred, Starts, ByConnect, ByAccept, BySnap, Stirs, LimitsSet, ConnectRefused, AcceptRefused, SnapRefused, OpenRefused, WriteRefused, ReadRefused, EndRefused, ThresholdSet, ReliabilitySet, Acted}
-use Rattle.rtc_part_values.specs.Why.{Timed, Shut as ShutDown, Other}
+use Rattle.rtc_parts.specs.Ppi.{ppi_number}
+use Rattle.rtc_parts.specs.AssociationActs.{AssociationAct, Started, Opened, Wrote, Ended, Given, Taken, Read, Told as ToldEvent, Stirred, Starts, ByConnect, ByAccept, BySnap, Stirs, LimitsSet, ConnectRefused, AcceptRefused, SnapRefused, OpenRefused, WriteRefused, ReadRefused, EndRefused, ThresholdSet, ReliabilitySet, Acted}
+use Rattle.rtc_parts.specs.Why.{Timed, Shut as ShutDown, Other}
 use Rattle.rtc_assoc_state.specs.declared.close_state.CloseState.TheVariants.{Queued}
 use Rattle.rtc_assoc_state.specs.declared.stream_row.StreamRow.{StreamRow}
 use Rattle.rtc_assoc_state.specs.Contents.{Contents, few_numbers_left, is_closing, is_closed, has_stream, has_unread, closed_here, generation_of}

@@ -1,9 +1,9 @@
 -- The plain association reads identifiers by their names.
 use Rattle.std.proofs.Common.{◌≡◌, ◌==◌, cond, ℕ, Bool, true, false, List, Option, Some, None, refl, sym, ap, ◌∙◌}
 use Rattle.std.proofs.lemmas.Bool.{eqb-true}
-use Rattle.rtc_part_association.specs.declared.ppi.Ppi.{Ppi}
-use Rattle.rtc_part_association.specs.declared.ppi.Ppi.TheVariants as ppi
-use Rattle.rtc_part_association.specs.Ppi.{ppi_number, ppi_of}
+use Rattle.rtc_parts.specs.declared.ppi.Ppi.{Ppi}
+use Rattle.rtc_parts.specs.declared.ppi.Ppi.TheVariants as ppi
+use Rattle.rtc_parts.specs.Ppi.{ppi_number, ppi_of}
 use Rattle.rtc_assoc_state.specs.declared.message.Message.{Message}
 use Rattle.rtc_assoc_state.specs.Calls.{next_message}
 use Rattle.rtc_assoc_state.specs.Contents.{Contents}

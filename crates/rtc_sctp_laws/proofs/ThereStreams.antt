@@ -2,15 +2,15 @@
 use Rattle.std.proofs.Common.{◌≡◌, ◌∙◌, ◌⊎◌, ◌==◌, ◌≤◌, ℕ, Bool, true, false, true≢false, List, [], ◌∷◌, Some, None, Ok, Err, Option, Result, inl, inr, refl, sym, subst, arith}
 use Rattle.std.proofs.lemmas.Bool.{ne_eqb}
 use Rattle.rtc_wire.specs.declared.reliability_type.ReliabilityType.{ReliabilityType}
-use Rattle.rtc_part_association.specs.declared.assoc_error.AssocError.{AssocError}
-use Rattle.rtc_part_association.specs.declared.ppi.Ppi.{Ppi}
-use Rattle.rtc_part_association.specs.Ppi.{ppi_number}
-use Rattle.rtc_part_association.specs.AssociationActs.{AssociationAct, Opened, Wrote, Ended, Given, Read, Stirred, Acted, Moved}
-use Rattle.rtc_part_association.specs.AssociationActs.{OpenRefused, WriteRefused, ReadRefused, EndRefused, ThresholdSet, ReliabilitySet}
-use Rattle.rtc_part_association.specs.AssociationLaws.{AssociationLaws}
-use Rattle.rtc_part_association.specs.AssociationMeaning.{AssociationMeaning}
-use Rattle.rtc_part_association.proofs.AssociationLemmas.{generation_rises}
-use Rattle.rtc_part_values.specs.Why.{Other}
+use Rattle.rtc_parts.specs.declared.assoc_error.AssocError.{AssocError}
+use Rattle.rtc_parts.specs.declared.ppi.Ppi.{Ppi}
+use Rattle.rtc_parts.specs.Ppi.{ppi_number}
+use Rattle.rtc_parts.specs.AssociationActs.{AssociationAct, Opened, Wrote, Ended, Given, Read, Stirred, Acted, Moved}
+use Rattle.rtc_parts.specs.AssociationActs.{OpenRefused, WriteRefused, ReadRefused, EndRefused, ThresholdSet, ReliabilitySet}
+use Rattle.rtc_parts.specs.AssociationLaws.{AssociationLaws}
+use Rattle.rtc_parts.specs.AssociationMeaning.{AssociationMeaning}
+use Rattle.rtc_parts.proofs.AssociationLemmas.{generation_rises}
+use Rattle.rtc_parts.specs.Why.{Other}
 use Rattle.rtc_sctp_entries.specs.declared.stream_entry.StreamEntry.{StreamEntry}
 use Rattle.rtc_sctp_laws.specs.StreamRuns.{is_past_opening}
 use Rattle.rtc_sctp.specs.Streams.{SctpStreams}

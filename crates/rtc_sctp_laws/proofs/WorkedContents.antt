@@ -1,6 +1,6 @@
 -- What some messages carry, computed.
 use Rattle.std.proofs.Common.{◌≡◌, true, false, [], ◌∷◌, refl}
-use Rattle.rtc_part_association.specs.declared.ppi.Ppi.TheVariants as ppi
+use Rattle.rtc_parts.specs.declared.ppi.Ppi.TheVariants as ppi
 use Rattle.rtc_sctp_entries.specs.declared.sctp_event.SctpEvent.TheVariants as event
 use Rattle.rtc_sctp_laws.specs.StreamMessages.{stream_message}
 use Rattle.rtc_sctp_laws.specs.StreamUses.{messages_of}

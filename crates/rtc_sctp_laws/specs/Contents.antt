@@ -1,9 +1,9 @@
 -- What the messages of streams carry for the users of channels: whether it is binary, and its bytes (RFC 8831, section 6.6).
 use Rattle.std.specs.Prelude.{ℕ, ◌==◌, if◌then◌else◌, ◌++◌, Bool, true, false, List, [], ◌∷◌}
-use Rattle.rtc_part_association.specs.declared.ppi.Ppi.{Ppi}
-use Rattle.rtc_part_association.specs.declared.ppi.Ppi.TheVariants as ppi
-use Rattle.rtc_part_association.specs.Ppi.{ppi_number, ppi_of}
-use Rattle.rtc_part_association.specs.AssociationWords.{AssociationMessage}
+use Rattle.rtc_parts.specs.declared.ppi.Ppi.{Ppi}
+use Rattle.rtc_parts.specs.declared.ppi.Ppi.TheVariants as ppi
+use Rattle.rtc_parts.specs.Ppi.{ppi_number, ppi_of}
+use Rattle.rtc_parts.specs.AssociationWords.{AssociationMessage}
 use Rattle.rtc_sctp_entries.specs.declared.sctp_event.SctpEvent.{SctpEvent}
 use Rattle.rtc_sctp_entries.specs.declared.sctp_event.SctpEvent.TheVariants as event
 use Rattle.rtc_sctp_laws.specs.StreamMessages.{StreamMessage}

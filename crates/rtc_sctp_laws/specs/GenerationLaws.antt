@@ -1,8 +1,8 @@
 -- How the generations of the streams of an association change: by packets of the other end alone, and not otherwise than to another one.
 use Rattle.std.specs.Prelude.{ℕ, ◌≡◌, ◌||◌, Bool, true, false, List, [], ◌∷◌, Ok, Err}
-use Rattle.rtc_part_association.specs.declared.assoc_error.AssocError.TheVariants.{Fault}
-use Rattle.rtc_part_association.specs.AssociationMeaning.{AssociationMeaning}
-use Rattle.rtc_part_association.specs.AssociationActs.{AssociationAct, Opened, Given, Read, Acted}
+use Rattle.rtc_parts.specs.declared.assoc_error.AssocError.TheVariants.{Fault}
+use Rattle.rtc_parts.specs.AssociationMeaning.{AssociationMeaning}
+use Rattle.rtc_parts.specs.AssociationActs.{AssociationAct, Opened, Given, Read, Acted}
 
 -- whether an act gives a packet
 abbrev pub gives_packet : AssociationAct → Bool

@@ -1,7 +1,7 @@
 -- What is left of the read of a stream with nothing unread.
 use Rattle.std.specs.Prelude.{◌≡◌, ◌⊎◌}
 use Rattle.rtc_io.specs.Faults.{Rose}
-use Rattle.rtc_part_association.specs.AssociationMeaning.{AssociationMeaning}
+use Rattle.rtc_parts.specs.AssociationMeaning.{AssociationMeaning}
 use Rattle.rtc_sctp_entries.specs.declared.met.Met.{Met}
 use Rattle.rtc_sctp_entries.specs.declared.met.Met.TheVariants.{Nothing, OutOfMemory}
 use Rattle.rtc_sctp_entries.specs.Visits.{Turn}

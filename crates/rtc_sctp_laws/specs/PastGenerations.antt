@@ -1,8 +1,8 @@
 -- Generations that a stream is past: nothing is written to them any more.
 use Rattle.std.specs.Prelude.{ℕ, ◌≡◌, ◌<◌, ◌⊎◌, true, List, []}
-use Rattle.rtc_part_association.specs.AssociationMeaning.{AssociationMeaning}
-use Rattle.rtc_part_association.specs.AssociationActs.{AssociationAct}
-use Rattle.rtc_part_association.specs.AssociationWords.{written}
+use Rattle.rtc_parts.specs.AssociationMeaning.{AssociationMeaning}
+use Rattle.rtc_parts.specs.AssociationActs.{AssociationAct}
+use Rattle.rtc_parts.specs.AssociationWords.{written}
 use Rattle.rtc_sctp_laws.specs.StreamUses.{is_spent_stream}
 
 -- the stream has a later generation, or it has this one and takes no message any more

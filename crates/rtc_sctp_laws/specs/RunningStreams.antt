@@ -1,6 +1,6 @@
 -- Streams over an association that runs.
 use Rattle.std.specs.Prelude.{◌≡◌, true}
-use Rattle.rtc_part_association.specs.AssociationMeaning.{AssociationMeaning}
+use Rattle.rtc_parts.specs.AssociationMeaning.{AssociationMeaning}
 use Rattle.rtc_sctp.specs.Streams.{SctpStreams, is_established}
 
 -- the association is started, and it is established

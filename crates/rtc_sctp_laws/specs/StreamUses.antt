@@ -2,7 +2,7 @@
 use Rattle.std.specs.Prelude.{ℕ, ◌≡◌, ◌<◌, ◌++◌, ◌==◌, ◌&&◌, ◌||◌, ◌⊎◌, not, Bool, true, false, List, [], ◌∷◌}
 use Rattle.std.specs.Prelude.{Option, Some, is_some, unwrap_or}
 use Rattle.std.specs.List.{filter, list_all, list_any}
-use Rattle.rtc_part_association.specs.AssociationMeaning.{AssociationMeaning}
+use Rattle.rtc_parts.specs.AssociationMeaning.{AssociationMeaning}
 use Rattle.rtc_sctp_entries.specs.declared.stream_entry_state.StreamEntryState.{StreamEntryState}
 use Rattle.rtc_sctp_entries.specs.declared.stream_entry_state.StreamEntryState.TheVariants.{AwaitOpen, AwaitConfig}
 use Rattle.rtc_sctp_entries.specs.declared.stream_entry_state.StreamEntryState.TheVariants.{AwaitDcepAck, Open, Closed}
@@ -103,7 +103,7 @@ LeavesLive (Output (event.Close id pending)) s g entries =
 LeavesLive (Output (event.Open id label)) s g entries = (id ≡ s → ⊥) × IsLive s g entries
 LeavesLive (Output e) s g entries = IsLive s g entries
 
--- an entry is open for a channel that was not settled by other means than messages, and keeps this generation, if it keeps one
+-- an entry is open for a channel that was not negotiated out-of-band, and keeps this generation, or none if `own` is None
 abbrev pub IsOpenInBand : (own : Option ℕ) → StreamEntry → Type 0
 IsOpenInBand own entry = (entry.state ≡ Open) × (entry.generation ≡ own) × (is_out_of_band entry ≡ false)
 

@@ -13,7 +13,7 @@ ghost use Rattle.rtc_sctp.specs.Polls.{PollsStreams};
 ghost use Rattle.rtc_sctp_laws.specs.StreamMessages.{met_of};
 ghost use Rattle.rtc_sctp_laws.specs.StreamActs.{CallDid, PollDid, written_message, given_packet};
 
-use rtc_part_association::Association;
+use rtc_parts::Association;
 
 /// What each call on streams did to the association, as acts in order.
 ///

@@ -5,7 +5,7 @@ ghost use Rattle.rtc_sctp.specs.Calls.{WritesStream, buffered_sum};
 ghost use Rattle.rtc_sctp.specs.Streams.{SctpStreams};
 ghost use Rattle.rtc_sctp_values.specs.declared.sctp_error.SctpError.{SctpError};
 
-use rtc_part_association::Association;
+use rtc_parts::Association;
 
 /// A message of at least one byte that is accepted, and fits into what was available, leaves no more buffered over all streams than
 /// may be.

@@ -1,7 +1,7 @@
 //! The order of a Close and the completed resets.
 ghost use Rattle.std.specs.Prelude.{◌≡◌, ℕ, List, Option, Result, true, Some, slice_get};
 ghost use Rattle.std.specs.declared.alloc.AllocError.{AllocError};
-ghost use Rattle.rtc_part_association.specs.declared.assoc_event.AssocEvent.TheVariants.{Finished};
+ghost use Rattle.rtc_parts.specs.declared.assoc_event.AssocEvent.TheVariants.{Finished};
 ghost use Rattle.rtc_sctp_entries.specs.declared.stream_entry.StreamEntry.{StreamEntry};
 ghost use Rattle.rtc_sctp_entries.specs.declared.sctp_event.SctpEvent.{SctpEvent};
 ghost use Rattle.rtc_sctp_entries.specs.Entries.{entry_place};
@@ -10,7 +10,7 @@ ghost use Rattle.rtc_sctp.specs.StreamCalls.{ClosesDataStream};
 ghost use Rattle.rtc_sctp.specs.Polls.{Book, AfterEvent};
 ghost use Rattle.rtc_sctp_laws.specs.StreamRuns.{CallsInTurn, all_events, is_past_opening, has_closing_entry, closes_first};
 
-use rtc_part_association::Association;
+use rtc_parts::Association;
 
 /// The entry of a stream that is past its opening is to be closed if the stream is closed from here, and if the close
 /// of the other end is reported. Over an established association, its Close is before any completed reset among the

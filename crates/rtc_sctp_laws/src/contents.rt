@@ -3,7 +3,7 @@ ghost use Rattle.std.specs.Prelude.{◌≡◌, ◌++◌, ℕ, List, [], Bool, tr
 ghost use Rattle.std.specs.declared.alloc.AllocError.{AllocError};
 ghost use Rattle.rtc_ready.specs.Signals.{Signals};
 ghost use Rattle.rtc_wire.specs.declared.channel_config.ChannelConfig.{ChannelConfig};
-ghost use Rattle.rtc_part_association.specs.AssociationActs.{AssociationAct, Moved};
+ghost use Rattle.rtc_parts.specs.AssociationActs.{AssociationAct, Moved};
 ghost use Rattle.rtc_sctp_entries.specs.Entries.{entry_place};
 ghost use Rattle.rtc_sctp_entries.specs.declared.sctp_event.SctpEvent.{SctpEvent};
 ghost use Rattle.rtc_sctp_values.specs.declared.sctp_error.SctpError.{SctpError};
@@ -19,7 +19,7 @@ ghost use Rattle.rtc_sctp_entries.specs.declared.stream_entry.StreamEntry.{Strea
 ghost use Rattle.rtc_sctp_laws.specs.Contents.{contents_of, data_of};
 ghost use Rattle.rtc_sctp_laws.specs.PastGenerations.{IsPast, StaysPast};
 
-use rtc_part_association::Association;
+use rtc_parts::Association;
 
 /// A stream whose entry is open in a generation stays so by every call but a poll that reports its close. A message
 /// that is written to it is written to this generation. What is returned of it as data is what the messages of this

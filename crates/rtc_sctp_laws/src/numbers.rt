@@ -1,7 +1,7 @@
 //! What messages carry by the numbers of their identifiers, as the acts of an association have them.
 ghost use Rattle.std.specs.Prelude.{◌≡◌, ◌++◌, ℕ, List, Bool, true, Result, map};
-ghost use Rattle.rtc_part_association.specs.AssociationActs.{AssociationAct};
-ghost use Rattle.rtc_part_association.specs.AssociationWords.{AssociationMessage, written, read};
+ghost use Rattle.rtc_parts.specs.AssociationActs.{AssociationAct};
+ghost use Rattle.rtc_parts.specs.AssociationWords.{AssociationMessage, written, read};
 ghost use Rattle.rtc_sctp_values.specs.declared.sctp_error.SctpError.{SctpError};
 ghost use Rattle.rtc_sctp_laws.specs.StreamActs.{written_message};
 ghost use Rattle.rtc_sctp_laws.specs.StreamMessages.{StreamMessage, HaveNamedPpis, are_dcep, read_act, reads_of, write_act, writes_of};

@@ -8,11 +8,11 @@ ghost use Rattle.rtc_sctp.specs.Calls.{TakesTimeout, streams_wake};
 ghost use Rattle.rtc_sctp.specs.Polls.{PollsStreams};
 ghost use Rattle.rtc_sctp_laws.specs.NarrowedTimeouts.{GivesNothing, LeavesUnestablishedPolls};
 
-use rtc_part_association::Association;
+use rtc_parts::Association;
 
 /// A timeout that clears the events mark of a wake leaves polls of streams as they were, until the association is
-/// established. After a poll that gave nothing, and such a timeout, a poll gives nothing, unless memory runs out. A timeout
-/// that clears the timeout mark leaves the deadline.
+/// established. After a poll that looked at the streams and gave nothing, and such a timeout, a poll gives nothing, unless
+/// memory runs out. A timeout that clears the timeout mark leaves the deadline.
 pub fn narrowed_timeouts_leave<S: Association>()
     ensures polls { (p q : SctpStreams S) (now : ℕ) (wake wake' : Signals) (r : Result (Unit {0}) AllocError)
         → TakesTimeout S.association now p wake r q wake' → wake.events ≡ true → wake'.events ≡ false

@@ -4,7 +4,7 @@ ghost use Rattle.rtc_sctp_entries.specs.declared.met.Met.{Met};
 ghost use Rattle.rtc_sctp_entries.specs.Visits.{Turn, MayRead};
 ghost use Rattle.rtc_sctp_laws.specs.PassedReads.{PassesOver};
 
-use rtc_part_association::Association;
+use rtc_parts::Association;
 
 /// A stream that is there and has nothing unread of its generation is passed over, whether it is read or the read is left out. Nothing is
 /// met and nothing changes, unless memory runs out or the association faults.

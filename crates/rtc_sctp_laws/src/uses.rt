@@ -17,7 +17,7 @@ ghost use Rattle.rtc_sctp_laws.specs.GenerationLaws.{GenerationLaws};
 ghost use Rattle.rtc_sctp_laws.specs.StreamUses.{IsUsed};
 ghost use Rattle.rtc_sctp_laws.specs.UsedCalls.{IsUsedOver, PollUses};
 
-use rtc_part_association::Association;
+use rtc_parts::Association;
 
 /// Each call on streams keeps the use of every stream, over an association whose streams get another generation only by packets.
 ///

@@ -5,7 +5,7 @@ ghost use Rattle.rtc_sctp_entries.specs.declared.stream_entry_state.StreamEntryS
 ghost use Rattle.rtc_sctp_entries.specs.StreamLaws.{is_data_met, is_given_up, is_nothing_met};
 ghost use Rattle.rtc_sctp_entries.specs.Visits.{Turn, Visits};
 
-use rtc_part_association::Association;
+use rtc_parts::Association;
 
 /// Data is returned only of an entry that is not marked. An opening that was first refused ten seconds ago or earlier is not left waiting.
 pub fn visits_keep_marks_and_deadlines<S: Association>()

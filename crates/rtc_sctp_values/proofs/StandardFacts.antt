@@ -3,7 +3,7 @@ use Rattle.std.proofs.Common.{◌≡◌, ℕ, ◌+◌, ◌%◌, ◌^◌, true, f
 use Rattle.base64.specs.Rfc4648.{encode_symbols}
 use Rattle.base64.specs.Decode.{groups_error, groups_bytes, scan_steps}
 use Rattle.base64.specs.GeneralPurpose.{decoded_of}
-use Rattle.rtc_part_values.specs.Draws.{Draws}
+use Rattle.rtc_parts.specs.Draws.{Draws}
 use Rattle.rtc_sctp_values.specs.InitChunk.{receive_budget, nonzero_tag, init_chunk, chunk_text, chunk_of_text, drawn_chunk}
 use Rattle.rtc_sctp_values.specs.InitHalves.{no_halves, with_local, local_text}
 use Rattle.rtc_sctp_values.specs.SnapHalves.{KeptHalves, nothing_kept, enabled_halves, shown_local, whole_halves, KeepsRemote, EnsuresLocal}

@@ -1,7 +1,7 @@
 -- What an end keeps of SNAP: whether it is enabled, the pending INIT chunks, and those that the association was started with.
 use Rattle.std.specs.Prelude.{ℕ, ◌≡◌, Bool, true, false, List, Option, Some, None, if◌then◌else◌, is_some, Result, Ok, Err}
 use Rattle.std.specs.declared.alloc.AllocError.{AllocError}
-use Rattle.rtc_part_values.specs.Draws.{Draws}
+use Rattle.rtc_parts.specs.Draws.{Draws}
 use Rattle.rtc_sctp_values.specs.InitChunk.{chunk_of_text}
 use Rattle.rtc_sctp_values.specs.InitHalves.{InitHalves, no_halves, is_whole, with_remote, local_text, remote_text, with_local, after_half}
 

@@ -9,7 +9,7 @@ ghost use Rattle.rtc_sctp_values.specs.InitChunk.{
   after_chunk,
 };
 
-use rtc_part_values::Ids;
+use rtc_parts::Ids;
 
 /// What an end holds of unacknowledged bytes at least.
 const MIN_RECEIVE_BUDGET: u32 = 1_048_576;

@@ -22,7 +22,7 @@ use crate::SctpError;
 use crate::init_chunk::draw_chunk;
 use base64::DecodeAllocError;
 use base64::engine::general_purpose::STANDARD;
-use rtc_part_values::Ids;
+use rtc_parts::Ids;
 use rtc_wire::{Bytes, LOCAL_MAX_MESSAGE_SIZE, TryCopy};
 use std::alloc::{AllocError, Global};
 use std::marker::Model;

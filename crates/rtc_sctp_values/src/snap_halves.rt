@@ -23,7 +23,7 @@ ghost use Rattle.rtc_sctp_values.specs.SnapHalves.{
 
 use crate::SctpInitData;
 use crate::sctp_init_data::read_chunk;
-use rtc_part_values::Ids;
+use rtc_parts::Ids;
 use rtc_wire::TryCopy;
 use std::alloc::{AllocError, Global};
 use std::marker::Model;

@@ -1,6 +1,6 @@
 use Rattle.std.proofs.Common.{subst, refl, arith, List}
-use Rattle.rtc_part_association.specs.AssociationActs.{AssociationAct, Moved}
-use Rattle.rtc_part_association.proofs.AssociationLemmas.{completions_before_read}
+use Rattle.rtc_parts.specs.AssociationActs.{AssociationAct, Moved}
+use Rattle.rtc_parts.proofs.AssociationLemmas.{completions_before_read}
 use Rattle.rtc_assoc_state.specs.Contents.{fresh_contents}
 use Rattle.rtc_assoc_state.specs.PlainMeaning.{plain_meaning}
 use Rattle.rtc_assoc_state.proofs.PlainLaws.{plain_laws}

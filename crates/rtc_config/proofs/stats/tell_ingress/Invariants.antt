@@ -1,6 +1,6 @@
 use Rattle.std.proofs.Common.{◌≡◌, ◌++◌, map}
 use Rattle.std.specs.BTreeMap.{values}
-use Rattle.rtc_part_media.specs.declared.stats_event.StatsEvent.TheVariants.{MediaIngress}
+use Rattle.rtc_parts.specs.declared.stats_event.StatsEvent.TheVariants.{MediaIngress}
 use Rattle.rtc_config.proofs.stats.tell_ingress.Given as goal
 
 abbrev pub invariant-loop-report : goal.invariant-loop-report

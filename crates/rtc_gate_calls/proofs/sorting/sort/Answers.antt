@@ -1,6 +1,6 @@
 use Rattle.std.proofs.Common.{◌≡◌, ℕ, ◌≤◌, List, length, refl, subst, arith}
-use Rattle.rtc_gate_frames.specs.Signal.{signal_of}
-use Rattle.rtc_gate_frames.specs.SignalStream.{Unfinished, Malformed, Arrived, signal_front}
+use Rattle.rtc_gate_calls.specs.Signal.{signal_of}
+use Rattle.rtc_gate_calls.specs.SignalStream.{Unfinished, Malformed, Arrived, signal_front}
 use Rattle.rtc_gate_calls.proofs.SortLemmas.{to_end, sorted_all, sorts_more}
 use Rattle.rtc_gate_calls.proofs.sorting.sort.Goals as goal
 

@@ -1,4 +1,4 @@
-use Rattle.rtc_part_ice.specs.IceActs.{ControllingSet, Invalidated, LiteSet, LocalSet, RemoteSet}
+use Rattle.rtc_parts.specs.IceActs.{ControllingSet, Invalidated, LiteSet, LocalSet, RemoteSet}
 use Rattle.rtc_peer_core.specs.Meanings.{meanings}
 use Rattle.rtc_peer_laws.proofs.ActedDirectCalls.{agent_called, creates_called, like_called, role_did, starts_called}
 use Rattle.rtc_peer_laws.proofs.FollowedParts.{agent_call}

@@ -1,4 +1,4 @@
-use Rattle.rtc_part_media.specs.MediaActs.{AppFed, PliFed, RedSet, RxRemoved, TwccEnabled, TxRemoved}
+use Rattle.rtc_parts.specs.MediaActs.{AppFed, PliFed, RedSet, RxRemoved, TwccEnabled, TxRemoved}
 use Rattle.rtc_peer_core.specs.Meanings.{meanings}
 use Rattle.rtc_peer_laws.proofs.ActedDirectCalls.{like_called, media_called, removes_called, stirred_told}
 use Rattle.std.proofs.Common.{refl}

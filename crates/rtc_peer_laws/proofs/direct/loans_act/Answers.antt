@@ -1,4 +1,4 @@
-use Rattle.rtc_part_media.specs.MediaActs.{RxExpected, RxLent, RxNamedLent, TxDeclared, TxLent, TxNamedLent, TxReset, WriterLent}
+use Rattle.rtc_parts.specs.MediaActs.{RxExpected, RxLent, RxNamedLent, TxDeclared, TxLent, TxNamedLent, TxReset, WriterLent}
 use Rattle.rtc_peer_core.specs.Meanings.{meanings}
 use Rattle.rtc_peer_laws.proofs.ActedDirectCalls.{lent_told, media_called}
 use Rattle.rtc_peer_laws.proofs.direct.loans_act.Goals as goal

@@ -1,5 +1,5 @@
 use Rattle.std.proofs.Common.{refl, Ok, Err}
-use Rattle.rtc_part_dtls.specs.declared.dtls_error.DtlsError.TheVariants.{Fault, Alloc}
+use Rattle.rtc_parts.specs.declared.dtls_error.DtlsError.TheVariants.{Fault, Alloc}
 use Rattle.rtc_peer_negotiation.proofs.FollowLemmas.{begins_handshake, begins_alone}
 use Rattle.rtc_peer_negotiation.proofs.following.begin_handshake.Goals as goal
 

@@ -1,4 +1,4 @@
-use Rattle.rtc_part_values.proofs.LaterLemmas.{later_none}
+use Rattle.rtc_parts.proofs.LaterLemmas.{later_none}
 use Rattle.rtc_peer_sdp.proofs.updating.draw_row.Goals as goal
 
 pub returns-then-not-wants_sources-clause-later : goal.returns-then-not-wants_sources-clause-later

@@ -1,5 +1,5 @@
 use Rattle.std.proofs.Common.{◌≡◌, ◌+◌, suc, drop, refl, arith}
-use Rattle.rtc_part_values.proofs.LaterLemmas.{later_none, later_join}
+use Rattle.rtc_parts.proofs.LaterLemmas.{later_none, later_join}
 use Rattle.rtc_peer_core.specs.Sources.{has_source}
 use Rattle.rtc_peer_core.specs.LineUpdates.{added_media, sending_of}
 use Rattle.rtc_peer_sdp.proofs.UpdateLemmas.{from_place, from_index, none_from, none_behind, one_update, one_update_after}

@@ -1,5 +1,5 @@
 use Rattle.std.proofs.Common.{◌≡◌, ◌++◌, drop, []}
-use Rattle.rtc_part_values.specs.Draws.{Later}
+use Rattle.rtc_parts.specs.Draws.{Later}
 use Rattle.rtc_peer_core.specs.Sources.{has_source}
 use Rattle.rtc_peer_core.specs.LineUpdates.{added_media, sending_of, row_updates, after_updates}
 use Rattle.rtc_peer_sdp.proofs.updating.list_updates.Given as goal

@@ -1,4 +1,4 @@
-use Rattle.rtc_part_values.proofs.LaterLemmas.{later_none, later_join}
+use Rattle.rtc_parts.proofs.LaterLemmas.{later_none, later_join}
 use Rattle.rtc_peer_staging.proofs.staging.draw_msid.Goals as goal
 
 pub returns-in_err-stream-clause-later : goal.returns-in_err-stream-clause-later

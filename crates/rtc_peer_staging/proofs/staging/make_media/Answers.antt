@@ -1,4 +1,4 @@
-use Rattle.rtc_part_values.proofs.LaterLemmas.{later_join}
+use Rattle.rtc_parts.proofs.LaterLemmas.{later_join}
 use Rattle.rtc_peer_staging.proofs.staging.make_media.Goals as goal
 
 pub returns-in_err-msid-clause-later : goal.returns-in_err-msid-clause-later

@@ -1,5 +1,5 @@
 use Rattle.std.proofs.Common.{refl}
-use Rattle.rtc_part_values.proofs.LaterLemmas.{later_once}
+use Rattle.rtc_parts.proofs.LaterLemmas.{later_once}
 use Rattle.rtc_peer_core.specs.Meanings.{meanings}
 use Rattle.rtc_peer_staging.proofs.StagedMedia.{restart_unstaged}
 use Rattle.rtc_peer_staging.proofs.staging.stage_restart.Goals as goal

@@ -1,5 +1,5 @@
 use Rattle.std.proofs.Common.{ℕ, List, Bool, arith}
-use Rattle.rtc_part_media.specs.MediaUpdates.{same_mid}
+use Rattle.rtc_parts.specs.MediaUpdates.{same_mid}
 use Rattle.rtc_plain_media.specs.SourceCounts.{count_for}
 use Rattle.rtc_plain_media.proofs.CountLemmas.{counts_dropped}
 use Rattle.rtc_plain_media.proofs.lines.drop_line.Goals as goal

@@ -1,5 +1,5 @@
 use Rattle.std.proofs.Common.{rules, arith}
-use Rattle.rtc_part_media.specs.MediaUpdates.{removed_by}
+use Rattle.rtc_parts.specs.MediaUpdates.{removed_by}
 use Rattle.rtc_plain_media.specs.SourceCounts.{count_for}
 use Rattle.rtc_plain_media.proofs.CountLemmas.{counts_dropped}
 use Rattle.rtc_plain_media.proofs.RemovalLemmas.{all_lines_stay}

@@ -1,6 +1,6 @@
 use Rattle.std.proofs.Common.{◌≡◌, ◌-◌, ◌≤◌, ℕ}
 use Rattle.indexmap.specs.IndexMap.{spare}
-use Rattle.rtc_part_media.specs.MediaUpdates.{removed_by}
+use Rattle.rtc_parts.specs.MediaUpdates.{removed_by}
 use Rattle.rtc_plain_media.specs.SourceCounts.{count_for, gone_count}
 use Rattle.rtc_plain_media.proofs.lines.drop_removed_sources.Given as goal
 

@@ -1,7 +1,7 @@
 use Rattle.std.proofs.Common.{◌<◌, ◌≤◌, ◌^◌, length, List, sym, subst, rules}
 use Rattle.rtc_io.proofs.Told.{answer_due, refusal_due}
-use Rattle.rtc_room_steps.specs.RoomSizes.{room_size}
-use Rattle.rtc_room_steps.specs.declared.room_step.RoomStep.{RoomStep}
+use Rattle.rtc_room_laws.specs.RoomSizes.{room_size}
+use Rattle.rtc_room_laws.specs.declared.room_step.RoomStep.{RoomStep}
 use Rattle.rtc_room.specs.Answers.{room_program}
 use Rattle.rtc_room.proofs.SmallRoomScripts.{script_small}
 use Rattle.rtc_room.proofs.RoomScripts.{reads_steps, reads_no_steps}

@@ -1,6 +1,6 @@
 use Rattle.std.proofs.Common.{◌≡◌, ◌++◌, drop}
 use Rattle.rtc_peer.specs.CachedPeer.{polled_of}
-use Rattle.rtc_room_steps.specs.Hearing.{heard_in, line_behind}
+use Rattle.rtc_room_laws.specs.Hearing.{heard_in, line_behind}
 use Rattle.rtc_room_hub.proofs.hearing.hear_outputs.Given as goal
 
 -- the line behind all outputs, and what is heard in them, by those to come

@@ -1,4 +1,4 @@
-use Rattle.rtc_room_steps.specs.Members.{hearing_member}
+use Rattle.rtc_room_laws.specs.Members.{hearing_member}
 use Rattle.rtc_room_hub.proofs.HeardMembers.{mapped_on}
 use Rattle.rtc_room_hub.proofs.performing.queue_items.Goals as goal
 

@@ -1,5 +1,5 @@
 use Rattle.std.proofs.Common.{◌≡◌, ◌++◌, map, take, drop}
-use Rattle.rtc_room_steps.specs.Members.{hearing_member}
+use Rattle.rtc_room_laws.specs.Members.{hearing_member}
 use Rattle.rtc_room_hub.proofs.performing.queue_items.Given as goal
 
 -- the members so far have heard the items

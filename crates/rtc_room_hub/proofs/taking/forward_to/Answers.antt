@@ -1,5 +1,5 @@
-use Rattle.rtc_room_steps.specs.declared.room_step.RoomStep.TheVariants.{Forward}
-use Rattle.rtc_room_steps.specs.Members.{is_here}
+use Rattle.rtc_room_laws.specs.declared.room_step.RoomStep.TheVariants.{Forward}
+use Rattle.rtc_room_laws.specs.Members.{is_here}
 use Rattle.rtc_room_hub.proofs.TakenSteps.{on_away, on_here, place_here}
 use Rattle.rtc_room_hub.proofs.taking.forward_to.Goals as goal
 

@@ -1,5 +1,5 @@
 use Rattle.std.proofs.Common.{refl}
-use Rattle.rtc_run_plain.proofs.PlainPeers.{left_host, right_host}
+use Rattle.rtc_run.proofs.PlainPeers.{left_host, right_host}
 use Rattle.rtc_run_faulty.proofs.FaultyDrains.{faulty_undriven, peer_undriven}
 use Rattle.rtc_run_faulty.proofs.FaultyPeers.{faulty_pair_fresh, faulty_pair_formed, faulty_role}
 use Rattle.rtc_run_faulty.proofs.faulty_pair.make_faulty_pair.Goals as goal

@@ -1,4 +1,4 @@
-use Rattle.rtc_assoc_packets.specs.Headers.{item_with}
+use Rattle.rtc_assoc_state.specs.Headers.{item_with}
 use Rattle.rtc_assoc_state.specs.Calls.{answered, item_came}
 use Rattle.rtc_assoc_end.proofs.SendsLemmas.{on_ok, sends_data}
 use Rattle.rtc_assoc_end.proofs.association.PlainAssociation.take_data.Goals as goal

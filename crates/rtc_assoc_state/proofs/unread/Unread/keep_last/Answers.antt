@@ -1,6 +1,6 @@
 use Rattle.std.proofs.Common.{ap, ◌∙◌}
 use Rattle.std.specs.VecDeque.{deque_items}
-use Rattle.rtc_assoc_packets.specs.Headers.{item_with}
+use Rattle.rtc_assoc_state.specs.Headers.{item_with}
 use Rattle.rtc_assoc_state.specs.Inbox.{message_of, with_message, bytes_so_far}
 use Rattle.rtc_assoc_state.specs.Queued.{all_queued}
 use Rattle.rtc_assoc_state.proofs.PartLemmas.{bytes_so_far-with}

@@ -1,5 +1,5 @@
 use Rattle.std.proofs.Common.{refl, subst}
-use Rattle.rtc_part_media.specs.NoStream.{StreamAnswers}
+use Rattle.rtc_parts.specs.NoStream.{StreamAnswers}
 use Rattle.rtc_faulty.proofs.CountedLoans.{made_lent, nothing_made}
 use Rattle.rtc_faulty.proofs.counted_media.CountedMediaSession.make_stream_tx.Goals as goal
 

@@ -9,19 +9,19 @@ use Rattle.rtc_sdp_values.specs.contracts.rid.Rid as I-type
 use Rattle.rtc_sdp_values.proofs.ssrc.Ssrc.TheLaws as ssrcs
 use Rattle.rtc_sdp_values.proofs.mid.Mid.TheLaws as mids
 use Rattle.rtc_sdp_values.proofs.rid.Rid.TheLaws as rids
-use Rattle.rtc_part_media.specs.NoStream.{StreamAnswers, none_where_declined}
-use Rattle.rtc_part_media.specs.StreamLends.{IfLent, LendsStream}
-use Rattle.rtc_part_media.specs.declared.no_stream.NoStream.{NoStream}
-use Rattle.rtc_part_media.specs.contracts.answer_of as S
-use Rattle.rtc_part_media.proofs.answer_of.Met as second
-use Rattle.rtc_part_media.proofs.answer_of.Symbol.{name as #second}
+use Rattle.rtc_parts.specs.NoStream.{StreamAnswers, none_where_declined}
+use Rattle.rtc_parts.specs.StreamLends.{IfLent, LendsStream}
+use Rattle.rtc_parts.specs.declared.no_stream.NoStream.{NoStream}
+use Rattle.rtc_parts.specs.contracts.answer_of as S
+use Rattle.rtc_parts.proofs.answer_of.Met as second
+use Rattle.rtc_parts.proofs.answer_of.Symbol.{name as #second}
 use Rattle.rtc_wire.specs.declared.stun_reader.StunReader.{Ghosts as StunGhosts}
-use Rattle.rtc_part_ice.specs.declared.ice_agent.IceAgent.{Ghosts as IceGhosts}
-use Rattle.rtc_part_dtls.specs.declared.dtls_instance.DtlsInstance.{Ghosts as DtlsGhosts}
-use Rattle.rtc_part_association.specs.declared.association.Association.{Ghosts as AssociationGhosts}
-use Rattle.rtc_part_media.specs.declared.media_event.MediaEvent.{Ghosts as EventGhosts}
-use Rattle.rtc_part_media.specs.declared.media_session.MediaSession.{Ghosts}
-use Rattle.rtc_part_values.specs.declared.ids.Ids.{Ghosts as IdsGhosts}
+use Rattle.rtc_parts.specs.declared.ice_agent.IceAgent.{Ghosts as IceGhosts}
+use Rattle.rtc_parts.specs.declared.dtls_instance.DtlsInstance.{Ghosts as DtlsGhosts}
+use Rattle.rtc_parts.specs.declared.association.Association.{Ghosts as AssociationGhosts}
+use Rattle.rtc_parts.specs.declared.media_event.MediaEvent.{Ghosts as EventGhosts}
+use Rattle.rtc_parts.specs.declared.media_session.MediaSession.{Ghosts}
+use Rattle.rtc_parts.specs.declared.ids.Ids.{Ghosts as IdsGhosts}
 use Rattle.rtc_peer_direct.specs.Streams.{DeclaresTx, gives_no_tx}
 use Rattle.rtc_peer.specs.CachedPeer.{polled_of}
 use Rattle.rtc_peer.specs.contracts.direct_api.DirectApi as D-type
@@ -89,7 +89,7 @@ declare_stream_tx_spec 𝓤 𝓛 𝓜 𝓡 wired Y D C V N E X U W LY LD LC LV L
     let A = One Y D C V N E X U W gi di gr dr gd dd ga da gm dm ge de gn dn 𝓛 𝓜.mem 𝓡.returns in
     let B = Two Y D C V N E X U W gi di gr dr gd dd ga da gm dm ge de gn dn 𝓛 𝓜.mem 𝓡.returns in
     let met₁ : Triple 𝓤 (𝓣.C (#first (args Y D C V N E X U W gi di gr dr gd dd ga da gm dm ge de gn dn))) A = first.met 𝓤 𝓛 𝓜 𝓡 (code.calls-rtc_peer::direct_api::DirectApi::make_stream_tx 𝓡.env wired) Y D C V N E X U W LY LD LC LV LN LE LX LU LW gi di gr dr gd dd ga da gm dm ge de gn dn ice stun dtls association media event ids in
-    let met₂ : Triple 𝓤 (𝓣.C (#second (bounded (a_type ∷ []) (U, tt) dnil))) B = second.met 𝓤 𝓛 𝓜 𝓡 (code.calls-rtc_part_media::answer_of 𝓡.env wired) U LU in
+    let met₂ : Triple 𝓤 (𝓣.C (#second (bounded (a_type ∷ []) (U, tt) dnil))) B = second.met 𝓤 𝓛 𝓜 𝓡 (code.calls-rtc_parts::answer_of 𝓡.env wired) U LU in
     proved 𝓛 T' stays c 𝓜 𝓡
     (Goes-spent_ref 𝓛 11 (0 ∷ []) tt (plain (Handle Y D C V N E X U W gi di gr dr gd dd ga da gm dm ge de gn dn)), (Goes-dropped 𝓛 11 (plain (λ _. S-type.the_row)) yes (λ κs x f. refl), (Goes-dropped 𝓛 11 (plain (λ _. Rtx)) yes (λ κs x f. refl), (Goes-dropped 𝓛 11 (plain (λ _. M-type.the_row)) yes (λ κs x f. refl), (Goes-dropped 𝓛 11 (plain (λ _. Rid)) yes (λ κs x f. refl), tt)))))
     (#self (args Y D C V N E X U W gi di gr dr gd dd ga da gm dm ge de gn dn)) (inst_fn (args Y D C V N E X U W gi di gr dr gd dd ga da gm dm ge de gn dn) code.function) (code.unfolded 𝓤 𝓛.H 𝓜 𝓡 wired (Y, (D, (C, (V, (N, (E, (X, (U, (W, tt))))))))) di dr dd da dm de dn)

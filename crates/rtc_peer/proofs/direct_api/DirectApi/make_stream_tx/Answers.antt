@@ -1,6 +1,6 @@
 use Rattle.std.proofs.Common.{◌≡◌, refl, ap, subst}
 use Rattle.std.specs.Borrow.{MutBor}
-use Rattle.rtc_part_media.specs.NoStream.{StreamAnswers}
+use Rattle.rtc_parts.specs.NoStream.{StreamAnswers}
 use Rattle.rtc_peer_transport.specs.declared.polled_peer.PolledPeer.{PolledPeer}
 use Rattle.rtc_peer.specs.CachedPeer.{CachedPeer, polled_of}
 use Rattle.rtc_peer_direct.specs.Streams.{DeclaresTx, gives_no_tx}

@@ -1,5 +1,5 @@
 use Rattle.std.proofs.Common.{◌≡◌, List, length, ap, arith}
-use Rattle.rtc_part_media.specs.declared.media_update.MediaUpdate.{MediaUpdate}
+use Rattle.rtc_parts.specs.declared.media_update.MediaUpdate.{MediaUpdate}
 use Rattle.rtc_plain_media.specs.SourceCounts.{updates_numbers}
 use Rattle.rtc_plain_media.proofs.CountLemmas.{keeps_reserved, keeps_prepared}
 use Rattle.rtc_plain_media.proofs.part.PlainMediaMediaSession.prepare.Goals as goal

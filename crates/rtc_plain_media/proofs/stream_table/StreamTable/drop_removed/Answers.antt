@@ -1,5 +1,5 @@
 use Rattle.std.proofs.Common.{◌≡◌, Bool, not, filter, ap, ◌∙◌, length, sym, subst, arith, ℕ, rules}
-use Rattle.rtc_part_media.specs.MediaUpdates.{removed_by}
+use Rattle.rtc_parts.specs.MediaUpdates.{removed_by}
 use Rattle.rtc_plain_media.specs.declared.stream_row.StreamRow.{StreamRow}
 use Rattle.rtc_plain_media.specs.StreamIndex.{FitsStreams, IndexesStreams}
 use Rattle.rtc_plain_media.specs.Streams.{Streams}

@@ -1,6 +1,6 @@
 use Rattle.std.proofs.Common.{refl}
-use Rattle.rtc_part_values.specs.Why.{Timed}
-use Rattle.rtc_part_association.specs.AssociationActs.{Stirred}
+use Rattle.rtc_parts.specs.Why.{Timed}
+use Rattle.rtc_parts.specs.AssociationActs.{Stirred}
 use Rattle.rtc_sctp_entries.proofs.UntoldVisits.{untold_act}
 use Rattle.rtc_sctp.proofs.CallsTended.{tended_swept}
 use Rattle.rtc_sctp.proofs.TendedLemmas.{tended_on}

@@ -1,5 +1,5 @@
 use Rattle.std.proofs.Common.{refl}
-use Rattle.rtc_part_association.specs.AssociationActs.{Given}
+use Rattle.rtc_parts.specs.AssociationActs.{Given}
 use Rattle.rtc_sctp_entries.proofs.UntoldVisits.{untold_act}
 use Rattle.rtc_sctp.proofs.TendedLemmas.{tended_on}
 use Rattle.rtc_sctp.proofs.streams.RtcSctp.handle_input.Goals as goal

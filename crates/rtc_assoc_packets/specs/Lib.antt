@@ -1,3 +1,0 @@
-pub mod Packets
-pub mod Headers
-pub mod Pieces

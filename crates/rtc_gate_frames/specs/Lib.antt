@@ -1,3 +1,0 @@
-pub mod Signal
-pub mod SignalStream
-pub mod ReadFront

@@ -1,3 +1,0 @@
-pub mod AmongLemmas
-pub mod AssociationLemmas
-mod EventFacts

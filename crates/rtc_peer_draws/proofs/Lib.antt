@@ -1,4 +1,0 @@
-pub mod Tokens
-pub mod Tries
-pub mod Pairs
-pub mod NumberLemmas

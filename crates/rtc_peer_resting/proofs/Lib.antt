@@ -1,9 +1,0 @@
-pub mod RestingStreams
-pub mod PushedAgain
-pub mod RestingConnection
-pub mod RestingStages
-pub mod KeptTurns
-pub mod DrainingStreams
-pub mod Draining
-pub mod QuietStreams
-pub mod QuietVisits

@@ -1,2 +1,0 @@
-pub mod PlainPeers
-pub mod PlainFaults

@@ -1,2 +1,0 @@
-pub mod ProgramPair
-pub mod NumberedPair
