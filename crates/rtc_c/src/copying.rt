@@ -71,11 +71,7 @@ pub extern "C" fn gondyru_copy_channel(
     ensures copied { (status : Status) × (result ≡ code_of status)
         × CopiesChannelOf number slot.old.handle.value status row.old row.new }
 {
-    // (a copy of the row, which cannot overlap the slot, spares a frame of the size of a peer)
-    let mut copied = *row;
-    let status = copy_channel(alloc, slot, number, &mut copied);
-    *row = copied;
-    status.code()
+    copy_channel(alloc, slot, number, row).code()
 }
 
 /// Copies the name of the status of a number into a buffer.

@@ -96,6 +96,8 @@ fn event_row(event: &Event<PlainMediaEvent>) -> OutputRow
 }
 
 /// Returns the row of an output.
+// (a call, so that the output stays in memory and is not split over registers byte by byte)
+#[inline(never)]
 pub(crate) fn output_row(output: &Output<PlainMediaEvent>) -> OutputRow
     ensures { result ≡ row_of_output output.now }
 {
