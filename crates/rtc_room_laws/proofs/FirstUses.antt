@@ -56,6 +56,17 @@ first_blank c (y ∷ uses) x h = by (y.channel == c) h (λ k. first_blank c uses
     by true k rest = ap (λ (z : ChannelUse). Some (blank z)) (use_is y x k)
     by false k rest = rest k
 
+-- which there is only where it is there
+pub first_found : (c : ℕ) (uses : List ChannelUse) (z : ChannelUse) → first_use c (blanks uses) ≡ Some z → (x : ChannelUse) × (first_use c uses ≡ Some x)
+first_found c [] z h = absurd (none_some z h)
+first_found c (y ∷ uses) z h = by (y.channel == c) h (λ k. first_found c uses z k)
+  where
+    by : (b : Bool) → (if b then Some (blank y) else first_use c (blanks uses)) ≡ Some z
+        → (first_use c (blanks uses) ≡ Some z → (x : ChannelUse) × (first_use c uses ≡ Some x))
+        → (x : ChannelUse) × ((if b then Some y else first_use c uses) ≡ Some x)
+    by true k rest = (y, refl)
+    by false k rest = rest k
+
 -- ---- where the first use after a step is from
 
 -- the same stream and generation

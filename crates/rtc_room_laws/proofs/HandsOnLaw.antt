@@ -1,5 +1,5 @@
 -- That the hub hands on what it hears, in each run of a room.
-use Rattle.std.proofs.Common.{◌≡◌, ◌≢◌, ◌∙◌, ◌++◌, ℕ, true, false, List, [], ◌∷◌, Option, Some, refl, sym, ap, subst, append-nil, append_assoc}
+use Rattle.std.proofs.Common.{◌≡◌, ◌≢◌, ◌⊎◌, ◌∙◌, ◌++◌, inl, inr, ℕ, true, false, List, [], ◌∷◌, Option, Some, None, refl, sym, ap, subst, append-nil, append_assoc}
 use Rattle.std.specs.Prelude.{slice_get}
 use Rattle.std.specs.declared.alloc.Global.{Global}
 use Rattle.rtc_parts.specs.Among.{Member}
@@ -10,15 +10,22 @@ use Rattle.rtc_assoc_state.specs.Outbox.{has_unacknowledged}
 use Rattle.rtc_run_history.specs.Native.{are_native}
 use Rattle.rtc_run_history.specs.Past.{Entry, steps_of}
 use Rattle.rtc_run_history.specs.Runs.{Reached}
+use Rattle.rtc_run_history.specs.declared.side.Side.{Side}
 use Rattle.rtc_run_history.specs.declared.side.Side.TheVariants.{Left, Right}
 use Rattle.rtc_run_laws.specs.ChannelUses.{ChannelUse}
-use Rattle.rtc_run_laws.specs.DrainedSides.{IsDrained}
+use Rattle.rtc_run_laws.specs.InBandSteps.{AreInBandSteps}
+use Rattle.rtc_run_laws.specs.NewPairs.{IsNewPair}
 use Rattle.rtc_run_laws.specs.OpenUses.{AreJoinedUses}
 use Rattle.rtc_run_laws.specs.SentMessages.{sent_over}
+use Rattle.rtc_run_laws.specs.SideDrains.{IsSideDrained}
 use Rattle.rtc_run_laws.specs.ToldMessages.{told_over}
+use Rattle.rtc_run_laws.specs.Unannounced.{HaveNumbersLeft, IsAnnouncedOver}
 use Rattle.rtc_run_laws.specs.UsesOfRuns.{reached_by, uses_of}
-use Rattle.rtc_run_laws.proofs.DrainedRuns.{new_unused, pair_drained}
+use Rattle.rtc_run_laws.proofs.BandedUses.{IsInBandUse, run_in_band}
+use Rattle.rtc_run_laws.proofs.GotStretches.{GotStretch, pair_stretch}
+use Rattle.rtc_run_laws.proofs.RestedRuns.{run_drained}
 use Rattle.rtc_run_laws.proofs.RunsTold.{PairTold, new_pair_told, pair_handed_over, pair_whole, reached_told}
+use Rattle.rtc_run_laws.proofs.SilentRuns.{run_got}
 use Rattle.rtc_run_laws.proofs.UseLists.{all_member, prefix_through}
 use Rattle.rtc_run_laws.proofs.UsesTold.{InBandTold, use_opened}
 use Rattle.rtc_run.specs.ProgramPair.{PlainPairState, counting, plain_parts}
@@ -27,10 +34,10 @@ use Rattle.rtc_room_laws.specs.RoomRuns.{MemberRan, RoomRuns, RoomWent, performe
 use Rattle.rtc_room_laws.specs.RoomSteps.{RoomEntry, RoomState}
 use Rattle.rtc_room_laws.specs.declared.room_reply.RoomReply.{RoomReply}
 use Rattle.rtc_room_laws.specs.declared.room_step.RoomStep.{RoomStep}
-use Rattle.rtc_room_laws.specs.RoomHandsOn.{GetsOf, RoomHandsOn, IsHeardOf, AreLineEnds, IsStretch, first_use, heard_for, sent_at, uses_at}
+use Rattle.rtc_room_laws.specs.RoomHandsOn.{AreLineEndsOf, GetsOf, IsHeardOf, IsHubEndOf, IsStretch, RoomHandsOn, first_use, heard_for, sent_at, uses_at}
 use Rattle.rtc_room_laws.specs.ItemMessages.{LineMessage, messages_from}
 use Rattle.rtc_room_laws.proofs.DueItems.{IsDue}
-use Rattle.rtc_room_laws.proofs.FirstUses.{first_blank, first_member}
+use Rattle.rtc_room_laws.proofs.FirstUses.{first_blank, first_found, first_member}
 use Rattle.rtc_room_laws.proofs.HeardStretches.{room_stretch, two_rooms}
 use Rattle.rtc_room_laws.proofs.ItemTexts.{messages_by, messages_from-append}
 use Rattle.rtc_room_laws.proofs.LineMoves.{Stands}
@@ -55,18 +62,33 @@ prefix_none (x ∷ xs) ys h none = absurd (no_cons x (xs ++ h.rest) (h.is ∙ no
     no_cons : {A : Type 0} (y : A) (l : List A) → y ∷ l ≡ [] → ⊥
     no_cons y l e = cc
 
--- a stretch of the end of a list that begins another one
-stretch_through : {A : Type 0} (part all got sent before : List A) → IsStretch part all → got ≡ before ++ all → IsPrefix got sent → IsStretch part sent
+-- a stretch of the end of a list that is a stretch of another one
+stretch_through : (part all got sent before : List LineMessage) → IsStretch part all → got ≡ before ++ all → GotStretch got sent → IsStretch part sent
 stretch_through part all got sent before h is k = record {
-  before = before ++ h.before;
-  behind = h.behind ++ k.rest;
+  before = k.before ++ (before ++ h.before);
+  behind = h.behind ++ k.behind;
   is =
-      sym k.is
-      ∙ ap (λ l. l ++ k.rest) (is ∙ ap (λ l. before ++ l) h.is)
-      ∙ append_assoc before (h.before ++ (part ++ h.behind)) k.rest
-      ∙ ap (λ l. before ++ l) (append_assoc h.before (part ++ h.behind) k.rest ∙ ap (λ l. h.before ++ l) (append_assoc part h.behind k.rest))
-      ∙ sym (append_assoc before h.before (part ++ (h.behind ++ k.rest)));
+      k.is
+      ∙ ap (λ (l : List LineMessage). k.before ++ (l ++ k.behind)) (is ∙ ap (λ (l : List LineMessage). before ++ l) h.is)
+      ∙ ap (λ (l : List LineMessage). k.before ++ l)
+      (append_assoc before (h.before ++ (part ++ h.behind)) k.behind
+      ∙ ap (λ (l : List LineMessage). before ++ l)
+      (append_assoc h.before (part ++ h.behind) k.behind ∙ ap (λ (l : List LineMessage). h.before ++ l) (append_assoc part h.behind k.behind))
+      ∙ sym (append_assoc before h.before (part ++ (h.behind ++ k.behind))))
+      ∙ sym (append_assoc k.before (before ++ h.before) (part ++ (h.behind ++ k.behind)));
 }
+
+first_none : (xs ys : List LineMessage) → xs ++ ys ≡ [] → xs ≡ []
+first_none [] ys h = refl
+first_none (x ∷ xs) ys h = absurd (let e : ◌≡◌ {A = List LineMessage} (x ∷ (xs ++ ys)) [] = h in cc)
+
+last_none : (xs ys : List LineMessage) → xs ++ ys ≡ [] → ys ≡ []
+last_none [] ys h = h
+last_none (x ∷ xs) ys h = absurd (let e : ◌≡◌ {A = List LineMessage} (x ∷ (xs ++ ys)) [] = h in cc)
+
+-- a stretch of nothing
+stretch_none : (part whole : List LineMessage) → IsStretch part whole → whole ≡ [] → part ≡ []
+stretch_none part whole h none = first_none part h.behind (last_none h.before (part ++ h.behind) (sym h.is ∙ none))
 
 some_is : {A : Type 0} (x y : A) → Some x ≡ Some y → x ≡ y
 some_is x y e = cc
@@ -90,26 +112,58 @@ module _ (alloc : Global) (past : List RoomEntry) (room : RoomState) (went : Roo
       reached_told counting is_ice_message ran.start own pair native reached
       (new_pair_told counting ran.start (numbered_is_new alloc k ran.start ran.made.numbered))
 
-  module _ (x y : ChannelUse) (line : AreLineEnds member.line (uses_at alloc k past pair ran Left) (uses_at alloc k past pair ran Right) x y) where
-    stands : Stands (Some line.channel) own (heard_of alloc k past room went)
+  new : IsNewPair counting ran.start
+  new = numbered_is_new alloc k ran.start ran.made.numbered
+
+  -- a channel that was announced was opened in-band, if no step of the pair added another one
+  in_band : (at : Side) (z : ChannelUse) → Member z (uses_at alloc k past pair ran at) → AreInBandSteps (steps_of own) ⊎ (z.in_band ≡ true)
+      → z.in_band ≡ true
+  in_band at z there (inl steps) =
+      all_member IsInBandUse (uses_at alloc k past pair ran at) z
+      (run_in_band counting is_ice_message ran.start new ran.made.numbered.sdps own pair native reached steps at) there
+  in_band at z there (inr band) = band
+
+  -- without a line nothing was heard
+  pub none_heard : member.line ≡ None → heard_of alloc k past room went ≡ []
+  none_heard none =
+      (subst (λ (o : Option ℕ). Stands o own (heard_of alloc k past room went)) none (room_line alloc k past room went member there)).1
+
+  -- the channel of a line was announced
+  pub line_found : (channel : ℕ) → member.line ≡ Some channel
+      → (x : ChannelUse) × (first_use channel (uses_at alloc k past pair ran Left) ≡ Some x)
+  line_found channel is =
+      let stands : Stands (Some channel) own (heard_of alloc k past room went) =
+      subst (λ (o : Option ℕ). Stands o own (heard_of alloc k past room went)) is (room_line alloc k past room went member there) in
+      first_found channel (uses_at alloc k past pair ran Left) stands.first
+      (ap (first_use channel) (blanks_of ran.start own pair reached) ∙ stands.is_first)
+
+  module _ (x : ChannelUse) (hub : IsHubEndOf alloc k past pair ran member.line x) where
+    stands : Stands (Some hub.channel) own (heard_of alloc k past room went)
     stands =
-        subst (λ (o : Option ℕ). Stands o own (heard_of alloc k past room went)) line.line_is (room_line alloc k past room went member there)
+        subst (λ (o : Option ℕ). Stands o own (heard_of alloc k past room went)) hub.line_is (room_line alloc k past room went member there)
 
     x_there : Member x (uses_at alloc k past pair ran Left)
-    x_there = first_member line.channel (uses_at alloc k past pair ran Left) x line.first
+    x_there = first_member hub.channel (uses_at alloc k past pair ran Left) x hub.first
+
+    x_band : x.in_band ≡ true
+    x_band = in_band Left x x_there hub.in_band
 
     -- what was taken is all that was sent over it
     pub sent_taken : x.sent ≡ taken_messages own
-    sent_taken =
-        sent_is ran.start (numbered_is_new alloc k ran.start ran.made.numbered) line.channel own pair reached x stands.writes line.first
+    sent_taken = sent_is ran.start new hub.channel own pair reached x stands.writes hub.first
+
+    -- also by what was sent to its stream
+    pub over_taken : (stream : ℕ) → x.stream ≡ Some stream
+        → sent_over plain_parts is_ice_message ran.start Left own pair reached stream x.generation ≡ taken_messages own
+    over_taken stream of = sent_over_is ran.start new hub.channel own pair native reached x stands.writes hub.first x_band stream of
 
     -- and what was heard is the end of what it got
     pub got_heard : (before : List LineMessage) × (x.got ≡ before ++ heard_of alloc k past room went)
     got_heard =
         let same : Some stands.first ≡ Some (blank x) =
         sym stands.is_first
-        ∙ ap (first_use line.channel) (sym (blanks_of ran.start own pair reached))
-        ∙ first_blank line.channel (uses_at alloc k past pair ran Left) x line.first in
+        ∙ ap (first_use hub.channel) (sym (blanks_of ran.start own pair reached))
+        ∙ first_blank hub.channel (uses_at alloc k past pair ran Left) x hub.first in
         (stands.before, ap (λ (z : ChannelUse). z.got) (sym (some_is stands.first (blank x) same)) ∙ stands.got_is)
 
     -- its stream
@@ -118,46 +172,53 @@ module _ (alloc : Global) (past : List RoomEntry) (room : RoomState) (went : Roo
         let side = told.left.side in
         let opened =
         use_opened plain_parts side.written side.read pair.left x
-        (all_member (InBandTold plain_parts side.written side.read pair.left) (uses_at alloc k past pair ran Left) x side.told.each x_there line.in_band) in
+        (all_member (InBandTold plain_parts side.written side.read pair.left) (uses_at alloc k past pair ran Left) x side.told.each x_there x_band) in
         (opened.stream, opened.stream_is)
+
+    -- what the hub got over it is a stretch of what the member wrote
+    pub got_stretch : (stream : ℕ) → x.stream ≡ Some stream → GotStretch x.got (sent_at alloc k past pair ran Right stream x.generation)
+    got_stretch stream of =
+        pair_stretch counting pair (λ at. uses_of plain_parts is_ice_message ran.start at own pair reached)
+        (λ at. sent_over plain_parts is_ice_message ran.start at own pair reached) (λ at. told_over plain_parts is_ice_message ran.start at own pair reached)
+        told Left x x_there x_band stream of
+
+    -- it got nothing, or the member announced a channel
+    pub got_announced : HaveNumbersLeft pair → (stream : ℕ) → x.stream ≡ Some stream
+        → (x.got ≡ []) ⊎ IsAnnouncedOver stream x.generation (uses_at alloc k past pair ran Right)
+    got_announced numbers stream of =
+        run_got counting is_ice_message ran.start new own pair native reached numbers Left x x_there x_band stream of
+
+  module _ (x y : ChannelUse) (line : AreLineEndsOf alloc k past pair ran member.line x y) where
+    y_band : y.in_band ≡ true
+    y_band = in_band Right y line.other line.other_in_band
 
     -- what the member got is a prefix of what was taken
     pub got_prefix : IsPrefix y.got (taken_messages own)
     got_prefix =
-        let stream = has_stream in
+        let stream = has_stream x line.hub_end in
         let over : IsPrefix y.got (sent_over plain_parts is_ice_message ran.start Left own pair reached stream.0 y.generation) =
         pair_handed_over counting pair (λ at. uses_of plain_parts is_ice_message ran.start at own pair reached)
         (λ at. sent_over plain_parts is_ice_message ran.start at own pair reached) (λ at. told_over plain_parts is_ice_message ran.start at own pair reached)
-        Right told y x line.other x_there line.other_in_band line.in_band stream.0 (line.stream_is ∙ stream.1) stream.1 line.generation_is in
+        Right told y x line.other (x_there x line.hub_end) y_band (x_band x line.hub_end) stream.0 (line.stream_is ∙ stream.1) stream.1 line.generation_is in
         subst (λ (l : List LineMessage). IsPrefix y.got l)
         (ap (sent_over plain_parts is_ice_message ran.start Left own pair reached stream.0) line.generation_is
-        ∙ sent_over_is ran.start (numbered_is_new alloc k ran.start ran.made.numbered) line.channel own pair native reached x stands.writes line.first line.in_band
-        stream.0 stream.1)
+        ∙ over_taken x line.hub_end stream.0 stream.1)
         over
 
     -- and all of it once all was delivered
-    pub got_all : IsDrained Right y.channel own → (h : AreJoinedUses plain_parts y pair.right x pair.left)
+    pub got_all : IsSideDrained Right own → (h : AreJoinedUses plain_parts y pair.right x pair.left)
         → has_unacknowledged h.writer.stream pair.left.core.sctp.association.outbox.items ≡ false → y.got ≡ taken_messages own
     got_all drained joined acknowledged =
-        pair_drained counting is_ice_message ran.start own pair native reached
-        (new_pair_told counting ran.start (numbered_is_new alloc k ran.start ran.made.numbered))
-        (new_unused counting ran.start (numbered_is_new alloc k ran.start ran.made.numbered)) Right y x line.other x_there drained joined acknowledged
-        ∙ sent_taken
+        run_drained counting is_ice_message ran.start new own pair native reached Right y x line.other (x_there x line.hub_end) drained joined acknowledged
+        ∙ sent_taken x line.hub_end
 
-    -- what the hub got over it is a prefix of what the member wrote
-    pub wrote_prefix : (stream : ℕ) → x.stream ≡ Some stream → IsPrefix x.got (sent_at alloc k past pair ran Right stream x.generation)
-    wrote_prefix stream of =
-        pair_handed_over counting pair (λ at. uses_of plain_parts is_ice_message ran.start at own pair reached)
-        (λ at. sent_over plain_parts is_ice_message ran.start at own pair reached) (λ at. told_over plain_parts is_ice_message ran.start at own pair reached)
-        Left told x y x_there line.other line.in_band line.other_in_band stream of (line.stream_is ∙ of) (sym line.generation_is)
-
-    -- which is what was sent over the member's end, unless that was rolled back
+    -- what the member wrote is what was sent over its end, unless that was rolled back
     pub wrote_over : y.rolled_back ≡ false → (stream : ℕ) → x.stream ≡ Some stream → sent_at alloc k past pair ran Right stream x.generation ≡ y.sent
     wrote_over left stream of =
         ap (sent_over plain_parts is_ice_message ran.start Right own pair reached stream) (sym line.generation_is)
         ∙ pair_whole counting pair (λ at. uses_of plain_parts is_ice_message ran.start at own pair reached)
         (λ at. sent_over plain_parts is_ice_message ran.start at own pair reached) (λ at. told_over plain_parts is_ice_message ran.start at own pair reached)
-        Right told y line.other line.other_in_band left stream (line.stream_is ∙ of)
+        Right told y line.other y_band left stream (line.stream_is ∙ of)
 
 -- ---- the theorem
 
@@ -180,7 +241,7 @@ module _ (alloc : Global) (past : List RoomEntry) (room : RoomState) (went : Roo
       due : IsDue s listener (taken_messages (performed_of m past)) (heard_for alloc s m past room went)
       due = room_due alloc s m apart past room went listener there
 
-      prefix : (x y : ChannelUse) → AreLineEnds listener.line (uses_at alloc m past pair ran Left) (uses_at alloc m past pair ran Right) x y
+      prefix : (x y : ChannelUse) → AreLineEndsOf alloc m past pair ran listener.line x y
           → IsPrefix (messages_from s y.got) (heard_for alloc s m past room went)
       prefix x y line =
           prefix_through (messages_from s y.got) (messages_from s (taken_messages (performed_of m past))) (heard_for alloc s m past room went)
@@ -189,20 +250,36 @@ module _ (alloc : Global) (past : List RoomEntry) (room : RoomState) (went : Roo
   heard_of_is : (s m : ℕ) (speaker : MemberState) → slice_get room.members s ≡ Some speaker → (pair : PlainPairState) (ran : MemberRan alloc s past pair)
       → IsHeardOf alloc past room went s m speaker pair ran
   heard_of_is s m speaker there pair ran = record {
-    stretch = λ x y line stream of. stretch x y line stream of;
+    none = λ line. unheard (none_heard alloc past room went s speaker there pair ran line);
+    found = λ channel line. line_found alloc past room went s speaker there pair ran channel line;
+    stretch = λ x hub.
+        let stream = has_stream alloc past room went s speaker there pair ran x hub in
+        record { stream = stream.0; stream_is = stream.1; stretch = stretch x hub stream.0 stream.1 };
+    silent = λ numbers x hub stream of. silent x hub (got_announced alloc past room went s speaker there pair ran x hub numbers stream of);
     over = λ x y line left.
-        let stream = has_stream alloc past room went s speaker there pair ran x y line in
+        let stream = has_stream alloc past room went s speaker there pair ran x line.hub_end in
         subst (λ (l : List LineMessage). IsStretch (heard_for alloc s m past room went) l)
-        (wrote_over alloc past room went s speaker there pair ran x y line left stream.0 stream.1) (stretch x y line stream.0 stream.1);
+        (wrote_over alloc past room went s speaker there pair ran x y line left stream.0 stream.1) (stretch x line.hub_end stream.0 stream.1);
   }
     where
-      stretch : (x y : ChannelUse) → AreLineEnds speaker.line (uses_at alloc s past pair ran Left) (uses_at alloc s past pair ran Right) x y
-          → (stream : ℕ) → x.stream ≡ Some stream
+      heard : IsStretch (heard_for alloc s m past room went) (heard_of alloc s past room went)
+      heard = (room_stretch alloc s m past room went).stretch
+
+      unheard : heard_of alloc s past room went ≡ [] → heard_for alloc s m past room went ≡ []
+      unheard none = stretch_none (heard_for alloc s m past room went) (heard_of alloc s past room went) heard none
+
+      stretch : (x : ChannelUse) → IsHubEndOf alloc s past pair ran speaker.line x → (stream : ℕ) → x.stream ≡ Some stream
           → IsStretch (heard_for alloc s m past room went) (sent_at alloc s past pair ran Right stream x.generation)
-      stretch x y line stream of =
-          let got = got_heard alloc past room went s speaker there pair ran x y line in
+      stretch x hub stream of =
+          let got = got_heard alloc past room went s speaker there pair ran x hub in
           stretch_through (heard_for alloc s m past room went) (heard_of alloc s past room went) x.got (sent_at alloc s past pair ran Right stream x.generation) got.0
-          (room_stretch alloc s m past room went).stretch got.1 (wrote_prefix alloc past room went s speaker there pair ran x y line stream of)
+          heard got.1 (got_stretch alloc past room went s speaker there pair ran x hub stream of)
+
+      silent : {A : Type 0} (x : ChannelUse) → IsHubEndOf alloc s past pair ran speaker.line x → (x.got ≡ []) ⊎ A → (heard_for alloc s m past room went ≡ []) ⊎ A
+      silent x hub (inl none) =
+          let got = got_heard alloc past room went s speaker there pair ran x hub in
+          inl (unheard (last_none got.0 (heard_of alloc s past room went) (sym got.1 ∙ none)))
+      silent x hub (inr announced) = inr announced
 
 pub hands_on : (alloc : Global) (steps : List RoomStep) (replies : List RoomReply) (pairs : List PlainPairState) (run : RoomRuns alloc steps replies pairs)
     → RoomHandsOn alloc steps replies pairs run

@@ -1,6 +1,6 @@
 -- That the hub hands on what it hears: what a member got of another one is a prefix of what the hub heard of that one while both were in
 -- one room, which is a contiguous stretch of what that one wrote.
-use Rattle.std.specs.Prelude.{◌≡◌, ◌≢◌, ◌==◌, ◌&&◌, ◌++◌, not, if◌then◌else◌, ℕ, Bool, true, false, List, [], ◌∷◌, map, Option, Some}
+use Rattle.std.specs.Prelude.{◌≡◌, ◌≢◌, ◌⊎◌, ◌==◌, ◌&&◌, ◌++◌, not, if◌then◌else◌, ℕ, Bool, true, false, List, [], ◌∷◌, map, Option, Some}
 use Rattle.std.specs.Prelude.{None, slice_get}
 use Rattle.std.specs.declared.alloc.Global.{Global}
 use Rattle.rtc_parts.specs.Among.{Member}
@@ -8,14 +8,18 @@ use Rattle.rtc_plain_ice.specs.Messages.{is_ice_message}
 use Rattle.rtc_plain_media.specs.declared.plain_media_event.PlainMediaEvent.{PlainMediaEvent}
 use Rattle.rtc_assoc.specs.Unread.{IsPrefix}
 use Rattle.rtc_assoc_state.specs.Outbox.{has_unacknowledged}
+use Rattle.rtc_run_history.specs.Past.{steps_of}
 use Rattle.rtc_run_history.specs.Sides.{same_side, side_of}
 use Rattle.rtc_run_history.specs.declared.reply.Reply.{Reply}
 use Rattle.rtc_run_history.specs.declared.side.Side.{Side}
 use Rattle.rtc_run_history.specs.declared.side.Side.TheVariants.{Left, Right}
+use Rattle.rtc_run_history.specs.declared.step.Step.{Step}
 use Rattle.rtc_run_laws.specs.ChannelUses.{ChannelUse}
-use Rattle.rtc_run_laws.specs.DrainedSides.{IsDrained}
+use Rattle.rtc_run_laws.specs.InBandSteps.{AreInBandSteps}
 use Rattle.rtc_run_laws.specs.OpenUses.{AreJoinedUses}
 use Rattle.rtc_run_laws.specs.SentMessages.{sent_over}
+use Rattle.rtc_run_laws.specs.SideDrains.{IsSideDrained}
+use Rattle.rtc_run_laws.specs.Unannounced.{HaveNumbersLeft, IsAnnouncedOver}
 use Rattle.rtc_run_laws.specs.UsesOfRuns.{reached_by, uses_of}
 use Rattle.rtc_run.specs.ProgramPair.{PlainPairState, plain_parts}
 use Rattle.rtc_room_laws.specs.Hearing.{heard_in, outcome_outputs}
@@ -69,15 +73,19 @@ abbrev pub first_use : (channel : ℕ) → List ChannelUse → Option ChannelUse
 first_use channel [] = None
 first_use channel (x ∷ uses) = if x.channel == channel then Some x else first_use channel uses
 
--- The two ends of a member's line: the channel that the hub found, as its peer announced it, and the one of the same stream and generation
--- that the member's own peer announced. Both were opened in-band.
-pub record AreLineEnds (line : Option ℕ) (hub member : List ChannelUse) (x y : ChannelUse) : Type 0 where
+-- The hub's end of a member's line: the channel that the hub found, as its peer announced it. It was opened in-band, as is each channel if
+-- no step of the pair added one that is negotiated out-of-band.
+pub record IsHubEnd (line : Option ℕ) (steps : List Step) (hub : List ChannelUse) (x : ChannelUse) : Type 0 where
   pub channel : ℕ
   pub line_is : line ≡ Some channel
   pub first : first_use channel hub ≡ Some x
-  pub in_band : x.in_band ≡ true
+  pub in_band : AreInBandSteps steps ⊎ (x.in_band ≡ true)
+
+-- Its two ends: the hub's, and the channel of the same stream and generation that the member's own peer announced, opened in-band too.
+pub record AreLineEnds (line : Option ℕ) (steps : List Step) (hub member : List ChannelUse) (x y : ChannelUse) : Type 0 where
+  pub hub_end : IsHubEnd line steps hub x
   pub other : Member y member
-  pub other_in_band : y.in_band ≡ true
+  pub other_in_band : AreInBandSteps steps ⊎ (y.in_band ≡ true)
   pub stream_is : y.stream ≡ x.stream
   pub generation_is : y.generation ≡ x.generation
 
@@ -95,42 +103,59 @@ sent_at alloc k past pair ran at =
     sent_over plain_parts is_ice_message ran.start at (performed_of k past) pair
     (reached_by plain_parts is_ice_message ran.start (performed_of k past) pair ran.went)
 
+-- the hub's end of a member's line, and both ends, in the run of its pair
+abbrev pub IsHubEndOf : (alloc : Global) (k : ℕ) (past : List RoomEntry) (pair : PlainPairState) → MemberRan alloc k past pair
+    → Option ℕ → (x : ChannelUse) → Type 0
+IsHubEndOf alloc k past pair ran line x = IsHubEnd line (steps_of (performed_of k past)) (uses_at alloc k past pair ran Left) x
+
+abbrev pub AreLineEndsOf : (alloc : Global) (k : ℕ) (past : List RoomEntry) (pair : PlainPairState) → MemberRan alloc k past pair
+    → Option ℕ → (x y : ChannelUse) → Type 0
+AreLineEndsOf alloc k past pair ran line x y =
+    AreLineEnds line (steps_of (performed_of k past)) (uses_at alloc k past pair ran Left) (uses_at alloc k past pair ran Right) x y
+
 -- a contiguous stretch of a list
 pub record IsStretch {A : Type 0} (part whole : List A) : Type 0 where
   pub before : List A
   pub behind : List A
   pub is : whole ≡ before ++ (part ++ behind)
 
+-- what was heard is a contiguous stretch of what was written to the stream of a channel, in its generation
+pub record IsHeardOver (heard : List LineMessage) (x : ChannelUse) (written : (stream generation : ℕ) → List LineMessage) : Type 0 where
+  pub stream : ℕ
+  pub stream_is : x.stream ≡ Some stream
+  pub stretch : IsStretch heard (written stream x.generation)
+
 -- ---- the theorem
 
 module _ (alloc : Global) (past : List RoomEntry) (room : RoomState) (went : RoomWent alloc past room) where
   -- What a member got of another one over its line is a prefix of what the hub heard of that one for it, and nothing if their rooms differ.
   -- If it has not left and was not put out, nothing waits for it, its line stays open at both ends, the hub's end has no unacknowledged
-  -- item of it, and the member's end was drained, it got all of that.
+  -- item of it, and the member's peer was drained, it got all of that.
   pub record GetsOf (s m : ℕ) (listener : MemberState) (pair : PlainPairState) (ran : MemberRan alloc m past pair) : Type 0 where
-    pub prefix : (x y : ChannelUse)
-        → AreLineEnds listener.line (uses_at alloc m past pair ran Left) (uses_at alloc m past pair ran Right) x y
+    pub prefix : (x y : ChannelUse) → AreLineEndsOf alloc m past pair ran listener.line x y
         → IsPrefix (messages_from s y.got) (heard_for alloc s m past room went)
     pub apart : (sender : MemberState) → slice_get room.members s ≡ Some sender → sender.room ≢ listener.room → (x y : ChannelUse)
-        → AreLineEnds listener.line (uses_at alloc m past pair ran Left) (uses_at alloc m past pair ran Right) x y
-        → messages_from s y.got ≡ []
+        → AreLineEndsOf alloc m past pair ran listener.line x y → messages_from s y.got ≡ []
     pub all : listener.has_left ≡ false → listener.is_put_out ≡ false → listener.queue ≡ [] → (x y : ChannelUse)
-        → AreLineEnds listener.line (uses_at alloc m past pair ran Left) (uses_at alloc m past pair ran Right) x y
-        → IsDrained Right y.channel (performed_of m past)
+        → AreLineEndsOf alloc m past pair ran listener.line x y → IsSideDrained Right (performed_of m past)
         → (h : AreJoinedUses plain_parts y pair.right x pair.left)
         → has_unacknowledged h.writer.stream pair.left.core.sctp.association.outbox.items ≡ false
         → messages_from s y.got ≡ heard_for alloc s m past room went
 
-  -- What the hub heard of a member is a contiguous stretch of what the member's own peer wrote to the stream of its line in the generation
-  -- of this. Unless a rollback removed the member's end of the line, that is what was sent over it.
+  -- Nothing is heard of a member without a line, and the line of a member was announced at the hub. What the hub heard of the member is a
+  -- contiguous stretch of what its own peer wrote to the stream of the line in the generation of this, whatever channels that peer
+  -- announced. If it announced none over that generation, nothing was heard, unless no number was left for a channel. If it did, and no
+  -- rollback removed its channel, what was heard is a stretch of what was sent over this.
   pub record IsHeardOf (s m : ℕ) (speaker : MemberState) (pair : PlainPairState) (ran : MemberRan alloc s past pair) : Type 0 where
-    pub stretch : (x y : ChannelUse)
-        → AreLineEnds speaker.line (uses_at alloc s past pair ran Left) (uses_at alloc s past pair ran Right) x y
-        → (stream : ℕ) → x.stream ≡ Some stream
-        → IsStretch (heard_for alloc s m past room went) (sent_at alloc s past pair ran Right stream x.generation)
-    pub over : (x y : ChannelUse)
-        → AreLineEnds speaker.line (uses_at alloc s past pair ran Left) (uses_at alloc s past pair ran Right) x y
-        → y.rolled_back ≡ false
+    pub none : speaker.line ≡ None → heard_for alloc s m past room went ≡ []
+    pub found : (channel : ℕ) → speaker.line ≡ Some channel
+        → (x : ChannelUse) × (first_use channel (uses_at alloc s past pair ran Left) ≡ Some x)
+    pub stretch : (x : ChannelUse) → IsHubEndOf alloc s past pair ran speaker.line x
+        → IsHeardOver (heard_for alloc s m past room went) x (sent_at alloc s past pair ran Right)
+    pub silent : HaveNumbersLeft pair → (x : ChannelUse) → IsHubEndOf alloc s past pair ran speaker.line x → (stream : ℕ)
+        → x.stream ≡ Some stream
+        → (heard_for alloc s m past room went ≡ []) ⊎ IsAnnouncedOver stream x.generation (uses_at alloc s past pair ran Right)
+    pub over : (x y : ChannelUse) → AreLineEndsOf alloc s past pair ran speaker.line x y → y.rolled_back ≡ false
         → IsStretch (heard_for alloc s m past room went) y.sent
 
 -- For each two members of a run: what the one got of the other, and what the hub heard of it.

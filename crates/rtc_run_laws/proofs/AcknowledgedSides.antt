@@ -1,6 +1,6 @@
 -- Behind runs, a buffered amount of 0 says that nothing that a side sent over a channel is unacknowledged, if its last message is not empty:
 -- so a reader that was drained has all of it.
-use Rattle.std.proofs.Common.{◌≡◌, ◌∙◌, ◌++◌, ℕ, cond, Bool, true, false, List, Some, sym, ap}
+use Rattle.std.proofs.Common.{◌≡◌, ◌∙◌, ◌++◌, ℕ, cond, Bool, true, false, List, sym, ap}
 use Rattle.rtc_parts.specs.AssociationWords.{ended, read, written}
 use Rattle.rtc_assoc.specs.Unread.{IsPrefix, unread}
 use Rattle.rtc_assoc_state.specs.Contents.{buffered_of, fresh_contents, generation_of, has_unread}
@@ -11,7 +11,7 @@ use Rattle.rtc_plain_media.specs.declared.plain_media_event.PlainMediaEvent.{Pla
 use Rattle.rtc_sctp_laws.specs.Contents.{contents_by}
 use Rattle.rtc_sctp_laws.specs.RunningStreams.{AreRunning}
 use Rattle.rtc_sctp_laws.proofs.ContentLemmas.{written_contents}
-use Rattle.rtc_peer_transport.specs.ChannelCalls.{bytes_buffered, open_stream_under}
+use Rattle.rtc_peer_transport.specs.ChannelCalls.{bytes_buffered}
 use Rattle.rtc_peer_laws.specs.PeerActs.{PeerActs}
 use Rattle.rtc_run_history.specs.declared.reply.Reply.{Reply}
 use Rattle.rtc_run_history.specs.declared.side.Side.{Side}
@@ -22,7 +22,7 @@ use Rattle.rtc_run_history.specs.PairState.{rtc_at}
 use Rattle.rtc_run_history.specs.Past.{Entry, steps_of}
 use Rattle.rtc_run_history.specs.Runs.{Reached, Runs}
 use Rattle.rtc_run_history.specs.Sides.{other_side}
-use Rattle.rtc_run_laws.specs.AcknowledgedData.{AcknowledgesData, AreAcknowledged, AreDeliveredByAmount, ends_with_bytes, has_unacknowledged_data}
+use Rattle.rtc_run_laws.specs.AcknowledgedData.{AcknowledgesData, AreAcknowledged, AreDeliveredByAmount, AreDeliveredOverByAmount, ends_with_bytes, has_unacknowledged_data}
 use Rattle.rtc_run_laws.specs.ChannelUses.{ChannelUse}
 use Rattle.rtc_run_laws.specs.Delivered.{AreDelivering}
 use Rattle.rtc_run_laws.specs.SideDrains.{IsSideDrained}
@@ -32,7 +32,8 @@ use Rattle.rtc_run_laws.specs.SentMessages.{sent_over}
 use Rattle.rtc_run_laws.specs.ToldMessages.{MessagesTold, told_over}
 use Rattle.rtc_run_laws.specs.UsesOfRuns.{reached_by, uses_of}
 use Rattle.rtc_run_laws.proofs.AcknowledgedPairs.{side_data}
-use Rattle.rtc_run_laws.proofs.Delivered.{delivered, stream_same, wrote_sent}
+use Rattle.rtc_run_laws.proofs.Delivered.{TellsHeard, delivered, stream_same, wrote_sent}
+use Rattle.rtc_run_laws.proofs.GotAndSent.{writes_carry}
 use Rattle.rtc_run_laws.proofs.LastMessagesHeld.{amount_zero}
 use Rattle.rtc_run_laws.proofs.RestedRuns.{run_heard}
 use Rattle.rtc_run_laws.proofs.RunsExchange.{side_reads}
@@ -70,7 +71,7 @@ module _ {N : Type 0} (draws : Draws N) where
       pair_acknowledged pair (λ z. uses_of (plain_over draws) stun start z past pair ran) (λ z. sent_over (plain_over draws) stun start z past pair ran)
       (λ z. told_over (plain_over draws) stun start z past pair ran) at (reached_told draws stun start past pair go ran (new_pair_told draws start new))
 
-  -- what a reader has of it is all that was sent
+  -- what a reader has of it is all that was written
   amount_delivered : (a b : PeerActs) (us vs : List ChannelUse) (p q : PlainPolled N) (sent : Sent) (told : MessagesTold) (x : SideStood draws a us p)
       (y : SideSent draws b vs sent told q) (k l : ChannelUse) (h : AreDelivering k p l q) → Member k us → Member l vs
       → IsPrefix (read h.reader.stream k.generation a.association) (written h.reader.stream k.generation b.association)
@@ -78,35 +79,66 @@ module _ {N : Type 0} (draws : Draws N) where
       → ended h.reader.stream k.generation b.association ≡ false → ended h.reader.stream k.generation a.association ≡ false
       → contents_by (read h.reader.stream k.generation a.association ++ unread h.reader.stream k.generation p.core.sctp.association.inbox.unread)
       ≡ contents_by (written h.reader.stream k.generation b.association))
-      → has_unread p.core.sctp.association h.reader.stream k.generation ≡ false → ends_with_bytes l.sent ≡ true
-      → bytes_buffered (plain_over draws) h.writer.stream q ≡ 0 → k.got ≡ l.sent
+      → has_unread p.core.sctp.association h.reader.stream k.generation ≡ false
+      → ends_with_bytes (contents_by (written h.reader.stream k.generation b.association)) ≡ true
+      → bytes_buffered (plain_over draws) h.writer.stream q ≡ 0 → k.got ≡ contents_by (written h.reader.stream k.generation b.association)
   amount_delivered a b us vs p q sent told x y k l h mine theirs reads all heard ends amount =
       let same : h.writer.stream ≡ h.reader.stream = stream_same draws k l p q h in
-      let carries : contents_by (written h.reader.stream k.generation b.association) ≡ l.sent =
-      wrote_sent draws a b us vs p q x y.side k l h mine theirs reads in
       let none : has_unacknowledged_data h.reader.stream k.generation q.core.sctp.association.outbox.items ≡ false =
       written_acknowledged b vs sent told q l h.reader.stream k.generation y theirs
       (ap (λ (n : ℕ). generation_of q.core.sctp.association n) (sym same) ∙ h.writer.generation ∙ sym h.generation_is)
-      (ap ends_with_bytes carries ∙ ends)
+      ends
       (ap (λ (n : ℕ). bytes_buffered (plain_over draws) n q) (sym same) ∙ amount) in
       delivered draws a b us vs p q x y.side k l h mine theirs reads (all none) heard
 
-  pair_delivered : (pair : PlainPair N) (uses : Side → List ChannelUse) (sent : Side → Sent) (told : Side → MessagesTold) (at : Side) (drained : Type 0)
-      → PairTold draws pair uses sent told
-      → ((x : ChannelUse) → Member x (uses at) → drained → x.in_band ≡ true → (stream : ℕ) → x.stream ≡ Some stream
-      → open_stream_under x.channel (rtc_at at pair) ≡ Some stream → generation_of (rtc_at at pair).core.sctp.association stream ≡ x.generation
-      → has_unread (rtc_at at pair).core.sctp.association stream x.generation ≡ false)
-      → AreDeliveredByAmount draws drained (uses at) (rtc_at at pair) (uses (other_side at)) (rtc_at (other_side at) pair)
-  pair_delivered pair uses sent told Left drained h heard = λ x y mine theirs rested d.
-      amount_delivered h.acts.left h.acts.right (uses Left) (uses Right) pair.left pair.right (sent Right) (told Right) h.left.side h.right x y d mine theirs
-      (side_reads h.acts pair Right d.reader.stream x.generation h.exchange)
-      (side_data h.acts pair Right d.reader.stream x.generation h.exchange)
-      (heard x mine rested d.reader_in_band d.reader.stream d.reader.of d.there d.reader.generation)
-  pair_delivered pair uses sent told Right drained h heard = λ x y mine theirs rested d.
-      amount_delivered h.acts.right h.acts.left (uses Right) (uses Left) pair.right pair.left (sent Left) (told Left) h.right.side h.left x y d mine theirs
-      (side_reads h.acts pair Left d.reader.stream x.generation h.exchange)
-      (side_data h.acts pair Left d.reader.stream x.generation h.exchange)
-      (heard x mine rested d.reader_in_band d.reader.stream d.reader.of d.there d.reader.generation)
+  -- of both sides, by what tells of an open channel that nothing of its generation stands unread
+  module _ (pair : PlainPair N) (uses : Side → List ChannelUse) (sent : Side → Sent) (told : Side → MessagesTold) (h : PairTold draws pair uses sent told)
+      (drained : Type 0) where
+    left_amount : TellsHeard draws pair uses sent told h Left drained → (x y : ChannelUse) → Member x (uses Left) → Member y (uses Right) → drained
+        → (d : AreDelivering x pair.left y pair.right)
+        → ends_with_bytes (contents_by (written d.reader.stream x.generation h.acts.right.association)) ≡ true
+        → bytes_buffered (plain_over draws) d.writer.stream pair.right ≡ 0
+        → x.got ≡ contents_by (written d.reader.stream x.generation h.acts.right.association)
+    left_amount heard x y mine theirs rested d =
+        amount_delivered h.acts.left h.acts.right (uses Left) (uses Right) pair.left pair.right (sent Right) (told Right) h.left.side h.right x y d mine theirs
+        (side_reads h.acts pair Right d.reader.stream x.generation h.exchange)
+        (side_data h.acts pair Right d.reader.stream x.generation h.exchange)
+        (heard x mine rested d.reader_in_band d.reader.stream d.reader.of d.there d.reader.generation)
+
+    right_amount : TellsHeard draws pair uses sent told h Right drained → (x y : ChannelUse) → Member x (uses Right) → Member y (uses Left) → drained
+        → (d : AreDelivering x pair.right y pair.left)
+        → ends_with_bytes (contents_by (written d.reader.stream x.generation h.acts.left.association)) ≡ true
+        → bytes_buffered (plain_over draws) d.writer.stream pair.left ≡ 0
+        → x.got ≡ contents_by (written d.reader.stream x.generation h.acts.left.association)
+    right_amount heard x y mine theirs rested d =
+        amount_delivered h.acts.right h.acts.left (uses Right) (uses Left) pair.right pair.left (sent Left) (told Left) h.right.side h.left x y d mine theirs
+        (side_reads h.acts pair Left d.reader.stream x.generation h.exchange)
+        (side_data h.acts pair Left d.reader.stream x.generation h.exchange)
+        (heard x mine rested d.reader_in_band d.reader.stream d.reader.of d.there d.reader.generation)
+
+    pair_delivered : (at : Side) → TellsHeard draws pair uses sent told h at drained
+        → AreDeliveredByAmount draws drained (uses at) (rtc_at at pair) (uses (other_side at)) (rtc_at (other_side at) pair)
+    pair_delivered Left heard = λ x y mine theirs rested d ends amount.
+        let carries : contents_by (written d.over.reader.stream x.generation h.acts.right.association) ≡ y.sent =
+        wrote_sent draws h.acts.left h.acts.right (uses Left) (uses Right) pair.left pair.right h.left.side h.right.side x y d.over mine theirs
+        (side_reads h.acts pair Right d.over.reader.stream x.generation h.exchange) d.kept in
+        left_amount heard x y mine theirs rested d.over (ap ends_with_bytes carries ∙ ends) amount ∙ carries
+    pair_delivered Right heard = λ x y mine theirs rested d ends amount.
+        let carries : contents_by (written d.over.reader.stream x.generation h.acts.left.association) ≡ y.sent =
+        wrote_sent draws h.acts.right h.acts.left (uses Right) (uses Left) pair.right pair.left h.right.side h.left.side x y d.over mine theirs
+        (side_reads h.acts pair Left d.over.reader.stream x.generation h.exchange) d.kept in
+        right_amount heard x y mine theirs rested d.over (ap ends_with_bytes carries ∙ ends) amount ∙ carries
+
+    pair_delivered_over : (at : Side) → TellsHeard draws pair uses sent told h at drained
+        → AreDeliveredOverByAmount draws drained (uses at) (rtc_at at pair) (uses (other_side at)) (rtc_at (other_side at) pair) (sent (other_side at))
+    pair_delivered_over Left heard = λ x y mine theirs rested d ends amount.
+        let carries : contents_by (written d.reader.stream x.generation h.acts.right.association) ≡ sent Right d.reader.stream x.generation =
+        writes_carry draws d.reader.stream x.generation h.acts.right (uses Right) pair.right h.right.side ∙ h.right.sent_is d.reader.stream x.generation in
+        left_amount heard x y mine theirs rested d (ap ends_with_bytes carries ∙ ends) amount ∙ carries
+    pair_delivered_over Right heard = λ x y mine theirs rested d ends amount.
+        let carries : contents_by (written d.reader.stream x.generation h.acts.left.association) ≡ sent Left d.reader.stream x.generation =
+        writes_carry draws d.reader.stream x.generation h.acts.left (uses Left) pair.left h.left.side ∙ h.left.sent_is d.reader.stream x.generation in
+        right_amount heard x y mine theirs rested d (ap ends_with_bytes carries ∙ ends) amount ∙ carries
 
   pub run_amounts : (stun : List ℕ → Bool) (start : PlainPair N) → IsNewPair draws start → (past : List (Entry PlainMediaEvent)) (pair : PlainPair N)
       → are_native (steps_of past) ≡ true → (ran : Reached (plain_over draws) stun start past pair) → (at : Side)
@@ -114,8 +146,19 @@ module _ {N : Type 0} (draws : Draws N) where
       (uses_of (plain_over draws) stun start (other_side at) past pair ran) (rtc_at (other_side at) pair)
   run_amounts stun start new past pair go ran at =
       pair_delivered pair (λ z. uses_of (plain_over draws) stun start z past pair ran) (λ z. sent_over (plain_over draws) stun start z past pair ran)
-      (λ z. told_over (plain_over draws) stun start z past pair ran) at (IsSideDrained at past)
-      (reached_told draws stun start past pair go ran (new_pair_told draws start new))
+      (λ z. told_over (plain_over draws) stun start z past pair ran) (reached_told draws stun start past pair go ran (new_pair_told draws start new))
+      (IsSideDrained at past) at
+      (λ x mine drained band stream of there own. run_heard draws stun start new past pair go ran at x mine drained band stream of there own)
+
+  pub run_amounts_over : (stun : List ℕ → Bool) (start : PlainPair N) → IsNewPair draws start → (past : List (Entry PlainMediaEvent)) (pair : PlainPair N)
+      → are_native (steps_of past) ≡ true → (ran : Reached (plain_over draws) stun start past pair) → (at : Side)
+      → AreDeliveredOverByAmount draws (IsSideDrained at past) (uses_of (plain_over draws) stun start at past pair ran) (rtc_at at pair)
+      (uses_of (plain_over draws) stun start (other_side at) past pair ran) (rtc_at (other_side at) pair)
+      (sent_over (plain_over draws) stun start (other_side at) past pair ran)
+  run_amounts_over stun start new past pair go ran at =
+      pair_delivered_over pair (λ z. uses_of (plain_over draws) stun start z past pair ran) (λ z. sent_over (plain_over draws) stun start z past pair ran)
+      (λ z. told_over (plain_over draws) stun start z past pair ran) (reached_told draws stun start past pair go ran (new_pair_told draws start new))
+      (IsSideDrained at past) at
       (λ x mine drained band stream of there own. run_heard draws stun start new past pair go ran at x mine drained band stream of there own)
 
   pub run_acknowledges : (stun : List ℕ → Bool) (start pair : PlainPair N) (steps : List Step) (replies : List (Reply PlainMediaEvent)) → IsNewPair draws start

@@ -22,7 +22,6 @@ use Rattle.rtc_run_history.specs.PairState.{addr_at, PairState, rtc_at}
 use Rattle.rtc_run_history.specs.Past.{Entry, steps_of}
 use Rattle.rtc_run_history.specs.Runs.{Reached}
 use Rattle.rtc_run_history.specs.Sides.{other_side, side_of}
-use Rattle.rtc_run_laws.proofs.EmptyStreams.{AreUnused}
 use Rattle.rtc_run_laws.specs.NewPairs.{IsNewPair, IsNewPeer}
 use Rattle.rtc_run_laws.specs.PlainPairs.{PlainPair, PlainPolled, plain_over}
 use Rattle.rtc_run_laws.proofs.StepsExchange.{plain_over_laws}
@@ -36,13 +35,12 @@ use Rattle.rtc_run_laws.proofs.BandedInputs.{KeepsBand, SideBanded}
 use Rattle.rtc_run_laws.proofs.BandedChanges.{AreBandedTokens}
 use Rattle.rtc_run_laws.proofs.BandedSteps.{acts_band}
 use Rattle.rtc_run_laws.proofs.OpenSides.{not_closed}
-use Rattle.rtc_run_laws.proofs.RunsTold.{PairTold}
 use Rattle.rtc_run_laws.proofs.StandingEntries.{AreBanded}
 use Rattle.rtc_run_laws.proofs.ConfirmedPairs.{settled_due_none}
 use Rattle.rtc_run_laws.proofs.NativeSteps.{native_entry}
 
 -- the last of the steps, and those before
-first_steps : (steps : List Step) (step : Step) → AreInBandSteps (steps ++ step ∷ []) → AreInBandSteps steps × IsInBandStep step
+pub first_steps : (steps : List Step) (step : Step) → AreInBandSteps (steps ++ step ∷ []) → AreInBandSteps steps × IsInBandStep step
 first_steps [] step h = (tt, h.0)
 first_steps (first ∷ steps) step h = let rest = first_steps steps step h.1 in ((h.0, rest.0), rest.1)
 
@@ -104,7 +102,7 @@ module _ {N : Type 0} (draws : Draws N) where
       entries = ap (λ (x : SctpStreams Contents). x.entries) sctp ∙ ap (λ (x : SctpStreams Contents). x.entries) h.by_build.streams
 
   -- one that keeps no session description yet
-  new_pair_banded : (pair : PlainPair N) → IsNewPair draws pair → pair.sdps ≡ [] → PairBanded (plain_over draws) (plain_over_laws draws) pair
+  pub new_pair_banded : (pair : PlainPair N) → IsNewPair draws pair → pair.sdps ≡ [] → PairBanded (plain_over draws) (plain_over_laws draws) pair
   new_pair_banded pair h none = record {
     sides = λ at. by at;
     tokens = subst (λ (l : List Kept). AreBandedTokens l) (sym none) tt;
@@ -140,11 +138,10 @@ module _ {N : Type 0} (draws : Draws N) where
     )
 
     -- each channel that was confirmed is open at both sides
-    pub settled_all : PairTold draws start (λ x. []) (λ x s g. []) (λ x c s g. []) → AreUnused (plain_over draws) (plain_over_laws draws) start
-        → (at : Side) → HasNothingDue at past pair
+    pub settled_all : (at : Side) → HasNothingDue at past pair
         → AreAllConfirmedOpen draws (λ c. WasConfirmed (plain_over draws) stun start at c past pair ran)
         (uses_of (plain_over draws) stun start at past pair ran) (rtc_at at pair)
         (uses_of (plain_over draws) stun start (other_side at) past pair ran) (rtc_at (other_side at) pair)
-    settled_all told unused at later = λ c s confirmed under stand.
+    settled_all at later = λ c s confirmed under stand.
         let band = settled_in_band at s in
-        settled_due_none draws stun start past pair go ran new told unused settled at later c s confirmed under band.0 band.1 stand
+        settled_due_none draws stun start past pair go ran new settled at later c s confirmed under band.0 band.1 stand

@@ -16,7 +16,6 @@ use Rattle.rtc_run_history.specs.Past.{Entry, steps_of}
 use Rattle.rtc_run_history.specs.Runs.{Reached}
 use Rattle.rtc_run_history.specs.Sides.{other_side}
 use Rattle.rtc_run_laws.proofs.KeptStreams.{pair_sound}
-use Rattle.rtc_run_laws.proofs.EmptyStreams.{AreUnused}
 use Rattle.rtc_peer_laws.specs.Exchanging.{parts_past}
 use Rattle.rtc_peer_laws.specs.JoinedPeers.{ends_of, packet_parts}
 use Rattle.rtc_run_laws.specs.NewPairs.{IsNewPair}
@@ -31,7 +30,6 @@ use Rattle.rtc_run_laws.proofs.AloneSides.{alone_waits}
 use Rattle.rtc_run_laws.proofs.OpenSides.{not_closed}
 use Rattle.rtc_run_laws.proofs.OwnSides.{refused_here, settled_alone, settled_parted, waits_opening}
 use Rattle.rtc_run_laws.proofs.PiecePairs.{left_written, right_written}
-use Rattle.rtc_run_laws.proofs.RunsTold.{PairTold}
 use Rattle.rtc_run_laws.proofs.SettledRuns.{heard, kept_streams, settled_idle, told, uses}
 use Rattle.rtc_run_laws.proofs.ThereRuns.{SideThere, new_pair_there, run_there}
 
@@ -47,7 +45,6 @@ side_parts acts pair x Right s g h none =
 
 module _ {N : Type 0} (draws : Draws N) (stun : List ℕ → Bool) (start : PlainPair N) (past : List (Entry PlainMediaEvent)) (pair : PlainPair N)
     (go : are_native (steps_of past) ≡ true) (ran : Reached (plain_over draws) stun start past pair) (new : IsNewPair draws start)
-    (h : PairTold draws start (λ x. []) (λ x s g. []) (λ x c s g. [])) (unused : AreUnused (plain_over draws) (plain_over_laws draws) start)
     (settled : IsSettledPair past pair) where
   there_by : (at : Side) → SideThere (plain_over draws) (plain_over_laws draws) plain_generations IsKeptIf plain_keeping (rtc_at at pair)
       → AreBegunStreams plain_meaning IsKeptIf (rtc_at at pair).core.sctp
@@ -65,26 +62,26 @@ module _ {N : Type 0} (draws : Draws N) (stun : List ℕ → Bool) (start : Plai
       → IsRefusedAlone s (rtc_at at pair) (rtc_at (other_side at) pair)
       → WaitsForAnswer s (rtc_at (other_side at) pair).core.sctp.entries
   waits_there Left s band alone =
-      let k = told draws stun start past pair go ran h unused settled in
-      alone_waits draws k.acts.left k.acts.right (uses draws stun start past pair go ran h unused settled Left)
-      (uses draws stun start past pair go ran h unused settled Right) pair.left pair.right k.left.side k.right.side (settled.peers Left)
-      (settled.peers Right) (heard draws stun start past pair go ran h unused settled Right) (begun_at Left) (pair_sound k.acts pair k.exchange Left)
+      let k = told draws stun start past pair go ran new settled in
+      alone_waits draws k.acts.left k.acts.right (uses draws stun start past pair go ran new settled Left)
+      (uses draws stun start past pair go ran new settled Right) pair.left pair.right k.left.side k.right.side (settled.peers Left)
+      (settled.peers Right) (heard draws stun start past pair go ran new settled Right) (begun_at Left) (pair_sound k.acts pair k.exchange Left)
       (λ t g. side_all k.acts pair Right t g k.exchange) (side_parts k.acts pair k.exchange Left) s
-      (kept_streams draws stun start past pair go ran h unused settled Left s band) alone
+      (kept_streams draws stun start past pair go ran new settled Left s band) alone
   waits_there Right s band alone =
-      let k = told draws stun start past pair go ran h unused settled in
-      alone_waits draws k.acts.right k.acts.left (uses draws stun start past pair go ran h unused settled Right)
-      (uses draws stun start past pair go ran h unused settled Left) pair.right pair.left k.right.side k.left.side (settled.peers Right)
-      (settled.peers Left) (heard draws stun start past pair go ran h unused settled Left) (begun_at Right) (pair_sound k.acts pair k.exchange Right)
+      let k = told draws stun start past pair go ran new settled in
+      alone_waits draws k.acts.right k.acts.left (uses draws stun start past pair go ran new settled Right)
+      (uses draws stun start past pair go ran new settled Left) pair.right pair.left k.right.side k.left.side (settled.peers Right)
+      (settled.peers Left) (heard draws stun start past pair go ran new settled Left) (begun_at Right) (pair_sound k.acts pair k.exchange Right)
       (λ t g. side_all k.acts pair Left t g k.exchange) (side_parts k.acts pair k.exchange Right) s
-      (kept_streams draws stun start past pair go ran h unused settled Right s band) alone
+      (kept_streams draws stun start past pair go ran new settled Right s band) alone
 
   pub settled_wants_none : (at : Side) → channels_wake plain_meaning (rtc_at at pair).core.channels (rtc_at at pair).core.sctp ≡ None
       → AreConfirmedInBand draws (λ c. WasConfirmed (plain_over draws) stun start at c past pair ran)
       (uses_of (plain_over draws) stun start at past pair ran) (rtc_at at pair)
       (uses_of (plain_over draws) stun start (other_side at) past pair ran) (rtc_at (other_side at) pair)
   settled_wants_none at idle = λ c s confirmed under band channels stand.
-      by c s band channels (settled_alone draws stun start past pair go ran new h unused settled at idle c s confirmed under band channels stand)
+      by c s band channels (settled_alone draws stun start past pair go ran new settled at idle c s confirmed under band channels stand)
     where
       by : (c s : ℕ) → AreInBandStreams s (rtc_at at pair) (rtc_at (other_side at) pair)
           → AreInBandChannels s (rtc_at at pair) (rtc_at (other_side at) pair)
@@ -105,4 +102,4 @@ module _ {N : Type 0} (draws : Draws N) (stun : List ℕ → Bool) (start : Plai
       (uses_of (plain_over draws) stun start at past pair ran) (rtc_at at pair)
       (uses_of (plain_over draws) stun start (other_side at) past pair ran) (rtc_at (other_side at) pair)
   settled_due_none at later = λ c s confirmed under band channels stand.
-      settled_wants_none at (settled_idle draws stun start past pair go ran h unused settled at later) c s confirmed under band channels stand
+      settled_wants_none at (settled_idle draws stun start past pair go ran new settled at later) c s confirmed under band channels stand

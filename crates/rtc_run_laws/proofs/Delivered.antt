@@ -16,6 +16,7 @@ use Rattle.rtc_assoc_state.specs.PlainMeaning.{plain_meaning}
 use Rattle.rtc_sctp_laws.specs.Contents.{contents_by, contents_of}
 use Rattle.rtc_sctp_laws.specs.GenerationLaws.{GenerationLaws, KeepsGeneration}
 use Rattle.rtc_sctp_laws.specs.StreamMessages.{StreamMessage}
+use Rattle.rtc_sctp_laws.specs.StreamUses.{begins_with_dcep, messages_of}
 use Rattle.rtc_sctp_laws.proofs.PlainGenerations.{plain_generations}
 use Rattle.rtc_peer_transport.specs.ChannelCalls.{open_stream_under}
 use Rattle.rtc_peer_laws.specs.PeerActs.{PeerActs}
@@ -25,17 +26,17 @@ use Rattle.rtc_run_history.specs.Sides.{other_side}
 use Rattle.rtc_run_history.specs.declared.side.Side.{Side}
 use Rattle.rtc_run_history.specs.declared.side.Side.TheVariants.{Left, Right}
 use Rattle.rtc_run_laws.specs.ChannelUses.{ChannelUse}
-use Rattle.rtc_run_laws.specs.Delivered.{AreAllDelivered, AreDelivering}
+use Rattle.rtc_run_laws.specs.Delivered.{AreAllDelivered, AreAllDeliveredOver, AreDelivering}
 use Rattle.rtc_run_laws.specs.PlainPairs.{PlainPair, PlainPolled, plain_over}
 use Rattle.rtc_run_laws.specs.ToldMessages.{MessagesTold}
 use Rattle.rtc_run_laws.proofs.AllHanded.{none_unread, open_told}
-use Rattle.rtc_run_laws.proofs.GotAndSent.{both_carry}
+use Rattle.rtc_run_laws.proofs.GotAndSent.{opens_first, reads_carry, writes_carry}
 use Rattle.rtc_run_laws.proofs.OpenStreams.{open_free, open_placed}
 use Rattle.rtc_run_laws.proofs.RunsExchange.{side_all, side_reads}
 use Rattle.rtc_run_laws.proofs.RunsTold.{PairTold}
 use Rattle.rtc_run_laws.proofs.StandingSides.{Sent, SideStood}
 use Rattle.rtc_run_laws.proofs.UseLists.{all_member}
-use Rattle.rtc_run_laws.proofs.UsesTold.{HasGone, InBandTold, IsOver, Lives, StandsSo, UseTold, opened_of}
+use Rattle.rtc_run_laws.proofs.UsesTold.{HasGone, InBandTold, IsOver, Lives, StandsSo, UseOpened, UseStands, UseTold, opened_of, use_opened}
 
 -- ---- generations that this end closed
 
@@ -137,40 +138,47 @@ module _ {N : Type 0} (draws : Draws N) where
         open_told draws x.written x.read p k s h.there
         (all_member (InBandTold (plain_over draws) x.written x.read p) us k x.told.each mine h.reader_in_band)
 
-    there_told : UseTold (plain_over draws) y.written y.read q l.channel l.stream k.generation l.sent l.got
-    there_told =
-        subst (λ (n : ℕ). UseTold (plain_over draws) y.written y.read q l.channel l.stream n l.sent l.got) (sym h.generation_is)
-        ((all_member (InBandTold (plain_over draws) y.written y.read q) vs l y.told.each theirs h.writer_in_band).kept h.writer_kept)
+    there_stands : UseStands (plain_over draws) y.written y.read q l
+    there_stands = all_member (InBandTold (plain_over draws) y.written y.read q) vs l y.told.each theirs h.writer_in_band
 
-    carried : (t : UseTold (plain_over draws) x.written x.read p k.channel k.stream k.generation k.sent k.got)
-        → UseTold (plain_over draws) y.written y.read q l.channel l.stream k.generation l.sent l.got
-        → (contents_by (read s k.generation a.association) ≡ contents_of t.rest) × (contents_by (written s k.generation b.association) ≡ l.sent)
-    carried t u =
-        both_carry draws s k.generation a b us vs p q x y l.channel k.stream l.stream k.got l.sent l.got
-        (opened_of (plain_over draws) x.written x.read p k.channel k.stream k.generation k.sent k.got t) u
-        (some_is t.stream s (sym t.stream_is ∙ h.reader.of)) (some_is u.stream s (sym u.stream_is ∙ sym h.stream_is ∙ h.reader.of)) reads
+    -- what was written to the generation carries what was sent, if the channel was not rolled back
+    pub wrote_sent : l.rolled_back ≡ false → contents_by (written s k.generation b.association) ≡ l.sent
+    wrote_sent left = by (there_stands.kept left)
+      where
+        by : UseTold (plain_over draws) y.written y.read q l.channel l.stream l.generation l.sent l.got
+            → contents_by (written s k.generation b.association) ≡ l.sent
+        by u =
+            writes_carry draws s k.generation b vs q y
+            ∙ ap (λ (n : ℕ). contents_of (messages_of s n y.written)) h.generation_is
+            ∙ ap (λ (n : ℕ). contents_of (messages_of n l.generation y.written)) (sym (some_is u.stream s (sym u.stream_is ∙ sym h.stream_is ∙ h.reader.of)))
+            ∙ u.sent_is
 
-    -- what was written to the generation carries what was sent
-    pub wrote_sent : contents_by (written s k.generation b.association) ≡ l.sent
-    wrote_sent = (carried here_told there_told).1
+    -- the first message that was written opens the channel
+    opening : begins_with_dcep (messages_of s k.generation y.written) ≡ true
+    opening = by (use_opened (plain_over draws) y.written y.read q l there_stands)
+      where
+        by : UseOpened y.written y.read l.stream l.generation l.got → begins_with_dcep (messages_of s k.generation y.written) ≡ true
+        by u = opens_first draws s k.generation b vs q y l u (some_is u.stream s (sym u.stream_is ∙ sym h.stream_is ∙ h.reader.of)) (sym h.generation_is)
 
     -- if all that was written is read or stands unread, and nothing stands unread
     pub delivered : (ended s k.generation b.association ≡ false → ended s k.generation a.association ≡ false
         → contents_by (read s k.generation a.association ++ unread s k.generation p.core.sctp.association.inbox.unread)
         ≡ contents_by (written s k.generation b.association))
-        → has_unread p.core.sctp.association s k.generation ≡ false → k.got ≡ l.sent
+        → has_unread p.core.sctp.association s k.generation ≡ false → k.got ≡ contents_by (written s k.generation b.association)
     delivered all heard = got_is here_told
       where
-        got_is : UseTold (plain_over draws) x.written x.read p k.channel k.stream k.generation k.sent k.got → k.got ≡ l.sent
+        got_is : UseTold (plain_over draws) x.written x.read p k.channel k.stream k.generation k.sent k.got
+            → k.got ≡ contents_by (written s k.generation b.association)
         got_is t =
             all_told p k.channel t.stream k.generation s k.got t.rest h.there t.stands
-            ∙ sym (carried t there_told).0
+            ∙ sym (reads_carry draws s k.generation a b us vs p q x y k.stream k.got
+            (opened_of (plain_over draws) x.written x.read p k.channel k.stream k.generation k.sent k.got t)
+            (some_is t.stream s (sym t.stream_is ∙ h.reader.of)) opening reads)
             ∙ ap contents_by
             (sym (append-nil (read s k.generation a.association))
             ∙ ap (λ (r : List AssociationMessage). read s k.generation a.association ++ r)
             (sym (none_unread s k.generation p.core.sctp.association.inbox.unread heard)))
             ∙ all there_open here_open
-            ∙ wrote_sent
 
   none_of : (k l : ChannelUse) (p q : PlainPolled N) (h : AreDelivering k p l q)
       → has_unacknowledged h.writer.stream q.core.sctp.association.outbox.items ≡ false
@@ -179,20 +187,51 @@ module _ {N : Type 0} (draws : Draws N) where
 
   module _ (pair : PlainPair N) (uses : Side → List ChannelUse) (sent : Side → Sent) (told : Side → MessagesTold) (h : PairTold draws pair uses sent told) where
     -- by what tells of an open channel that nothing of its generation stands unread
-    pub pair_delivered : (at : Side) (drained : Type 0)
-        → ((x : ChannelUse) → Member x (uses at) → drained → x.in_band ≡ true → (stream : ℕ) → x.stream ≡ Some stream
+    abbrev pub TellsHeard : (at : Side) (drained : Type 0) → Type 0
+    TellsHeard at drained =
+        (x : ChannelUse) → Member x (uses at) → drained → x.in_band ≡ true → (stream : ℕ) → x.stream ≡ Some stream
         → open_stream_under x.channel (rtc_at at pair) ≡ Some stream → generation_of (rtc_at at pair).core.sctp.association stream ≡ x.generation
-        → has_unread (rtc_at at pair).core.sctp.association stream x.generation ≡ false)
-        → AreAllDelivered drained (uses at) (rtc_at at pair) (uses (other_side at)) (rtc_at (other_side at) pair)
-    pair_delivered Left drained heard = λ x y mine theirs rested d acknowledged.
+        → has_unread (rtc_at at pair).core.sctp.association stream x.generation ≡ false
+
+    left_delivered : (drained : Type 0) → TellsHeard Left drained → (x y : ChannelUse) → Member x (uses Left) → Member y (uses Right) → drained
+        → (d : AreDelivering x pair.left y pair.right) → has_unacknowledged d.writer.stream pair.right.core.sctp.association.outbox.items ≡ false
+        → x.got ≡ contents_by (written d.reader.stream x.generation h.acts.right.association)
+    left_delivered drained heard x y mine theirs rested d acknowledged =
         delivered h.acts.left h.acts.right (uses Left) (uses Right) pair.left pair.right h.left.side h.right.side x y d mine theirs
         (side_reads h.acts pair Right d.reader.stream x.generation h.exchange)
         (λ there here. ap contents_by (side_all h.acts pair Right d.reader.stream x.generation h.exchange there here
         (none_of x y pair.left pair.right d acknowledged)))
         (heard x mine rested d.reader_in_band d.reader.stream d.reader.of d.there d.reader.generation)
-    pair_delivered Right drained heard = λ x y mine theirs rested d acknowledged.
+
+    right_delivered : (drained : Type 0) → TellsHeard Right drained → (x y : ChannelUse) → Member x (uses Right) → Member y (uses Left) → drained
+        → (d : AreDelivering x pair.right y pair.left) → has_unacknowledged d.writer.stream pair.left.core.sctp.association.outbox.items ≡ false
+        → x.got ≡ contents_by (written d.reader.stream x.generation h.acts.left.association)
+    right_delivered drained heard x y mine theirs rested d acknowledged =
         delivered h.acts.right h.acts.left (uses Right) (uses Left) pair.right pair.left h.right.side h.left.side x y d mine theirs
         (side_reads h.acts pair Left d.reader.stream x.generation h.exchange)
         (λ there here. ap contents_by (side_all h.acts pair Left d.reader.stream x.generation h.exchange there here
         (none_of x y pair.right pair.left d acknowledged)))
         (heard x mine rested d.reader_in_band d.reader.stream d.reader.of d.there d.reader.generation)
+
+    pub pair_delivered : (at : Side) (drained : Type 0) → TellsHeard at drained
+        → AreAllDelivered drained (uses at) (rtc_at at pair) (uses (other_side at)) (rtc_at (other_side at) pair)
+    pair_delivered Left drained heard = λ x y mine theirs rested d acknowledged.
+        left_delivered drained heard x y mine theirs rested d.over acknowledged
+        ∙ wrote_sent h.acts.left h.acts.right (uses Left) (uses Right) pair.left pair.right h.left.side h.right.side x y d.over mine theirs
+        (side_reads h.acts pair Right d.over.reader.stream x.generation h.exchange) d.kept
+    pair_delivered Right drained heard = λ x y mine theirs rested d acknowledged.
+        right_delivered drained heard x y mine theirs rested d.over acknowledged
+        ∙ wrote_sent h.acts.right h.acts.left (uses Right) (uses Left) pair.right pair.left h.right.side h.left.side x y d.over mine theirs
+        (side_reads h.acts pair Left d.over.reader.stream x.generation h.exchange) d.kept
+
+    -- all that was ever sent to the generation, whether or not the channel was rolled back
+    pub pair_delivered_over : (at : Side) (drained : Type 0) → TellsHeard at drained
+        → AreAllDeliveredOver drained (uses at) (rtc_at at pair) (uses (other_side at)) (rtc_at (other_side at) pair) (sent (other_side at))
+    pair_delivered_over Left drained heard = λ x y mine theirs rested d acknowledged.
+        left_delivered drained heard x y mine theirs rested d acknowledged
+        ∙ writes_carry draws d.reader.stream x.generation h.acts.right (uses Right) pair.right h.right.side
+        ∙ h.right.sent_is d.reader.stream x.generation
+    pair_delivered_over Right drained heard = λ x y mine theirs rested d acknowledged.
+        right_delivered drained heard x y mine theirs rested d acknowledged
+        ∙ writes_carry draws d.reader.stream x.generation h.acts.left (uses Left) pair.left h.left.side
+        ∙ h.left.sent_is d.reader.stream x.generation

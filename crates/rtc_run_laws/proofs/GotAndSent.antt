@@ -71,7 +71,7 @@ module _ {N : Type 0} (draws : Draws N) where
       (subst (λ (l : List AssociationMessage). IsPrefix (read s g a.association) l) (written_are s g b.association y.written y.wrote_is) h)) begun none
 
   -- what was read of the generation carries what was read behind the opening
-  reads_carry : (s g : ℕ) (a b : PeerActs) (us vs : List ChannelUse) (p q : PlainPolled N) (x : SideStood draws a us p) (y : SideStood draws b vs q)
+  pub reads_carry : (s g : ℕ) (a b : PeerActs) (us vs : List ChannelUse) (p q : PlainPolled N) (x : SideStood draws a us p) (y : SideStood draws b vs q)
       (of : Option ℕ) (got : List (Bool × List ℕ)) (t : UseOpened x.written x.read of g got) → t.stream ≡ s
       → begins_with_dcep (messages_of s g y.written) ≡ true → IsPrefix (read s g a.association) (written s g b.association)
       → contents_by (read s g a.association) ≡ contents_of t.rest
@@ -101,7 +101,7 @@ module _ {N : Type 0} (draws : Draws N) where
       one_dcep false e = absurd (true≢false (sym e))
 
   -- what was written of it carries what was sent
-  writes_carry : (s g : ℕ) (b : PeerActs) (vs : List ChannelUse) (q : PlainPolled N) (y : SideStood draws b vs q)
+  pub writes_carry : (s g : ℕ) (b : PeerActs) (vs : List ChannelUse) (q : PlainPolled N) (y : SideStood draws b vs q)
       → contents_by (written s g b.association) ≡ contents_of (messages_of s g y.written)
   writes_carry s g b vs q y =
       ap contents_by (written_are s g b.association y.written y.wrote_is)
@@ -144,7 +144,7 @@ module _ {N : Type 0} (draws : Draws N) where
       some_is n k e = cc
 
   -- the first message of the generation opens the channel
-  opens_first : (s g : ℕ) (b : PeerActs) (vs : List ChannelUse) (q : PlainPolled N) (y : SideStood draws b vs q) (l : ChannelUse)
+  pub opens_first : (s g : ℕ) (b : PeerActs) (vs : List ChannelUse) (q : PlainPolled N) (y : SideStood draws b vs q) (l : ChannelUse)
       (u : UseOpened y.written y.read l.stream l.generation l.got) → u.stream ≡ s → l.generation ≡ g → begins_with_dcep (messages_of s g y.written) ≡ true
   opens_first s g b vs q y l u same own =
       ap (λ (n : ℕ). begins_with_dcep (messages_of s n y.written)) (sym own)

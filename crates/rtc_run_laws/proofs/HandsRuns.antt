@@ -14,8 +14,8 @@ use Rattle.rtc_run_laws.specs.PlainPairs.{PlainPair, plain_over}
 use Rattle.rtc_run_laws.specs.SentMessages.{sent_over}
 use Rattle.rtc_run_laws.specs.ToldMessages.{told_over}
 use Rattle.rtc_run_laws.specs.UsesOfRuns.{reached_by, uses_in_run}
-use Rattle.rtc_run_laws.proofs.RestedRuns.{run_delivered, run_drained}
-use Rattle.rtc_run_laws.proofs.RunsTold.{PairTold, new_pair_told, pair_handed, pair_handed_over, pair_once, pair_told_whole, pair_whole, pair_wholly, reached_told}
+use Rattle.rtc_run_laws.proofs.RestedRuns.{run_delivered, run_delivered_over, run_drained}
+use Rattle.rtc_run_laws.proofs.RunsTold.{PairTold, new_pair_told, pair_handed, pair_first, pair_handed_over, pair_once, pair_told_whole, pair_whole, pair_wholly, reached_told}
 use Rattle.rtc_run_laws.proofs.SilentRuns.{run_got, run_told, run_told_sent}
 
 module _ {N : Type 0} (draws : Draws N) where
@@ -32,6 +32,8 @@ module _ {N : Type 0} (draws : Draws N) where
             (λ z. told_over (plain_over draws) stun start z run.past pair ran) at told;
         whole = λ at. pair_whole draws pair (uses_in_run (plain_over draws) stun start steps replies pair run) (λ z. sent_over (plain_over draws) stun start z run.past pair ran)
             (λ z. told_over (plain_over draws) stun start z run.past pair ran) at told;
+        first = λ at. pair_first draws pair (uses_in_run (plain_over draws) stun start steps replies pair run) (λ z. sent_over (plain_over draws) stun start z run.past pair ran)
+            (λ z. told_over (plain_over draws) stun start z run.past pair ran) at told;
         told = λ at. pair_told_whole draws pair (uses_in_run (plain_over draws) stun start steps replies pair run) (λ z. sent_over (plain_over draws) stun start z run.past pair ran)
             (λ z. told_over (plain_over draws) stun start z run.past pair ran) at told;
         handed = λ at. pair_handed draws pair (uses_in_run (plain_over draws) stun start steps replies pair run) (λ z. sent_over (plain_over draws) stun start z run.past pair ran)
@@ -42,6 +44,7 @@ module _ {N : Type 0} (draws : Draws N) where
             (λ z. told_over (plain_over draws) stun start z run.past pair ran) at told;
         drained = λ at. run_drained draws stun start new run.past pair go ran at;
         delivered = λ at. run_delivered draws stun start new run.past pair go ran at;
+        delivered_over = λ at. run_delivered_over draws stun start new run.past pair go ran at;
         unsent = λ at. run_told_sent draws stun start new run.past pair go ran at;
         unannounced = λ none banded numbers at.
             run_told draws stun start new run.past pair go ran none (subst (λ (l : List Step). AreInBandSteps l) (sym run.steps_are) banded) numbers at;

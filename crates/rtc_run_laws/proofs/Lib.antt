@@ -155,9 +155,8 @@ mod FinishedSides
 mod HeardSides
 mod TimeoutSides
 mod UncalledSteps
-mod DrainedSteps
 pub mod RunsTold
-pub mod DrainedRuns
+pub mod UnusedPairs
 mod RestingSides
 mod HeardOpenings
 mod OpenSides
@@ -220,12 +219,14 @@ pub mod BandedAcceptances
 pub mod StepWalks
 pub mod BandedSteps
 pub mod BandedRuns
+pub mod BandedUses
 pub mod SettlesRuns
 pub mod SentOrder
 pub mod TimelyItems
 pub mod ClosingLevels
 pub mod SoundActs
 pub mod Silence
+pub mod GotStretches
 pub mod SentUses
 pub mod SilentRuns
 pub mod HandsRuns

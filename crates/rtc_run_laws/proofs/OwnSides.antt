@@ -13,7 +13,6 @@ use Rattle.rtc_run_history.specs.PairState.{rtc_at}
 use Rattle.rtc_run_history.specs.Past.{Entry, steps_of}
 use Rattle.rtc_run_history.specs.Runs.{Reached}
 use Rattle.rtc_run_history.specs.Sides.{other_side}
-use Rattle.rtc_run_laws.proofs.EmptyStreams.{AreUnused}
 use Rattle.rtc_run_laws.specs.NewPairs.{IsNewPair}
 use Rattle.rtc_peer_transport.specs.ChannelCalls.{stream_under}
 use Rattle.rtc_run_laws.specs.ChannelUses.{ChannelUse}
@@ -32,7 +31,6 @@ use Rattle.rtc_run_laws.proofs.OwnedChanges.{IsOwned}
 use Rattle.rtc_run_laws.proofs.OwnedRows.{owner_side}
 use Rattle.rtc_run_laws.proofs.OwnedRuns.{new_pair_owned, run_owned}
 use Rattle.rtc_run_laws.proofs.RoleSides.{settled_sides}
-use Rattle.rtc_run_laws.proofs.RunsTold.{PairTold}
 use Rattle.rtc_run_laws.proofs.SettledRuns.{settled_answered, settled_refused}
 
 entry_map : (P Q : StreamEntry → Type 0) (s : ℕ) (es : List StreamEntry) → ((e : StreamEntry) → P e → Q e) → HasEntryOf P s es → HasEntryOf Q s es
@@ -95,19 +93,18 @@ module _ {N : Type 0} (draws : Draws N) (stun : List ℕ → Bool) (start : Plai
       (settled_sides draws stun start past pair go ran new settled at) band here there
 
   -- no opening waits for its answer; a channel that was confirmed is open at both sides, or refused alone
-  module _ (h : PairTold draws start (λ x. []) (λ x s g. []) (λ x c s g. [])) (unused : AreUnused (plain_over draws) (plain_over_laws draws) start)
-      (settled : IsSettledPair past pair) where
+  module _ (settled : IsSettledPair past pair) where
     pub settled_waits_none : (at : Side) → WaitsNone (rtc_at at pair) (rtc_at (other_side at) pair)
     settled_waits_none at = λ s band channels waits.
         settled_parted settled at s channels (waits_opening s (rtc_at at pair).core.sctp.entries waits)
-        (refused_here s (rtc_at (other_side at) pair) (settled_answered draws stun start past pair go ran h unused settled new at s band waits).0)
+        (refused_here s (rtc_at (other_side at) pair) (settled_answered draws stun start past pair go ran new settled at s band waits).0)
 
     pub settled_alone : (at : Side) → channels_wake plain_meaning (rtc_at at pair).core.channels (rtc_at at pair).core.sctp ≡ None
         → AreConfirmedAlone draws (λ c. WasConfirmed (plain_over draws) stun start at c past pair ran)
         (uses_of (plain_over draws) stun start at past pair ran) (rtc_at at pair)
         (uses_of (plain_over draws) stun start (other_side at) past pair ran) (rtc_at (other_side at) pair)
     settled_alone at idle = λ c s confirmed under band channels stand.
-        by c s channels (settled_refused draws stun start past pair go ran h unused settled new at idle c s confirmed under band stand)
+        by c s channels (settled_refused draws stun start past pair go ran new settled at idle c s confirmed under band stand)
       where
         by : (c s : ℕ) → AreInBandChannels s (rtc_at at pair) (rtc_at (other_side at) pair)
             → IsOpenAtBoth draws c (uses_of (plain_over draws) stun start at past pair ran) (rtc_at at pair)

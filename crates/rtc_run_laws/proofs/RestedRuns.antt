@@ -18,7 +18,7 @@ use Rattle.rtc_run_history.specs.Runs.{Reached}
 use Rattle.rtc_run_history.specs.Sides.{other_side, same_side, side_of}
 use Rattle.rtc_run_laws.specs.CalledSteps.{calls_peer}
 use Rattle.rtc_run_laws.specs.ChannelUses.{ChannelUse}
-use Rattle.rtc_run_laws.specs.Delivered.{AreAllDelivered}
+use Rattle.rtc_run_laws.specs.Delivered.{AreAllDelivered, AreAllDeliveredOver}
 use Rattle.rtc_run_laws.specs.HandedOut.{AreAllHandedOut}
 use Rattle.rtc_run_laws.specs.NewPairs.{IsNewPair}
 use Rattle.rtc_run_laws.specs.PlainPairs.{PlainPair, PlainPolled, plain_over}
@@ -26,7 +26,7 @@ use Rattle.rtc_run_laws.specs.SideDrains.{IsSideDrained, SideDrainedByEntry, Sid
 use Rattle.rtc_run_laws.specs.SentMessages.{sent_over}
 use Rattle.rtc_run_laws.specs.ToldMessages.{MessagesTold, told_over}
 use Rattle.rtc_run_laws.specs.UsesOfRuns.{uses_acted, uses_of}
-use Rattle.rtc_run_laws.proofs.Delivered.{pair_delivered}
+use Rattle.rtc_run_laws.proofs.Delivered.{pair_delivered, pair_delivered_over}
 use Rattle.rtc_run_laws.proofs.FreshSides.{run_ready}
 use Rattle.rtc_run_laws.proofs.NativeSteps.{native_entry}
 use Rattle.rtc_run_laws.proofs.RestedSides.{IsWaiting, RestsSide, rests_open}
@@ -149,10 +149,23 @@ module _ {N : Type 0} (draws : Draws N) where
       (reached_told draws stun start past pair go ran (new_pair_told draws start new)) at
       (IsSideDrained at past) (λ x mine drained band stream of there own. run_heard stun start new past pair go ran at x mine drained band stream of there own)
 
+  -- all was got that was ever sent to the generation
+  pub run_delivered_over : (stun : List ℕ → Bool) (start : PlainPair N) → IsNewPair draws start → (past : List (Entry PlainMediaEvent)) (pair : PlainPair N)
+      → are_native (steps_of past) ≡ true → (ran : Reached (plain_over draws) stun start past pair) → (at : Side)
+      → AreAllDeliveredOver (IsSideDrained at past)
+      (uses_of (plain_over draws) stun start at past pair ran) (rtc_at at pair)
+      (uses_of (plain_over draws) stun start (other_side at) past pair ran) (rtc_at (other_side at) pair)
+      (sent_over (plain_over draws) stun start (other_side at) past pair ran)
+  run_delivered_over stun start new past pair go ran at =
+      pair_delivered_over draws pair (λ x. uses_of (plain_over draws) stun start x past pair ran) (λ x. sent_over (plain_over draws) stun start x past pair ran)
+      (λ x. told_over (plain_over draws) stun start x past pair ran)
+      (reached_told draws stun start past pair go ran (new_pair_told draws start new)) at
+      (IsSideDrained at past) (λ x mine drained band stream of there own. run_heard stun start new past pair go ran at x mine drained band stream of there own)
+
   -- so it is where both channels stay open
   pub run_drained : (stun : List ℕ → Bool) (start : PlainPair N) → IsNewPair draws start → (past : List (Entry PlainMediaEvent)) (pair : PlainPair N)
       → are_native (steps_of past) ≡ true → (ran : Reached (plain_over draws) stun start past pair) → (at : Side)
-      → AreAllHandedOut draws (λ channel. IsSideDrained at past) (uses_of (plain_over draws) stun start at past pair ran) (rtc_at at pair)
+      → AreAllHandedOut draws (IsSideDrained at past) (uses_of (plain_over draws) stun start at past pair ran) (rtc_at at pair)
       (uses_of (plain_over draws) stun start (other_side at) past pair ran) (rtc_at (other_side at) pair)
   run_drained stun start new past pair go ran at = λ x y mine theirs drained joined acknowledged.
       pair_wholly draws pair (λ z. uses_of (plain_over draws) stun start z past pair ran) (λ z. sent_over (plain_over draws) stun start z past pair ran)

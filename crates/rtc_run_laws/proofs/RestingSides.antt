@@ -25,8 +25,8 @@ use Rattle.rtc_run_history.specs.Runs.{Reached}
 use Rattle.rtc_run_history.specs.Sides.{other_side, same_side, side_of}
 use Rattle.rtc_run_laws.specs.CalledSteps.{calls_peer}
 use Rattle.rtc_run_laws.proofs.UncalledSteps.{uncalled_same}
-use Rattle.rtc_run_laws.specs.DrainedSides.{DrainedByEntry, DrainedByEvent, DrainedByOutcome, DrainedByOutputs, DrainedByStep, IsDrained}
 use Rattle.rtc_run_laws.specs.RestingPasts.{EndInTimeout, IsResting, RestsByEntry, RestsByOutcome, RestsByStep, RestsUntil}
+use Rattle.rtc_run_laws.specs.SideDrains.{IsSideDrained, SideDrainedByEntry, SideDrainedByOutcome, SideDrainedByOutputs, SideDrainedByStep}
 
 module _ {I D S M E X T W N : Type 0} (m : Meanings I D S M E X T W N) (is_so : ℕ → Type 0) where
   -- a poll that ended in a timeout left the peer so
@@ -106,26 +106,26 @@ module _ {I D S M E X T W N : Type 0} (m : Meanings I D S M E X T W N) (is_so : 
 
 -- ---- such a side was drained
 
-outputs_drained : {E : Type 0} (c : ℕ) (outputs : List (Shown E)) (earlier : Type 0) → EndInTimeout (λ n. Unit {0}) outputs → DrainedByOutputs c outputs earlier
-outputs_drained c [] earlier e = absurd e
-outputs_drained c (TimeoutShown moment reason ∷ outputs) earlier e = tt
-outputs_drained c (Packet number len ∷ outputs) earlier e = outputs_drained c outputs earlier e
-outputs_drained c (EventShown event ∷ outputs) earlier e = outputs_drained c outputs (DrainedByEvent c event earlier) e
+outputs_drained : {E : Type 0} (outputs : List (Shown E)) (earlier : Type 0) → EndInTimeout (λ n. Unit {0}) outputs → SideDrainedByOutputs outputs earlier
+outputs_drained [] earlier e = absurd e
+outputs_drained (TimeoutShown moment reason ∷ outputs) earlier e = tt
+outputs_drained (Packet number len ∷ outputs) earlier e = outputs_drained outputs earlier e
+outputs_drained (EventShown event ∷ outputs) earlier e = outputs_drained outputs earlier e
 
-outcome_drained : {E : Type 0} (c : ℕ) (outcome : Outcome E) (earlier : Type 0) → RestsByOutcome (λ n. Unit {0}) outcome → DrainedByOutcome c outcome earlier
-outcome_drained c (Polled outputs end) earlier e = outputs_drained c outputs earlier e
-outcome_drained c outcome earlier e = absurd e
+outcome_drained : {E : Type 0} (outcome : Outcome E) (earlier : Type 0) → RestsByOutcome (λ n. Unit {0}) outcome → SideDrainedByOutcome outcome earlier
+outcome_drained (Polled outputs end) earlier e = outputs_drained outputs earlier e
+outcome_drained outcome earlier e = absurd e
 
-step_drained : {E : Type 0} (c : ℕ) (step : Step) (outcome : Outcome E) (earlier : Type 0) → RestsByStep (λ n. Unit {0}) step outcome → DrainedByStep c step outcome earlier
-step_drained c (Poll at) outcome earlier e = outcome_drained c outcome earlier e
-step_drained c (Drain at) outcome earlier e = outcome_drained c outcome earlier e
-step_drained c step outcome earlier e = absurd e
+step_drained : {E : Type 0} (step : Step) (outcome : Outcome E) (earlier : Type 0) → RestsByStep (λ n. Unit {0}) step outcome → SideDrainedByStep step outcome earlier
+step_drained (Poll at) outcome earlier e = outcome_drained outcome earlier e
+step_drained (Drain at) outcome earlier e = outcome_drained outcome earlier e
+step_drained step outcome earlier e = absurd e
 
-pub resting_drained : {E : Type 0} (at : Side) (c : ℕ) (past : List (Entry E)) → IsResting at past → IsDrained at c past
-resting_drained at c [] d = absurd d
-resting_drained at c (entry ∷ past) d = by (same_side (side_of entry.step) at && calls_peer entry.outcome) d (λ e. resting_drained at c past e)
+pub resting_drained : {E : Type 0} (at : Side) (past : List (Entry E)) → IsResting at past → IsSideDrained at past
+resting_drained at [] d = absurd d
+resting_drained at (entry ∷ past) d = by (same_side (side_of entry.step) at && calls_peer entry.outcome) d (λ e. resting_drained at past e)
   where
-    by : (b : Bool) → RestsByEntry (λ n. Unit {0}) b entry.step entry.outcome (IsResting at past) → (IsResting at past → IsDrained at c past)
-        → DrainedByEntry c b entry.step entry.outcome (IsDrained at c past)
-    by true e rest = step_drained c entry.step entry.outcome (IsDrained at c past) e
+    by : (b : Bool) → RestsByEntry (λ n. Unit {0}) b entry.step entry.outcome (IsResting at past) → (IsResting at past → IsSideDrained at past)
+        → SideDrainedByEntry b entry.step entry.outcome (IsSideDrained at past)
+    by true e rest = step_drained entry.step entry.outcome (IsSideDrained at past) e
     by false e rest = rest e

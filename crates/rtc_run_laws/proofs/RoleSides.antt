@@ -37,7 +37,7 @@ use Rattle.rtc_sctp_laws.proofs.KnownStreams.{AreKnown}
 use Rattle.rtc_sctp_laws.proofs.PlainGenerations.{plain_generations}
 use Rattle.rtc_run_laws.specs.SettledPairs.{AreOnSides, IsSettledPair, IsSettledPeer}
 use Rattle.rtc_run_laws.proofs.ConfirmedRuns.{last_rows}
-use Rattle.rtc_run_laws.proofs.DrainedRuns.{new_unstarted, new_unused}
+use Rattle.rtc_run_laws.proofs.UnusedPairs.{new_unstarted, new_unused}
 use Rattle.rtc_run_laws.proofs.KnownRuns.{SideKnown, new_pair_known, run_known}
 use Rattle.rtc_run_laws.proofs.OpenSides.{not_closed}
 use Rattle.rtc_run_laws.proofs.SideChanges.{changed_side}

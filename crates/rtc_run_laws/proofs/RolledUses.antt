@@ -5,6 +5,7 @@ use Rattle.rtc_parts.specs.AssociationLaws.{AssociationLaws}
 use Rattle.rtc_sctp_laws.specs.StreamMessages.{StreamMessage}
 use Rattle.rtc_sctp_laws.specs.GenerationLaws.{GenerationLaws}
 use Rattle.rtc_sctp_laws.specs.StreamUses.{messages_of}
+use Rattle.rtc_assoc.specs.Unread.{IsPrefix}
 use Rattle.rtc_sctp_laws.specs.Contents.{contents_of}
 use Rattle.rtc_sctp_laws.proofs.PastLemmas.{acts_past}
 use Rattle.rtc_channels.specs.Channels.{AreBelow, Channel, Channels, has_channel, is_of_stream}
@@ -16,7 +17,8 @@ use Rattle.rtc_peer_laws.specs.PeerActs.{Came}
 use Rattle.rtc_peer_laws.specs.KeptChannels.{CallLeavesStreams}
 use Rattle.rtc_peer_laws.proofs.ChannelsOver.{over_rows}
 use Rattle.rtc_run_laws.specs.ChannelUses.{ChannelUse, loses_channel, with_rolled_back}
-use Rattle.rtc_run_laws.proofs.UsesTold.{HasGone, InBandTold, IsOver, Lives, StandsSo, more_read, nothing_more, opened_on, told_on, undone_on, use_opened}
+use Rattle.rtc_run_laws.proofs.UseLists.{first_more, prefix_same}
+use Rattle.rtc_run_laws.proofs.UsesTold.{HasGone, InBandTold, IsOver, Lives, StandsSo, UseStands, UseTold, more_read, nothing_more, opened_on, told_on, undone_on, use_opened}
 
 -- ---- rows
 
@@ -113,6 +115,24 @@ none_rolled rows rows' uses is = ap (λ (l : List Channel). with_rolled_back row
 
 -- ---- uses
 
+module _ {I D S M E X T W N : Type 0} (m : Meanings I D S M E X T W N) where
+  -- what was sent over it is the first that was written to its generation
+  pub use_first : (written read : List StreamMessage) (p : PolledPeer I D S M N) (x : ChannelUse) → UseStands m written read p x → (s : ℕ)
+      → x.stream ≡ Some s → IsPrefix x.sent (contents_of (messages_of s x.generation written))
+  use_first written read p x h s of = by x.rolled_back refl
+    where
+      some_is : (n k : ℕ) → Some n ≡ Some k → n ≡ k
+      some_is n k e = cc
+
+      told : UseTold m written read p x.channel x.stream x.generation x.sent x.got → IsPrefix x.sent (contents_of (messages_of s x.generation written))
+      told t =
+          prefix_same x.sent (contents_of (messages_of s x.generation written))
+          (sym t.sent_is ∙ ap (λ (n : ℕ). contents_of (messages_of n x.generation written)) (some_is t.stream s (sym t.stream_is ∙ of)))
+
+      by : (b : Bool) → x.rolled_back ≡ b → IsPrefix x.sent (contents_of (messages_of s x.generation written))
+      by true e = (h.undone e).first s of
+      by false e = told (h.kept e)
+
 module _ {I D S M E X T W N : Type 0} (m : Meanings I D S M E X T W N) (w : AssociationLaws m.association) (v : GenerationLaws m.association)
     (p q : PolledPeer I D S M N) (came : Came) (moments : List ℕ) (shown : List (List ℕ)) (did : PeerDid m came moments shown [] [] p q)
     (leaves : CallLeavesStreams m p [] q) (numbers : AreNumberedChannels p.core.channels) (written read : List StreamMessage) (x : ChannelUse)
@@ -123,6 +143,7 @@ module _ {I D S M E X T W N : Type 0} (m : Meanings I D S M E X T W N) (w : Asso
     kept = λ e. absurd (true≢false e);
     undone = λ e. record {
       opened = opened_on m written [] read [] x.stream x.generation x.got (use_opened m written read p x (h band));
+      first = λ s is. first_more s x.generation x.sent written [] (use_first m written read p x (h band) s is);
       gone = lost_gone x.channel p.core.channels q.core.channels numbers.1 leaves.given lost;
     };
   }
@@ -133,7 +154,7 @@ module _ {I D S M E X T W N : Type 0} (m : Meanings I D S M E X T W N) (w : Asso
         let t = (h band).kept e in
         told_on m written [] read [] p q x.channel x.stream x.generation x.sent x.sent x.got x.got t
         (nothing_more m x.sent (messages_of t.stream x.generation []) refl) (stands t.stream t.rest t.stands);
-    undone = λ e. undone_on m written [] read [] p q x.channel x.stream x.generation x.got (leaves.gone x.channel) ((h band).undone e);
+    undone = λ e. undone_on m written [] read [] p q x.channel x.stream x.generation x.sent x.got (leaves.gone x.channel) ((h band).undone e);
   }
     where
       live : (s : ℕ) (rest : List StreamMessage) → IsLiveChannel x.channel s x.generation p → x.got ≡ contents_of rest

@@ -3,6 +3,7 @@ use Rattle.std.proofs.Common.{◌≡◌, ◌∙◌, ◌∷◌, if◌then◌else�
 use Rattle.rtc_parts.specs.Among.{Among}
 use Rattle.rtc_parts.proofs.AmongLemmas.{among_none}
 use Rattle.rtc_parts.specs.DtlsWords.{dtls_got}
+use Rattle.rtc_assoc.specs.Unread.{IsPrefix}
 use Rattle.rtc_assoc_state.specs.Contents.{Contents}
 use Rattle.rtc_assoc_state.specs.PlainMeaning.{plain_meaning}
 use Rattle.rtc_plain_dtls.specs.Contents.{DtlsContents}
@@ -36,13 +37,14 @@ use Rattle.rtc_run_laws.proofs.NewPeers.{new_built, nothing_sent}
 use Rattle.rtc_run_laws.proofs.RunsExchange.{side_all, side_reads}
 use Rattle.rtc_run_laws.specs.AnnouncedOnce.{AreAnnouncedOnce}
 use Rattle.rtc_run_laws.specs.ChannelUses.{ChannelUse}
-use Rattle.rtc_run_laws.specs.HandedOut.{AreHandedOut, AreHandedOver, AreSentWhole, AreToldWhole, AreWhollyHandedOut}
+use Rattle.rtc_run_laws.specs.HandedOut.{AreHandedOut, AreHandedOver, AreSentFirst, AreSentWhole, AreToldWhole, AreWhollyHandedOut}
 use Rattle.rtc_run_laws.specs.PollsOfRuns.{by_step}
 use Rattle.rtc_run_laws.specs.SentMessages.{sent_acted, sent_over}
 use Rattle.rtc_run_laws.specs.ToldMessages.{MessagesTold, told_over, told_shown}
 use Rattle.rtc_run_laws.specs.UsesOfRuns.{uses_acted, uses_of}
 use Rattle.rtc_run_laws.proofs.AllHanded.{all_handed}
 use Rattle.rtc_run_laws.proofs.GotAndSent.{handed, handed_over, told_whole}
+use Rattle.rtc_run_laws.proofs.RolledUses.{use_first}
 use Rattle.rtc_run_laws.proofs.SidesTold.{SideTold}
 use Rattle.rtc_run_laws.proofs.UseLists.{all_member}
 use Rattle.rtc_run_laws.proofs.UsesTold.{InBandTold}
@@ -245,6 +247,19 @@ module _ {N : Type 0} (draws : Draws N) where
       → AreSentWhole (uses at) (sent at)
   pair_whole pair uses sent told Left h = side_whole h.acts.left (uses Left) (sent Left) (told Left) pair.left h.left
   pair_whole pair uses sent told Right h = side_whole h.acts.right (uses Right) (sent Right) (told Right) pair.right h.right
+
+  -- or the first of that, if a rollback removed the channel
+  side_first : (acts : PeerActs) (uses : List ChannelUse) (sent : Sent) (told : MessagesTold) (p : PlainPolled N) → SideSent draws acts uses sent told p
+      → AreSentFirst uses sent
+  side_first acts uses sent told p h = λ x mine band s of.
+      subst (λ (l : List (Bool × List ℕ)). IsPrefix x.sent l) (h.sent_is s x.generation)
+      (use_first (plain_over draws) h.side.written h.side.read p x
+      (all_member (InBandTold (plain_over draws) h.side.written h.side.read p) uses x h.side.told.each mine band) s of)
+
+  pub pair_first : (pair : PlainPair N) (uses : Side → List ChannelUse) (sent : Side → Sent) (told : Side → MessagesTold) (at : Side) → PairTold draws pair uses sent told
+      → AreSentFirst (uses at) (sent at)
+  pair_first pair uses sent told Left h = side_first h.acts.left (uses Left) (sent Left) (told Left) pair.left h.left
+  pair_first pair uses sent told Right h = side_first h.acts.right (uses Right) (sent Right) (told Right) pair.right h.right
 
   -- and what was told of one is what it got
   pub pair_told_whole : (pair : PlainPair N) (uses : Side → List ChannelUse) (sent : Side → Sent) (told : Side → MessagesTold) (at : Side) → PairTold draws pair uses sent told

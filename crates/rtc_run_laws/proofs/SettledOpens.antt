@@ -35,7 +35,7 @@ module _ {N : Type 0} (draws : Draws N) where
 
   pub side_open : (a b : PeerActs) (us vs : List ChannelUse) (p q : PlainPolled N) → SideStood draws a us p → SideStood draws b vs q
       → IsSettledPeer p → IsSettledPeer q → AreHeard plain_meaning p.core.sctp.association p.core.sctp.entries
-      → AreHeard plain_meaning q.core.sctp.association q.core.sctp.entries → AreAllHandedOut draws (λ channel. Unit {0}) us p vs q → AreAllHandedOut draws (λ channel. Unit {0}) vs q us p
+      → AreHeard plain_meaning q.core.sctp.association q.core.sctp.entries → AreAllHandedOut draws (Unit {0}) us p vs q → AreAllHandedOut draws (Unit {0}) vs q us p
       → ((s g : ℕ) → IsPrefix (read s g a.association) (written s g b.association))
       → ((s g : ℕ) → ended s g a.association ≡ false → ended s g b.association ≡ false
       → has_unacknowledged s p.core.sctp.association.outbox.items ≡ false

@@ -8,7 +8,8 @@ use Rattle.rtc_sctp.specs.Calls.{is_nil, written_ppi}
 use Rattle.rtc_sctp_laws.specs.StreamMessages.{StreamMessage, HaveNamedPpis, stream_message}
 use Rattle.rtc_sctp_laws.specs.StreamUses.{is_of_generation, messages_of}
 use Rattle.rtc_sctp_laws.specs.Contents.{contents_by, contents_of, numbered_message}
-use Rattle.rtc_sctp_laws.proofs.ContentLemmas.{contents_by-append}
+use Rattle.rtc_sctp_laws.proofs.ContentLemmas.{contents-append, contents_by-append}
+use Rattle.rtc_sctp_laws.proofs.GenerationMessages.{messages-append}
 use Rattle.rtc_run_laws.specs.ChannelUses.{ChannelUse, loses_channel, with_got_message, with_rolled_back, with_sent_message}
 
 -- ---- prefixes
@@ -18,6 +19,14 @@ prefix_same xs ys h = record { rest = []; is = append-nil xs ∙ h }
 
 pub prefix_more : {A : Type 0} (xs ys more : List A) → IsPrefix xs ys → IsPrefix xs (ys ++ more)
 prefix_more xs ys more h = record { rest = h.rest ++ more; is = sym (append_assoc xs h.rest more) ∙ ap (λ l. l ++ more) h.is }
+
+-- what begins the contents of the messages of a generation begins them too if there are more
+pub first_more : (s g : ℕ) (sent : List (Bool × List ℕ)) (written wrote : List StreamMessage) → IsPrefix sent (contents_of (messages_of s g written))
+    → IsPrefix sent (contents_of (messages_of s g (written ++ wrote)))
+first_more s g sent written wrote h =
+    subst (λ (l : List (Bool × List ℕ)). IsPrefix sent l)
+    (sym (ap contents_of (messages-append s g written wrote) ∙ contents-append (messages_of s g written) (messages_of s g wrote)))
+    (prefix_more sent (contents_of (messages_of s g written)) (contents_of (messages_of s g wrote)) h)
 
 pub prefix_through : {A : Type 0} (xs ys zs : List A) → IsPrefix xs ys → IsPrefix ys zs → IsPrefix xs zs
 prefix_through xs ys zs h k = record {

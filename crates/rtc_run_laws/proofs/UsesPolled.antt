@@ -190,7 +190,7 @@ module _ {I D S M E X T W N : Type 0} (m : Meanings I D S M E X T W N) (w : Asso
           (still_stands x.channel t.stream x.generation x.got t.rest (begun_on x.channel x.stream x.generation x.sent x.got t)
           (λ live. none t.stream x.generation live) t.stands);
       undone = λ e.
-          undone_on m written acts.wrote read acts.heard p q x.channel x.stream x.generation x.got (acts.streams.gone x.channel)
+          undone_on m written acts.wrote read acts.heard p q x.channel x.stream x.generation x.sent x.got (acts.streams.gone x.channel)
           ((told band).undone e);
     }
 

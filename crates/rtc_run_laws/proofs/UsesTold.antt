@@ -25,7 +25,7 @@ use Rattle.rtc_peer_laws.specs.KeptChannels.{CallKeepsStreams}
 use Rattle.rtc_peer_laws.proofs.KeptPeers.{channel_writes_own}
 use Rattle.rtc_run_laws.specs.ChannelUses.{ChannelUse}
 use Rattle.rtc_run_laws.proofs.RowLemmas.{one_over}
-use Rattle.rtc_run_laws.proofs.UseLists.{none_numbered, prefix_more, prefix_same, written_carries}
+use Rattle.rtc_run_laws.proofs.UseLists.{first_more, none_numbered, prefix_more, prefix_same, written_carries}
 
 -- The message that opened a channel, behind what opens none; what the channel got is a prefix of what was read behind it.
 pub record UseOpened (written read : List StreamMessage) (of : Option ℕ) (g : ℕ) (got : List (Bool × List ℕ)) : Type 0 where
@@ -64,16 +64,17 @@ module _ {I D S M E X T W N : Type 0} (m : Meanings I D S M E X T W N) where
     pub none_before : any_dcep before ≡ false
     pub stands : StandsSo c stream g got rest p
 
-  -- a rollback removed the channel
-  pub record UndoneTold (written read : List StreamMessage) (p : PolledPeer I D S M N) (c : ℕ) (of : Option ℕ) (g : ℕ) (got : List (Bool × List ℕ))
-      : Type 0 where
+  -- a rollback removed the channel: what was sent over it is the first that was written to its generation
+  pub record UndoneTold (written read : List StreamMessage) (p : PolledPeer I D S M N) (c : ℕ) (of : Option ℕ) (g : ℕ)
+      (sent got : List (Bool × List ℕ)) : Type 0 where
     pub opened : UseOpened written read of g got
+    pub first : (s : ℕ) → of ≡ Some s → IsPrefix sent (contents_of (messages_of s g written))
     pub gone : IsGone c p.core.channels
 
   -- of a channel that was rolled back, and of one that was not
   pub record UseStands (written read : List StreamMessage) (p : PolledPeer I D S M N) (x : ChannelUse) : Type 0 where
     pub kept : x.rolled_back ≡ false → UseTold written read p x.channel x.stream x.generation x.sent x.got
-    pub undone : x.rolled_back ≡ true → UndoneTold written read p x.channel x.stream x.generation x.got
+    pub undone : x.rolled_back ≡ true → UndoneTold written read p x.channel x.stream x.generation x.sent x.got
 
   -- the use of each stream, unless the peer is closed
   abbrev pub UsedUnlessClosed : (written read : List StreamMessage) → PolledPeer I D S M N → Type 0
@@ -138,11 +139,14 @@ module _ {I D S M E X T W N : Type 0} (m : Meanings I D S M E X T W N) where
     prefix = more_read got t.rest (messages_of t.stream g heard) t.prefix;
   }
 
-  pub undone_on : (written wrote read heard : List StreamMessage) (p q : PolledPeer I D S M N) (c : ℕ) (of : Option ℕ) (g : ℕ) (got : List (Bool × List ℕ))
-      → (IsGone c p.core.channels → IsGone c q.core.channels) → UndoneTold written read p c of g got
-      → UndoneTold (written ++ wrote) (read ++ heard) q c of g got
-  undone_on written wrote read heard p q c of g got goes t =
-      record { opened = opened_on written wrote read heard of g got t.opened; gone = goes t.gone }
+  pub undone_on : (written wrote read heard : List StreamMessage) (p q : PolledPeer I D S M N) (c : ℕ) (of : Option ℕ) (g : ℕ)
+      (sent got : List (Bool × List ℕ)) → (IsGone c p.core.channels → IsGone c q.core.channels) → UndoneTold written read p c of g sent got
+      → UndoneTold (written ++ wrote) (read ++ heard) q c of g sent got
+  undone_on written wrote read heard p q c of g sent got goes t = record {
+    opened = opened_on written wrote read heard of g got t.opened;
+    first = λ s is. first_more s g sent written wrote (t.first s is);
+    gone = goes t.gone;
+  }
 
   pub told_on : (written wrote read heard : List StreamMessage) (p q : PolledPeer I D S M N) (c : ℕ) (of : Option ℕ) (g : ℕ)
       (sent sent' got got' : List (Bool × List ℕ)) (t : UseTold written read p c of g sent got)
@@ -202,7 +206,7 @@ module _ {I D S M E X T W N : Type 0} (m : Meanings I D S M E X T W N) where
           call_told written read x.channel x.stream x.generation x.sent x.sent x.got t
           (nothing_more x.sent (messages_of t.stream x.generation wrote) (ap (messages_of t.stream x.generation) none));
       undone = λ e.
-          undone_on written wrote read [] p q x.channel x.stream x.generation x.got (keeps.gone x.channel) ((h band).undone e);
+          undone_on written wrote read [] p q x.channel x.stream x.generation x.sent x.got (keeps.gone x.channel) ((h band).undone e);
     }
 
     -- nothing is written to a generation that is past
@@ -217,6 +221,14 @@ module _ {I D S M E X T W N : Type 0} (m : Meanings I D S M E X T W N) where
         (writes : WritesChannel m stream binary bytes p (Ok true) q) (free : p.core.phase ≡ Closed → ⊥)
         (is : wrote ≡ stream_message stream (m.association.generation p.core.sctp.association stream) (written_ppi binary (is_nil bytes)) bytes ∷ [])
       where
+        -- it has not gone
+        not_gone : (c : ℕ) → (c == id) ≡ true → IsGone c p.core.channels → ⊥
+        not_gone c e gone =
+            none_some (sym (none_under id p.core.channels.rows (subst (λ (n : ℕ). IsGone n p.core.channels) (eqb-true c id e) gone).1) ∙ placed)
+          where
+            none_some : None ≡ Some stream → ⊥
+            none_some f = cc
+
         own_written : (c s g : ℕ) (got : List (Bool × List ℕ)) (rest : List StreamMessage) → StandsSo c s g got rest p → (c == id) ≡ true
             → contents_of (messages_of s g wrote) ≡ (binary, bytes) ∷ []
         own_written c s g got rest (Lives live k) e =
@@ -237,11 +249,7 @@ module _ {I D S M E X T W N : Type 0} (m : Meanings I D S M E X T W N) where
                 ∙ ap (λ (n : ℕ). contents_of (messages_of stream n (stream_message stream (m.association.generation p.core.sctp.association stream) (written_ppi binary (is_nil bytes)) bytes ∷ []))) (sym own)
                 ∙ ap contents_of (messages_one stream (m.association.generation p.core.sctp.association stream) (written_ppi binary (is_nil bytes)) bytes)
                 ∙ written_carries stream (m.association.generation p.core.sctp.association stream) binary bytes
-        own_written c s g got rest (HasGone gone past k) e =
-            absurd (none_some (sym (none_under id p.core.channels.rows (subst (λ (n : ℕ). IsGone n p.core.channels) (eqb-true c id e) gone).1) ∙ placed))
-          where
-            none_some : None ≡ Some stream → ⊥
-            none_some f = cc
+        own_written c s g got rest (HasGone gone past k) e = absurd (not_gone c e gone)
         own_written c s g got rest (IsOver closed k) e = absurd (free closed)
 
         other_written : (c s g : ℕ) (got : List (Bool × List ℕ)) (rest : List StreamMessage) → StandsSo c s g got rest p → (c == id) ≡ false
@@ -263,8 +271,7 @@ module _ {I D S M E X T W N : Type 0} (m : Meanings I D S M E X T W N) where
               let t = (h band).kept f in
               call_told written read x.channel x.stream x.generation x.sent (x.sent ++ (binary, bytes) ∷ []) x.got t
               (ap (λ (l : List (Bool × List ℕ)). x.sent ++ l) (own_written x.channel t.stream x.generation x.got t.rest t.stands e));
-          undone = λ f.
-              undone_on written wrote read [] p q x.channel x.stream x.generation x.got (keeps.gone x.channel) ((h band).undone f);
+          undone = λ f. absurd (not_gone x.channel e ((h band).undone f).gone);
         }
 
         pub other_told : (written read : List StreamMessage) (x : ChannelUse) → (x.channel == id) ≡ false → InBandTold written read p x
@@ -275,5 +282,5 @@ module _ {I D S M E X T W N : Type 0} (m : Meanings I D S M E X T W N) where
               call_told written read x.channel x.stream x.generation x.sent x.sent x.got t
               (nothing_more x.sent (messages_of t.stream x.generation wrote) (other_written x.channel t.stream x.generation x.got t.rest t.stands e));
           undone = λ f.
-              undone_on written wrote read [] p q x.channel x.stream x.generation x.got (keeps.gone x.channel) ((h band).undone f);
+              undone_on written wrote read [] p q x.channel x.stream x.generation x.sent x.got (keeps.gone x.channel) ((h band).undone f);
         }

@@ -17,7 +17,7 @@ use Rattle.rtc_run_history.specs.declared.step.Step.{Step}
 use Rattle.rtc_run_history.specs.PairState.{rtc_at}
 use Rattle.rtc_run_history.specs.Runs.{Runs}
 use Rattle.rtc_run_laws.specs.ChannelUses.{ChannelUse}
-use Rattle.rtc_run_laws.specs.Delivered.{AreDelivering}
+use Rattle.rtc_run_laws.specs.Delivered.{AreDelivering, AreDeliveringKept}
 use Rattle.rtc_run_laws.specs.PlainPairs.{PlainPair, PlainPolled, plain_over}
 use Rattle.rtc_run_laws.specs.SentMessages.{sent_over}
 use Rattle.rtc_run_laws.specs.UsesOfRuns.{reached_by, uses_in_run}
@@ -57,8 +57,9 @@ AreAcknowledged draws uses sent p =
     → bytes_buffered (plain_over draws) s p ≡ 0
     → has_unacknowledged_data s x.generation p.core.sctp.association.outbox.items ≡ false
 
--- If both sides announced a channel over the same generation and neither closed it, the reader's channel is open and was drained, and the
--- last message that the writer sent over its own is not empty, then a buffered amount of 0 says that the reader got all that was sent.
+-- If both sides announced a channel over the same generation and neither closed it, the reader's channel is open and was drained, that of
+-- the writer was not rolled back, and the last message that was sent over it is not empty, then a buffered amount of 0 says that the reader
+-- got all that was sent over it.
 abbrev pub AreDeliveredByAmount : {N : Type 0} → Draws N → (drained : Type 0) → (readers : List ChannelUse) → PlainPolled N
     → (writers : List ChannelUse) → PlainPolled N → Type 0
 AreDeliveredByAmount draws drained readers p writers q =
@@ -66,10 +67,23 @@ AreDeliveredByAmount draws drained readers p writers q =
     → Member x readers
     → Member y writers
     → drained
-    → (h : AreDelivering x p y q)
+    → (h : AreDeliveringKept x p y q)
     → ends_with_bytes y.sent ≡ true
-    → bytes_buffered (plain_over draws) h.writer.stream q ≡ 0
+    → bytes_buffered (plain_over draws) h.over.writer.stream q ≡ 0
     → x.got ≡ y.sent
+
+-- The same of all that the side of the writer ever sent to the generation, whether or not the channel was rolled back.
+abbrev pub AreDeliveredOverByAmount : {N : Type 0} → Draws N → (drained : Type 0) → (readers : List ChannelUse) → PlainPolled N
+    → (writers : List ChannelUse) → PlainPolled N → (sent : ℕ → ℕ → List (Bool × List ℕ)) → Type 0
+AreDeliveredOverByAmount draws drained readers p writers q sent =
+    (x y : ChannelUse)
+    → Member x readers
+    → Member y writers
+    → drained
+    → (h : AreDelivering x p y q)
+    → ends_with_bytes (sent h.reader.stream x.generation) ≡ true
+    → bytes_buffered (plain_over draws) h.writer.stream q ≡ 0
+    → x.got ≡ sent h.reader.stream x.generation
 
 -- A side's own data is acknowledged so at both sides behind a run by these steps with these replies.
 abbrev pub AcknowledgesData : {N : Type 0} (draws : Draws N) (stun : List ℕ → Bool) (start : PlainPair N) (steps : List Step)

@@ -15,7 +15,7 @@ use Rattle.rtc_run_history.specs.Sides.{other_side}
 use Rattle.rtc_run_laws.specs.PlainPairs.{PlainPair, PlainPolled, plain_over}
 use Rattle.rtc_run_laws.specs.AnnouncedOnce.{AreAnnouncedOnce}
 use Rattle.rtc_run_laws.specs.ChannelUses.{ChannelUse}
-use Rattle.rtc_run_laws.specs.Delivered.{AreAllDelivered}
+use Rattle.rtc_run_laws.specs.Delivered.{AreAllDelivered, AreAllDeliveredOver}
 use Rattle.rtc_run_laws.specs.InBandSteps.{AreInBandSteps}
 use Rattle.rtc_run_laws.specs.OpenUses.{AreJoinedUses}
 use Rattle.rtc_run_laws.specs.SideDrains.{IsSideDrained}
@@ -60,6 +60,17 @@ AreSentWhole uses sent =
     → x.stream ≡ Some s
     → sent s x.generation ≡ x.sent
 
+-- Whether or not it was rolled back: what was sent over it is the first that its side ever sent to that generation. More went over another
+-- channel, once this one was removed.
+abbrev pub AreSentFirst : List ChannelUse → (sent : ℕ → ℕ → List (Bool × List ℕ)) → Type 0
+AreSentFirst uses sent =
+    (x : ChannelUse)
+    → Member x uses
+    → x.in_band ≡ true
+    → (s : ℕ)
+    → x.stream ≡ Some s
+    → IsPrefix x.sent (sent s x.generation)
+
 -- If two channels were opened in-band over one generation of one stream, what the one got since it was announced is all that was ever
 -- reported to its side of it while it had that stream in that generation: nothing was before.
 abbrev pub AreToldWhole : (readers writers : List ChannelUse) → MessagesTold → Type 0
@@ -75,15 +86,15 @@ AreToldWhole readers writers told =
     → x.generation ≡ y.generation
     → told x.channel s x.generation ≡ x.got
 
--- If two such channels stay open at both sides, the reader was drained for its own, and the writer has no unacknowledged item of the
--- stream, all was got that was sent.
-abbrev pub AreAllHandedOut : {N : Type 0} → Draws N → (drained : ℕ → Type 0) → (readers : List ChannelUse) → PlainPolled N
+-- If two such channels stay open at both sides, the reader was drained, and the writer has no unacknowledged item of the stream, all was
+-- got that was sent.
+abbrev pub AreAllHandedOut : {N : Type 0} → Draws N → (drained : Type 0) → (readers : List ChannelUse) → PlainPolled N
     → (writers : List ChannelUse) → PlainPolled N → Type 0
 AreAllHandedOut draws drained readers p writers q =
     (x y : ChannelUse)
     → Member x readers
     → Member y writers
-    → drained x.channel
+    → drained
     → (h : AreJoinedUses (plain_over draws) x p y q)
     → has_unacknowledged h.writer.stream q.core.sctp.association.outbox.items ≡ false
     → x.got ≡ y.sent
@@ -112,6 +123,9 @@ pub record HandsOut {N : Type 0} (draws : Draws N) (stun : List ℕ → Bool) (s
   pub whole : (at : Side)
       → AreSentWhole (uses_in_run (plain_over draws) stun start steps replies pair run at)
       (sent_over (plain_over draws) stun start at run.past pair (reached_by (plain_over draws) stun start run.past pair run.went))
+  pub first : (at : Side)
+      → AreSentFirst (uses_in_run (plain_over draws) stun start steps replies pair run at)
+      (sent_over (plain_over draws) stun start at run.past pair (reached_by (plain_over draws) stun start run.past pair run.went))
   pub told : (at : Side)
       → AreToldWhole (uses_in_run (plain_over draws) stun start steps replies pair run at)
       (uses_in_run (plain_over draws) stun start steps replies pair run (other_side at))
@@ -128,13 +142,19 @@ pub record HandsOut {N : Type 0} (draws : Draws N) (stun : List ℕ → Bool) (s
       → AreWhollyHandedOut draws (uses_in_run (plain_over draws) stun start steps replies pair run at) (rtc_at at pair)
       (uses_in_run (plain_over draws) stun start steps replies pair run (other_side at)) (rtc_at (other_side at) pair)
   pub drained : (at : Side)
-      → AreAllHandedOut draws (λ channel. IsSideDrained at run.past)
+      → AreAllHandedOut draws (IsSideDrained at run.past)
       (uses_in_run (plain_over draws) stun start steps replies pair run at) (rtc_at at pair)
       (uses_in_run (plain_over draws) stun start steps replies pair run (other_side at)) (rtc_at (other_side at) pair)
   pub delivered : (at : Side)
       → AreAllDelivered (IsSideDrained at run.past)
       (uses_in_run (plain_over draws) stun start steps replies pair run at) (rtc_at at pair)
       (uses_in_run (plain_over draws) stun start steps replies pair run (other_side at)) (rtc_at (other_side at) pair)
+  pub delivered_over : (at : Side)
+      → AreAllDeliveredOver (IsSideDrained at run.past)
+      (uses_in_run (plain_over draws) stun start steps replies pair run at) (rtc_at at pair)
+      (uses_in_run (plain_over draws) stun start steps replies pair run (other_side at)) (rtc_at (other_side at) pair)
+      (sent_over (plain_over draws) stun start (other_side at) run.past pair
+      (reached_by (plain_over draws) stun start run.past pair run.went))
   pub unsent : (at : Side)
       → AreToldOfSent
       (sent_over (plain_over draws) stun start (other_side at) run.past pair

@@ -10,7 +10,6 @@ pub mod OpenUses
 pub mod SentMessages
 pub mod ToldMessages
 pub mod CalledSteps
-pub mod DrainedSides
 pub mod ConfirmedChannels
 pub mod StillPairs
 pub mod OwnOpenings

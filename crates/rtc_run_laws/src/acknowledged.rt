@@ -10,6 +10,7 @@ ghost use Rattle.rtc_run_history.specs.Native.{are_native};
 ghost use Rattle.rtc_run_history.specs.Runs.{Reached, Runs};
 ghost use Rattle.rtc_run_history.specs.Sides.{other_side};
 ghost use Rattle.rtc_run_laws.specs.AcknowledgedData.{AcknowledgesData, AreAcknowledged, AreDeliveredByAmount};
+ghost use Rattle.rtc_run_laws.specs.AcknowledgedData.{AreDeliveredOverByAmount};
 ghost use Rattle.rtc_run_laws.specs.SideDrains.{IsSideDrained};
 ghost use Rattle.rtc_run_laws.specs.NewPairs.{IsNewPair};
 ghost use Rattle.rtc_run_laws.specs.PlainPairs.{PlainPair, plain_over};
@@ -23,7 +24,8 @@ use rtc_parts::Ids;
 /// unacknowledged. An empty message counts 0.
 ///
 /// If, besides, the other side announced a channel over the same generation, which is open, a poll of it returned a timeout since its last
-/// input, and neither side closed the generation, it received all that was sent over that of the writer, if no rollback removed it.
+/// input, and neither side closed the generation, it received all that the writer ever sent to the generation. That is what was sent over
+/// the writer's channel, if no rollback removed it.
 ///
 /// No step brings in a text or bytes of anybody.
 pub fn sent_messages_are_acknowledged<N: Ids>()
@@ -36,6 +38,12 @@ pub fn sent_messages_are_acknowledged<N: Ids>()
         → AreDeliveredByAmount N.ids (IsSideDrained at past)
         (uses_of (plain_over N.ids) stun start at past pair ran) (rtc_at at pair)
         (uses_of (plain_over N.ids) stun start (other_side at) past pair ran) (rtc_at (other_side at) pair) }
+    ensures delivered_over { (stun : List ℕ → Bool) (start pair : PlainPair N) (past : List (Entry PlainMediaEvent)) → IsNewPair N.ids start
+        → are_native (steps_of past) ≡ true → (ran : Reached (plain_over N.ids) stun start past pair) → (at : Side)
+        → AreDeliveredOverByAmount N.ids (IsSideDrained at past)
+        (uses_of (plain_over N.ids) stun start at past pair ran) (rtc_at at pair)
+        (uses_of (plain_over N.ids) stun start (other_side at) past pair ran) (rtc_at (other_side at) pair)
+        (sent_over (plain_over N.ids) stun start (other_side at) past pair ran) }
     ensures ran { (stun : List ℕ → Bool) (start pair : PlainPair N) (steps : List Step) (replies : List (Reply PlainMediaEvent))
         → IsNewPair N.ids start → are_native steps ≡ true → (run : Runs (plain_over N.ids) stun start steps replies pair)
         → AcknowledgesData N.ids stun start steps replies pair run }

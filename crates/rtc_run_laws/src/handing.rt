@@ -12,8 +12,8 @@ ghost use Rattle.rtc_run_history.specs.Sides.{other_side};
 ghost use Rattle.rtc_run_laws.specs.NewPairs.{IsNewPair};
 ghost use Rattle.rtc_run_laws.specs.PlainPairs.{PlainPair, plain_over};
 ghost use Rattle.rtc_run_laws.specs.AnnouncedOnce.{AreAnnouncedOnce};
-ghost use Rattle.rtc_run_laws.specs.Delivered.{AreAllDelivered};
-ghost use Rattle.rtc_run_laws.specs.HandedOut.{AreAllHandedOut, AreHandedOut, AreHandedOver, AreSentWhole, AreToldWhole};
+ghost use Rattle.rtc_run_laws.specs.Delivered.{AreAllDelivered, AreAllDeliveredOver};
+ghost use Rattle.rtc_run_laws.specs.HandedOut.{AreAllHandedOut, AreHandedOut, AreHandedOver, AreSentFirst, AreSentWhole, AreToldWhole};
 ghost use Rattle.rtc_run_laws.specs.HandedOut.{AreWhollyHandedOut, HandsOut};
 ghost use Rattle.rtc_run_laws.specs.SideDrains.{IsSideDrained};
 ghost use Rattle.rtc_run_laws.specs.SentMessages.{sent_over};
@@ -24,13 +24,13 @@ use rtc_parts::Ids;
 
 /// Whatever datagrams a run of two peers loses, repeats or reorders, of channels that were opened in-band:
 ///
-/// - Each side announces each once, and at most one over each generation of a stream. If no rollback removed it, it sent nothing to that
-///   generation before.
+/// - Each side announces each once, and at most one over each generation of a stream. What it sent over it is the first that it ever sent
+///   to that generation, and all of that if no rollback removed the channel.
 /// - If both sides announced one over the same generation of the same stream, what one received over its own is all that was reported to
 ///   it of that generation, and a prefix of all that the other sent to that generation, by whatever channel. If no rollback removed that
 ///   of the other, it is a prefix of what the other sent over its own.
-/// - It is all of that if neither side closed the generation, the writer has no unacknowledged item of the stream, and the channel of the
-///   reader is open and its side was drained: a poll of it returned a timeout since its last input.
+/// - In both cases it is all of that if neither side closed the generation, the writer has no unacknowledged item of the stream, and the
+///   channel of the reader is open and its side was drained: a poll of it returned a timeout since its last input.
 /// - So it is if both channels stay open, all is acknowledged, and the reader has no whole message of the generation unread.
 ///
 /// A rollback removes the channels of its offer, also one whose stream was negotiated out-of-band and which the other side opened in-band
@@ -54,6 +54,10 @@ pub fn channels_hand_out_prefixes<N: Ids>()
         → are_native (steps_of past) ≡ true → (ran : Reached (plain_over N.ids) stun start past pair) → (at : Side)
         → AreSentWhole (uses_of (plain_over N.ids) stun start at past pair ran)
         (sent_over (plain_over N.ids) stun start at past pair ran) }
+    ensures first { (stun : List ℕ → Bool) (start pair : PlainPair N) (past : List (Entry PlainMediaEvent)) → IsNewPair N.ids start
+        → are_native (steps_of past) ≡ true → (ran : Reached (plain_over N.ids) stun start past pair) → (at : Side)
+        → AreSentFirst (uses_of (plain_over N.ids) stun start at past pair ran)
+        (sent_over (plain_over N.ids) stun start at past pair ran) }
     ensures told { (stun : List ℕ → Bool) (start pair : PlainPair N) (past : List (Entry PlainMediaEvent)) → IsNewPair N.ids start
         → are_native (steps_of past) ≡ true → (ran : Reached (plain_over N.ids) stun start past pair) → (at : Side)
         → AreToldWhole (uses_of (plain_over N.ids) stun start at past pair ran)
@@ -65,13 +69,18 @@ pub fn channels_hand_out_prefixes<N: Ids>()
         (uses_of (plain_over N.ids) stun start (other_side at) past pair ran) (rtc_at (other_side at) pair) }
     ensures drained { (stun : List ℕ → Bool) (start pair : PlainPair N) (past : List (Entry PlainMediaEvent)) → IsNewPair N.ids start
         → are_native (steps_of past) ≡ true → (ran : Reached (plain_over N.ids) stun start past pair) → (at : Side)
-        → AreAllHandedOut N.ids (λ channel. IsSideDrained at past)
+        → AreAllHandedOut N.ids (IsSideDrained at past)
         (uses_of (plain_over N.ids) stun start at past pair ran) (rtc_at at pair)
         (uses_of (plain_over N.ids) stun start (other_side at) past pair ran) (rtc_at (other_side at) pair) }
     ensures delivered { (stun : List ℕ → Bool) (start pair : PlainPair N) (past : List (Entry PlainMediaEvent)) → IsNewPair N.ids start
         → are_native (steps_of past) ≡ true → (ran : Reached (plain_over N.ids) stun start past pair) → (at : Side)
         → AreAllDelivered (IsSideDrained at past) (uses_of (plain_over N.ids) stun start at past pair ran) (rtc_at at pair)
         (uses_of (plain_over N.ids) stun start (other_side at) past pair ran) (rtc_at (other_side at) pair) }
+    ensures delivered_over { (stun : List ℕ → Bool) (start pair : PlainPair N) (past : List (Entry PlainMediaEvent)) → IsNewPair N.ids start
+        → are_native (steps_of past) ≡ true → (ran : Reached (plain_over N.ids) stun start past pair) → (at : Side)
+        → AreAllDeliveredOver (IsSideDrained at past) (uses_of (plain_over N.ids) stun start at past pair ran) (rtc_at at pair)
+        (uses_of (plain_over N.ids) stun start (other_side at) past pair ran) (rtc_at (other_side at) pair)
+        (sent_over (plain_over N.ids) stun start (other_side at) past pair ran) }
     ensures ran { (stun : List ℕ → Bool) (start pair : PlainPair N) (steps : List Step) (replies : List (Reply PlainMediaEvent))
         → IsNewPair N.ids start → are_native steps ≡ true → (run : Runs (plain_over N.ids) stun start steps replies pair)
         → HandsOut N.ids stun start steps replies pair run }

@@ -1,4 +1,4 @@
-use Rattle.rtc_run_laws.proofs.AcknowledgedSides.{run_acknowledged, run_acknowledges, run_amounts}
+use Rattle.rtc_run_laws.proofs.AcknowledgedSides.{run_acknowledged, run_acknowledges, run_amounts, run_amounts_over}
 use Rattle.rtc_run_laws.proofs.acknowledged.sent_messages_are_acknowledged.Goals as goal
 
 pub returns-clause-reached : goal.returns-clause-reached
@@ -6,6 +6,9 @@ returns-clause-reached g c = λ stun start pair past new go ran at. run_acknowle
 
 pub returns-clause-delivered : goal.returns-clause-delivered
 returns-clause-delivered g c = λ stun start pair past new go ran at. run_amounts g.N.Ids.ids stun start new past pair go ran at
+
+pub returns-clause-delivered_over : goal.returns-clause-delivered_over
+returns-clause-delivered_over g c = λ stun start pair past new go ran at. run_amounts_over g.N.Ids.ids stun start new past pair go ran at
 
 pub returns-clause-ran : goal.returns-clause-ran
 returns-clause-ran g c = λ stun start pair steps replies new go run. run_acknowledges g.N.Ids.ids stun start pair steps replies new go run

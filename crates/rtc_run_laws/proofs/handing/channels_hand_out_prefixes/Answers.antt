@@ -3,8 +3,8 @@ use Rattle.rtc_run_laws.specs.SentMessages.{sent_over}
 use Rattle.rtc_run_laws.specs.ToldMessages.{told_over}
 use Rattle.rtc_run_laws.specs.UsesOfRuns.{uses_of}
 use Rattle.rtc_run_laws.proofs.HandsRuns.{run_hands_out}
-use Rattle.rtc_run_laws.proofs.RestedRuns.{run_delivered, run_drained}
-use Rattle.rtc_run_laws.proofs.RunsTold.{new_pair_told, pair_handed, pair_handed_over, pair_once, pair_told_whole, pair_whole, pair_wholly, reached_told}
+use Rattle.rtc_run_laws.proofs.RestedRuns.{run_delivered, run_delivered_over, run_drained}
+use Rattle.rtc_run_laws.proofs.RunsTold.{new_pair_told, pair_first, pair_handed, pair_handed_over, pair_once, pair_told_whole, pair_whole, pair_wholly, reached_told}
 use Rattle.rtc_run_laws.proofs.handing.channels_hand_out_prefixes.Goals as goal
 
 pub returns-clause-reached : goal.returns-clause-reached
@@ -35,6 +35,13 @@ returns-clause-whole g c = λ stun start pair past new go ran at.
     (λ x. told_over (plain_over g.N.Ids.ids) stun start x past pair ran) at
     (reached_told g.N.Ids.ids stun start past pair go ran (new_pair_told g.N.Ids.ids start new))
 
+pub returns-clause-first : goal.returns-clause-first
+returns-clause-first g c = λ stun start pair past new go ran at.
+    pair_first g.N.Ids.ids pair (λ x. uses_of (plain_over g.N.Ids.ids) stun start x past pair ran)
+    (λ x. sent_over (plain_over g.N.Ids.ids) stun start x past pair ran)
+    (λ x. told_over (plain_over g.N.Ids.ids) stun start x past pair ran) at
+    (reached_told g.N.Ids.ids stun start past pair go ran (new_pair_told g.N.Ids.ids start new))
+
 pub returns-clause-told : goal.returns-clause-told
 returns-clause-told g c = λ stun start pair past new go ran at.
     pair_told_whole g.N.Ids.ids pair (λ x. uses_of (plain_over g.N.Ids.ids) stun start x past pair ran)
@@ -55,6 +62,10 @@ returns-clause-drained g c = λ stun start pair past new go ran at.
 
 pub returns-clause-delivered : goal.returns-clause-delivered
 returns-clause-delivered g c = λ stun start pair past new go ran at. run_delivered g.N.Ids.ids stun start new past pair go ran at
+
+pub returns-clause-delivered_over : goal.returns-clause-delivered_over
+returns-clause-delivered_over g c = λ stun start pair past new go ran at.
+    run_delivered_over g.N.Ids.ids stun start new past pair go ran at
 
 pub returns-clause-ran : goal.returns-clause-ran
 returns-clause-ran g c = λ stun start pair steps replies new go run. run_hands_out g.N.Ids.ids stun start pair steps replies new go run
