@@ -1,5 +1,5 @@
 -- In a run of new pairs by steps that settle no channel by other means than messages each channel is announced as opened in-band.
-use Rattle.std.proofs.Common.{◌≡◌, ◌⊎◌, inl, inr, ◌==◌, ◌∷◌, if◌then◌else◌, not, ℕ, Bool, true, false, List, [], Option, Some, None, Ok, refl, ap}
+use Rattle.std.proofs.Common.{◌≡◌, inl, inr, ◌==◌, ◌∷◌, if◌then◌else◌, not, ℕ, Bool, true, false, List, [], Option, Some, None, Ok, refl, ap}
 use Rattle.std.specs.Prelude.{is_some}
 use Rattle.rtc_wire.specs.declared.addr.Addr.{Addr}
 use Rattle.rtc_parts.specs.Draws.{Draws}

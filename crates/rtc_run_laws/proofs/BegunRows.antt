@@ -38,7 +38,7 @@ same_numbers held held' is h =
     (subst (λ (n : ℕ). AreNumberedChannels (record held' { given = n; rows = held.rows })) (sym is.1) h)
 
 -- the row of a channel that was found goes
-gone_removed : (c id stream : ℕ) (pending : Bool) (held : Channels) → AreNumberedChannels held → channel_over stream held ≡ Some id → id ≡ c
+pub gone_removed : (c id stream : ℕ) (pending : Bool) (held : Channels) → AreNumberedChannels held → channel_over stream held ≡ Some id → id ≡ c
     → IsGone c (removed_channel id pending held)
 gone_removed c id stream pending held numbers over same =
     subst (λ (n : ℕ). IsGone n (removed_channel id pending held)) same

@@ -1,5 +1,5 @@
 -- The messages behind the first that opens a channel, or acknowledges that, and what they carry.
-use Rattle.std.proofs.Common.{◌≡◌, ◌∙◌, ◌++◌, ◌∷◌, ◌||◌, if◌then◌else◌, Bool, true, false, true≢false, List, [], map, refl, sym, ap, subst}
+use Rattle.std.proofs.Common.{◌≡◌, ◌∙◌, ◌++◌, ◌∷◌, ◌||◌, if◌then◌else◌, Bool, true, false, true≢false, List, [], map, refl, ap, subst}
 use Rattle.rtc_assoc.specs.Unread.{IsPrefix}
 use Rattle.rtc_parts.specs.declared.ppi.Ppi.{Ppi}
 use Rattle.rtc_parts.specs.AssociationWords.{AssociationMessage}

@@ -15,7 +15,7 @@ use Rattle.rtc_run_laws.specs.SentMessages.{sent_over}
 use Rattle.rtc_run_laws.specs.ToldMessages.{told_over}
 use Rattle.rtc_run_laws.specs.UsesOfRuns.{reached_by, uses_in_run}
 use Rattle.rtc_run_laws.proofs.RestedRuns.{run_delivered, run_delivered_over, run_drained}
-use Rattle.rtc_run_laws.proofs.RunsTold.{PairTold, new_pair_told, pair_handed, pair_first, pair_handed_over, pair_once, pair_told_whole, pair_whole, pair_wholly, reached_told}
+use Rattle.rtc_run_laws.proofs.RunsTold.{PairTold, new_pair_told, pair_first, pair_handed, pair_handed_over, pair_once, pair_only, pair_told_whole, pair_whole, pair_wholly, reached_told}
 use Rattle.rtc_run_laws.proofs.SilentRuns.{run_got, run_told, run_told_sent}
 
 module _ {N : Type 0} (draws : Draws N) where
@@ -35,6 +35,8 @@ module _ {N : Type 0} (draws : Draws N) where
         first = λ at. pair_first draws pair (uses_in_run (plain_over draws) stun start steps replies pair run) (λ z. sent_over (plain_over draws) stun start z run.past pair ran)
             (λ z. told_over (plain_over draws) stun start z run.past pair ran) at told;
         told = λ at. pair_told_whole draws pair (uses_in_run (plain_over draws) stun start steps replies pair run) (λ z. sent_over (plain_over draws) stun start z run.past pair ran)
+            (λ z. told_over (plain_over draws) stun start z run.past pair ran) at told;
+        only = λ at. pair_only draws pair (uses_in_run (plain_over draws) stun start steps replies pair run) (λ z. sent_over (plain_over draws) stun start z run.past pair ran)
             (λ z. told_over (plain_over draws) stun start z run.past pair ran) at told;
         handed = λ at. pair_handed draws pair (uses_in_run (plain_over draws) stun start steps replies pair run) (λ z. sent_over (plain_over draws) stun start z run.past pair ran)
             (λ z. told_over (plain_over draws) stun start z run.past pair ran) at told;

@@ -289,3 +289,20 @@ pub mod OpenedRests
 pub mod RestedCalls
 pub mod RestedSteps
 pub mod RestedRuns
+mod UnendedStreams
+mod UnendedEntries
+mod UnendedTours
+mod UnendedEvents
+mod UnendedPolls
+mod ReadVisits
+mod UnendedReads
+mod PlainFinishes
+mod PlainReads
+mod UnendedCalls
+mod UnendedRows
+mod SilentStages
+mod TracedPolls
+mod ToldEntries
+mod ToldEvents
+mod SidesInOne
+mod ToldInOne

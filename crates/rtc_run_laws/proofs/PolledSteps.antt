@@ -1,6 +1,7 @@
 -- Polls keep what holds of the channels that their side announced.
 use Rattle.std.proofs.Common.{◌≡◌, ◌∷◌, List, [], Option, Some, None, Result, Ok, Err}
 use Rattle.rtc_assoc_state.proofs.PlainLaws.{plain_laws}
+use Rattle.rtc_assoc_state.specs.Contents.{fresh_contents}
 use Rattle.rtc_assoc_state.specs.PlainMeaning.{plain_meaning}
 use Rattle.rtc_plain_media.specs.declared.plain_media_event.PlainMediaEvent.{PlainMediaEvent}
 use Rattle.rtc_parts.specs.Draws.{Draws}
@@ -33,7 +34,10 @@ use Rattle.rtc_run_history.specs.Sides.{other_side}
 use Rattle.rtc_run_laws.specs.PlainPairs.{PlainPolled, plain_over}
 use Rattle.rtc_run_laws.specs.SentContents.{contents_sent}
 use Rattle.rtc_run_laws.proofs.ContentsLemmas.{Shows, shows_none, shows_one}
+use Rattle.rtc_run_laws.proofs.PlainReads.{IsSoundEnd, fresh_sound, plain_reads}
 use Rattle.rtc_run_laws.proofs.StepsExchange.{plain_over_laws}
+use Rattle.rtc_run_laws.proofs.ToldInOne.{one_polled}
+use Rattle.rtc_run_laws.proofs.ReadVisits.{sound_acts}
 use Rattle.rtc_run_laws.specs.ChannelUses.{ChannelUse, announced_use, uses_shown}
 use Rattle.rtc_run_laws.specs.PollsOfRuns.{by_drain, by_drain_step, by_poll, by_poll_step, by_polls}
 use Rattle.rtc_run_laws.specs.ToldMessages.{MessagesTold, told_shown}
@@ -75,6 +79,10 @@ module _ {N : Type 0} (draws : Draws N) (at : Side) (b : PeerActs) (q : PlainPol
       (λ s g. nothing_sent (sent s g) (contents_of (messages_of s g acts.wrote)) (dcep_contents s g acts.wrote acts.dcep)) stood
       (side_polled (plain_over draws) plain_laws plain_generations plain_named p answer next h acts uses stood.side.written stood.side.read stood.side.told)
       (whole_polled (plain_over draws) plain_laws plain_generations p answer next h acts uses stood.side.written stood.side.read told stood.side.told stood.whole)
+      (one_polled (plain_over draws) (plain_over_laws draws) plain_generations IsSoundEnd plain_reads p answer next h acts uses stood.side.written
+      stood.side.read told stood.side.told
+      (sound_acts plain_meaning plain_laws plain_generations IsSoundEnd plain_reads stood.acts.association fresh_contents p.core.sctp.association
+      stood.side.went fresh_sound) stood.only)
       (polled_running answer p next uses acts stood.running)
 
   pub shown_stood : (packets : List SentPacket) (shown : Shown PlainMediaEvent) (packets' : List SentPacket) (uses : List ChannelUse) (told : MessagesTold) (p next : PlainPolled N)

@@ -37,7 +37,7 @@ use Rattle.rtc_run_laws.proofs.NewPeers.{new_built, nothing_sent}
 use Rattle.rtc_run_laws.proofs.RunsExchange.{side_all, side_reads}
 use Rattle.rtc_run_laws.specs.AnnouncedOnce.{AreAnnouncedOnce}
 use Rattle.rtc_run_laws.specs.ChannelUses.{ChannelUse}
-use Rattle.rtc_run_laws.specs.HandedOut.{AreHandedOut, AreHandedOver, AreSentFirst, AreSentWhole, AreToldWhole, AreWhollyHandedOut}
+use Rattle.rtc_run_laws.specs.HandedOut.{AreHandedOut, AreHandedOver, AreSentFirst, AreSentWhole, AreToldInOne, AreToldWhole, AreWhollyHandedOut}
 use Rattle.rtc_run_laws.specs.PollsOfRuns.{by_step}
 use Rattle.rtc_run_laws.specs.SentMessages.{sent_acted, sent_over}
 use Rattle.rtc_run_laws.specs.ToldMessages.{MessagesTold, told_over, told_shown}
@@ -46,6 +46,7 @@ use Rattle.rtc_run_laws.proofs.AllHanded.{all_handed}
 use Rattle.rtc_run_laws.proofs.GotAndSent.{handed, handed_over, told_whole}
 use Rattle.rtc_run_laws.proofs.RolledUses.{use_first}
 use Rattle.rtc_run_laws.proofs.SidesTold.{SideTold}
+use Rattle.rtc_run_laws.proofs.SidesInOne.{IsInOne}
 use Rattle.rtc_run_laws.proofs.UseLists.{all_member}
 use Rattle.rtc_run_laws.proofs.UsesTold.{InBandTold}
 use Rattle.rtc_run_laws.proofs.WholeUses.{none_whole}
@@ -71,12 +72,12 @@ module _ {N : Type 0} (draws : Draws N) where
       → PairTold pair uses sent told → StoodIn at pair uses sent told
   stood_in Left pair uses sent told h = record {
     other = h.acts.right;
-    stood = record { acts = h.acts.left; exchange = h.exchange; side = h.left.side; sent_is = h.left.sent_is; whole = h.left.whole; running = h.left.running };
+    stood = record { acts = h.acts.left; exchange = h.exchange; side = h.left.side; sent_is = h.left.sent_is; whole = h.left.whole; only = h.left.only; running = h.left.running };
     rest = h.right;
   }
   stood_in Right pair uses sent told h = record {
     other = h.acts.left;
-    stood = record { acts = h.acts.right; exchange = h.exchange; side = h.right.side; sent_is = h.right.sent_is; whole = h.right.whole; running = h.right.running };
+    stood = record { acts = h.acts.right; exchange = h.exchange; side = h.right.side; sent_is = h.right.sent_is; whole = h.right.whole; only = h.right.only; running = h.right.running };
     rest = h.left;
   }
 
@@ -92,7 +93,7 @@ module _ {N : Type 0} (draws : Draws N) where
     exchange =
         subst (λ (x : PlainPolled N). PeersExchange stood.acts (contents_sent Left pair.packets) pair.left other (contents_sent Right pair.packets) x) (sym same)
         stood.exchange;
-    left = record { side = stood.side; sent_is = stood.sent_is; whole = stood.whole; running = stood.running };
+    left = record { side = stood.side; sent_is = stood.sent_is; whole = stood.whole; only = stood.only; running = stood.running };
     right = subst (λ (x : PlainPolled N). SideSent draws other (uses Right) (sent Right) (told Right) x) (sym same) rest;
   }
   told_after Right pair other q same uses acted sent sends told tells stood rest = record {
@@ -101,7 +102,7 @@ module _ {N : Type 0} (draws : Draws N) where
         subst (λ (x : PlainPolled N). PeersExchange other (contents_sent Left pair.packets) x stood.acts (contents_sent Right pair.packets) pair.right) (sym same)
         stood.exchange;
     left = subst (λ (x : PlainPolled N). SideSent draws other (uses Left) (sent Left) (told Left) x) (sym same) rest;
-    right = record { side = stood.side; sent_is = stood.sent_is; whole = stood.whole; running = stood.running };
+    right = record { side = stood.side; sent_is = stood.sent_is; whole = stood.whole; only = stood.only; running = stood.running };
   }
 
   -- a new pair
@@ -143,12 +144,14 @@ module _ {N : Type 0} (draws : Draws N) where
           side = record { written = []; read = []; wrote_is = a.wrote_none; read_is = a.read_none; told = new_told pair.left h.left; went = a.unused.association; dtls = a.unused.dtls; handed = subst (λ (l : List (List ℕ)). Among l (dtls_got a.acts.dtls)) (sym a.unused.none_handed) (among_none (dtls_got a.acts.dtls)) };
           sent_is = λ s g. refl;
           whole = none_whole;
+          only = record { early = inr (λ c s g. inl refl); each = tt };
           running = tt;
         };
         right = record {
           side = record { written = []; read = []; wrote_is = b.wrote_none; read_is = b.read_none; told = new_told pair.right h.right; went = b.unused.association; dtls = b.unused.dtls; handed = subst (λ (l : List (List ℕ)). Among l (dtls_got b.acts.dtls)) (sym b.unused.none_handed) (among_none (dtls_got b.acts.dtls)) };
           sent_is = λ s g. refl;
           whole = none_whole;
+          only = record { early = inr (λ c s g. inl refl); each = tt };
           running = tt;
         };
       }
@@ -270,3 +273,9 @@ module _ {N : Type 0} (draws : Draws N) where
   pair_told_whole pair uses sent told Right h =
       told_whole draws h.acts.right h.acts.left (uses Right) (uses Left) pair.right pair.left h.right.side h.left.side (told Right) h.right.whole
       (λ s g. side_reads h.acts pair Left s g h.exchange)
+
+  -- and nothing was told of it elsewhere
+  pub pair_only : (pair : PlainPair N) (uses : Side → List ChannelUse) (sent : Side → Sent) (told : Side → MessagesTold) (at : Side) → PairTold draws pair uses sent told
+      → AreToldInOne (uses at) (told at)
+  pair_only pair uses sent told Left h = λ x mine band s g. all_member (IsInOne (told Left)) (uses Left) x h.left.only.each mine band s g
+  pair_only pair uses sent told Right h = λ x mine band s g. all_member (IsInOne (told Right)) (uses Right) x h.right.only.each mine band s g

@@ -36,7 +36,7 @@ cons_not e l h = cc
 own_test : (n s : ℕ) → n ≡ s → (n == s) ≡ true
 own_test n s h = grind (arith, h)
 
-none_listed : (P : StreamEntry → Type 0) (s : ℕ) (es : List StreamEntry) → entries_of s es ≡ [] → HasEntryOf P s es → ⊥
+pub none_listed : (P : StreamEntry → Type 0) (s : ℕ) (es : List StreamEntry) → entries_of s es ≡ [] → HasEntryOf P s es → ⊥
 none_listed P s [] h k = absurd k
 none_listed P s (e ∷ es) h (inl k) = cons_not e (entries_of s es) (sym (entries_own s e es (own_test e.id s k.0)) ∙ h)
 none_listed P s (e ∷ es) h (inr k) = by (e.id == s) h (λ f. none_listed P s es f k)

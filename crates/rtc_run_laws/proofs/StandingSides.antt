@@ -39,6 +39,9 @@ use Rattle.rtc_run_laws.specs.ChannelUses.{ChannelUse, with_rolled_back}
 use Rattle.rtc_run_laws.specs.ToldMessages.{MessagesTold}
 use Rattle.rtc_run_laws.proofs.SidesTold.{SideTold, side_called, side_rolled}
 use Rattle.rtc_run_laws.proofs.UseLists.{AllUses, all_kept, all_rolled}
+use Rattle.rtc_run_laws.proofs.StepRows.{RowsCancelled}
+use Rattle.rtc_run_laws.proofs.StepsExchange.{plain_over_laws}
+use Rattle.rtc_run_laws.proofs.SidesInOne.{SideOne, one_called, one_rolled}
 use Rattle.rtc_run_laws.proofs.WholeUses.{SideWhole, whole_rolled, whole_still}
 
 acts_join : (act : StreamMessage → AssociationAct) (all first more : List AssociationAct) (xs ys : List StreamMessage) → all ≡ first ++ more
@@ -81,6 +84,7 @@ module _ {N : Type 0} (draws : Draws N) where
     pub side : SideStood acts uses p
     pub sent_is : (s g : ℕ) → contents_of (messages_of s g side.written) ≡ sent s g
     pub whole : SideWhole told side.read uses
+    pub only : SideOne (plain_over draws) told uses p
     pub running : AllUses (λ x. AreRunning plain_meaning p.core.sctp) uses
 
   pub record Stood (at : Side) (packets : List SentPacket) (b : PeerActs) (q : PlainPolled N) (uses : List ChannelUse) (sent : Sent) (told : MessagesTold)
@@ -90,6 +94,7 @@ module _ {N : Type 0} (draws : Draws N) where
     pub side : SideStood acts uses p
     pub sent_is : (s g : ℕ) → contents_of (messages_of s g side.written) ≡ sent s g
     pub whole : SideWhole told side.read uses
+    pub only : SideOne (plain_over draws) told uses p
     pub running : AllUses (λ x. AreRunning plain_meaning p.core.sctp) uses
 
   exchanged_on : (at : Side) (a b : PeerActs) (before after others : List (List ℕ)) (p next q : PlainPolled N) (came : Came) (moments : List ℕ)
@@ -108,8 +113,8 @@ module _ {N : Type 0} (draws : Draws N) where
       → PeerDid (plain_over draws) came moments shown wrote heard p next
       → ((s g : ℕ) → sent s g ++ contents_of (messages_of s g wrote) ≡ sent' s g) → (h : Stood at packets b q uses sent told p)
       → SideTold (plain_over draws) uses' (h.side.written ++ wrote) (h.side.read ++ heard) next → SideWhole told' (h.side.read ++ heard) uses'
-      → AllUses (λ x. AreRunning plain_meaning next.core.sctp) uses' → Stood at packets' b q uses' sent' told' next
-  call_stood at packets packets' b q p next came moments shown wrote heard uses uses' sent sent' told told' carried shows did more h side whole running = record {
+      → SideOne (plain_over draws) told' uses' next → AllUses (λ x. AreRunning plain_meaning next.core.sctp) uses' → Stood at packets' b q uses' sent' told' next
+  call_stood at packets packets' b q p next came moments shown wrote heard uses uses' sent sent' told told' carried shows did more h side whole only running = record {
     acts = acts_with h.acts did.acts;
     exchange =
         subst (λ (l : List (List ℕ)). ExchangeBy at (acts_with h.acts did.acts) (contents_sent at packets') next b l q) (sym shows.other)
@@ -141,6 +146,7 @@ module _ {N : Type 0} (draws : Draws N) where
         ∙ ap (λ (l : List (Bool × List ℕ)). l ++ contents_of (messages_of s g wrote)) (h.sent_is s g)
         ∙ more s g;
     whole = whole;
+    only = only;
     running = running;
   }
 
@@ -152,18 +158,21 @@ module _ {N : Type 0} (draws : Draws N) where
   quiet_stood at packets packets' b q p next came moments uses sent told carried shows did keeps h =
       call_stood at packets packets' b q p next came moments [] [] [] uses uses sent sent told told carried shows did (λ s g. append-nil (sent s g)) h
       (side_called (plain_over draws) plain_laws plain_generations came moments [] p next uses h.side.written h.side.read did keeps h.side.told)
-      (whole_still told h.side.read [] uses h.whole) (still_running uses p next keeps.running h.running)
+      (whole_still told h.side.read [] uses h.whole)
+      (one_called (plain_over draws) (plain_over_laws draws) plain_generations [] told uses p next h.side.told.numbers keeps h.only) (still_running uses p next keeps.running h.running)
 
   -- an offer is rolled back
   pub rolled_stood : (at : Side) (packets packets' : List SentPacket) (b : PeerActs) (q p next : PlainPolled N) (came : Came) (moments : List ℕ)
       (uses : List ChannelUse) (sent : Sent) (told : MessagesTold) → CarriesData came.dtls (contents_sent (other_side at) packets) → Shows at packets packets' []
-      → PeerDid (plain_over draws) came moments [] [] [] p next → CallLeavesStreams (plain_over draws) p [] next → Stood at packets b q uses sent told p
-      → Stood at packets' b q (with_rolled_back p.core.channels.rows next.core.channels.rows uses) sent told next
-  rolled_stood at packets packets' b q p next came moments uses sent told carried shows did leaves h =
+      → PeerDid (plain_over draws) came moments [] [] [] p next → CallLeavesStreams (plain_over draws) p [] next → RowsCancelled (plain_over draws) p next
+      → Stood at packets b q uses sent told p → Stood at packets' b q (with_rolled_back p.core.channels.rows next.core.channels.rows uses) sent told next
+  rolled_stood at packets packets' b q p next came moments uses sent told carried shows did leaves rows h =
       call_stood at packets packets' b q p next came moments [] [] [] uses (with_rolled_back p.core.channels.rows next.core.channels.rows uses) sent sent told
       told carried shows did (λ s g. append-nil (sent s g)) h
       (side_rolled (plain_over draws) plain_laws plain_generations came moments [] p next uses h.side.written h.side.read did leaves h.side.told)
       (whole_rolled told h.side.read [] p.core.channels.rows next.core.channels.rows uses h.whole)
+      (one_rolled (plain_over draws) (plain_over_laws draws) plain_generations told p.core.channels.rows next.core.channels.rows uses p next
+      h.side.told.numbers rows h.only)
       (all_rolled (λ x. AreRunning plain_meaning p.core.sctp) (λ x. AreRunning plain_meaning next.core.sctp) p.core.channels.rows next.core.channels.rows uses
       (λ x e k. leaves.running k) (λ x e k. leaves.running k) h.running)
 

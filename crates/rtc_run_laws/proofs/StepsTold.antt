@@ -61,6 +61,9 @@ use Rattle.rtc_run_laws.proofs.OpenStreams.{open_free, open_placed}
 use Rattle.rtc_run_laws.proofs.PolledSteps.{drain_step_stood, poll_step_stood}
 use Rattle.rtc_run_laws.proofs.SidesTold.{side_wrote}
 use Rattle.rtc_run_laws.proofs.UseLists.{all_sent, written_carries}
+use Rattle.rtc_run_laws.proofs.StepRows.{rollback_rows}
+use Rattle.rtc_run_laws.proofs.StepsExchange.{plain_over_laws}
+use Rattle.rtc_run_laws.proofs.SidesInOne.{one_wrote}
 use Rattle.rtc_run_laws.proofs.WholeUses.{whole_sent}
 use Rattle.rtc_run_laws.proofs.StandingSides.{Sent, Stood, call_stood, quiet_stood, rolled_stood, same_stood}
 
@@ -139,6 +142,9 @@ module _ {N : Type 0} (draws : Draws N) (at : Side) (b : PeerActs) (q : PlainPol
       (write_named stream (plain_meaning.generation p.core.sctp.association stream) binary bytes (Ok 0)) did
       keeps stood.side.told)
       (whole_sent told stood.side.read [] channel (binary, bytes) uses stood.whole)
+      (one_wrote (plain_over draws) (plain_over_laws draws) plain_generations
+      (message_of_write stream (plain_meaning.generation p.core.sctp.association stream) binary bytes (Ok true)) told channel (binary, bytes) uses p next
+      stood.side.told.numbers keeps stood.only)
       (all_sent (λ x. AreRunning plain_meaning p.core.sctp) (λ x. AreRunning plain_meaning next.core.sctp) channel (binary, bytes) uses
       (λ x e k. keeps.running k) (λ x e k. keeps.running k) stood.running)
 
@@ -271,7 +277,8 @@ module _ {N : Type 0} (draws : Draws N) (b : PeerActs) (q : PlainPolled N) where
       rolled_stood draws at packets packets' b q old new _ _ uses sent told (begun_carries (contents_sent (other_side at) packets))
       (shows_none at packets packets' h.1.packets_kept)
       (rollback_acts (plain_over draws) token (held_token sdps at token) old sdps outcome table new sdps' h.0)
-      (rollback_leaves (plain_over draws) token (held_token sdps at token) old sdps outcome table new sdps' h.0) stood
+      (rollback_leaves (plain_over draws) token (held_token sdps at token) old sdps outcome table new sdps' h.0)
+      (rollback_rows (plain_over draws) token (held_token sdps at token) old sdps outcome table new sdps' h.0) stood
   acts_stood stun other own (ForeignOffer at text) old sdps packets outcome table new sdps' packets' uses sent told go h stood = absurd (true≢false (sym go))
   acts_stood stun other own (ForeignAnswer at token text) old sdps packets outcome table new sdps' packets' uses sent told go h stood = absurd (true≢false (sym go))
   acts_stood stun other own (Raw at bytes now) old sdps packets outcome table new sdps' packets' uses sent told go h stood = absurd (true≢false (sym go))

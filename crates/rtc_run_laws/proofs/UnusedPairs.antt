@@ -1,5 +1,5 @@
 -- A new pair has no stream in use, and has started no association.
-use Rattle.std.proofs.Common.{◌≡◌, ◌∙◌, ap, true, false, true≢false, refl, sym}
+use Rattle.std.proofs.Common.{◌≡◌, ◌∙◌, ap, false, true≢false, refl, sym}
 use Rattle.rtc_parts.specs.AssociationActs.{LimitsSet, Stirred}
 use Rattle.rtc_parts.specs.Why.{Other}
 use Rattle.rtc_assoc_state.proofs.PlainLaws.{plain_laws}

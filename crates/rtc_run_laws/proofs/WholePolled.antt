@@ -172,7 +172,7 @@ module _ {I D S M E X T W N : Type 0} (m : Meanings I D S M E X T W N) where
           (closed_stays m p (Ok (outputs.Event (ChannelData message))) q closed h).0)
 
       -- also of one that may have been rolled back: then it has no row, and nothing is told of it
-      use_told : (written read : List StreamMessage) (x : ChannelUse) → (x.channel == message.id) ≡ true → UseStands m written read p x → (s : ℕ)
+      pub use_told : (written read : List StreamMessage) (x : ChannelUse) → (x.channel == message.id) ≡ true → UseStands m written read p x → (s : ℕ)
           → x.stream ≡ Some s → is_told_of m message q x.channel s x.generation ≡ true
       use_told written read x e u s of = by x.rolled_back refl
         where

@@ -1,5 +1,5 @@
 -- That a channel hands out what the other side sent over it, in order (RFC 8831, section 6.1).
-use Rattle.std.specs.Prelude.{◌≡◌, ℕ, Bool, true, false, List, [], Some}
+use Rattle.std.specs.Prelude.{◌≡◌, ◌⊎◌, ℕ, Bool, true, false, List, [], Some}
 use Rattle.rtc_parts.specs.Among.{Member}
 use Rattle.rtc_assoc.specs.Unread.{IsPrefix}
 use Rattle.rtc_assoc_state.specs.Contents.{has_unread}
@@ -86,6 +86,16 @@ AreToldWhole readers writers told =
     → x.generation ≡ y.generation
     → told x.channel s x.generation ≡ x.got
 
+-- Whatever was reported of a channel that was announced in-band, before that or since, was reported while it had the stream of its
+-- announcement, in the generation of its announcement.
+abbrev pub AreToldInOne : List ChannelUse → MessagesTold → Type 0
+AreToldInOne uses told =
+    (x : ChannelUse)
+    → Member x uses
+    → x.in_band ≡ true
+    → (s g : ℕ)
+    → (told x.channel s g ≡ []) ⊎ ((x.stream ≡ Some s) × (x.generation ≡ g))
+
 -- If two such channels stay open at both sides, the reader was drained, and the writer has no unacknowledged item of the stream, all was
 -- got that was sent.
 abbrev pub AreAllHandedOut : {N : Type 0} → Draws N → (drained : Type 0) → (readers : List ChannelUse) → PlainPolled N
@@ -112,10 +122,11 @@ AreWhollyHandedOut draws readers p writers q =
     → x.got ≡ y.sent
 
 -- What channels that were opened in-band hand out in a run by these steps with these replies. Each is announced once, and so is a
--- generation of a stream, to which its side sent nothing before. What one side got over its channel is a prefix of what the other side sent
--- over its own, and all of it once that was delivered; it got nothing if the other side announced no channel over that generation. Nothing
--- is reported of a generation to which the other side sent nothing; nor, if no step added a channel that is negotiated out-of-band, of one
--- over which it announced no channel.
+-- generation of a stream, to which its side sent nothing before. Nothing is reported of a channel in another generation. What one side got
+-- over its channel is a prefix of what the other side sent to the generation, and of what it sent over its own unless that was rolled back,
+-- and all of it once that was delivered; it got nothing if the other side announced no channel over that generation. Nothing is reported
+-- of a generation to which the other side sent nothing; nor, if no step added a channel that is negotiated out-of-band, of one over which
+-- it announced no channel.
 pub record HandsOut {N : Type 0} (draws : Draws N) (stun : List ℕ → Bool) (start : PlainPair N) (steps : List Step)
     (replies : List (Reply PlainMediaEvent)) (pair : PlainPair N) (run : Runs (plain_over draws) stun start steps replies pair)
     : Type 0 where
@@ -129,6 +140,9 @@ pub record HandsOut {N : Type 0} (draws : Draws N) (stun : List ℕ → Bool) (s
   pub told : (at : Side)
       → AreToldWhole (uses_in_run (plain_over draws) stun start steps replies pair run at)
       (uses_in_run (plain_over draws) stun start steps replies pair run (other_side at))
+      (told_over (plain_over draws) stun start at run.past pair (reached_by (plain_over draws) stun start run.past pair run.went))
+  pub only : (at : Side)
+      → AreToldInOne (uses_in_run (plain_over draws) stun start steps replies pair run at)
       (told_over (plain_over draws) stun start at run.past pair (reached_by (plain_over draws) stun start run.past pair run.went))
   pub handed : (at : Side)
       → AreHandedOut (uses_in_run (plain_over draws) stun start steps replies pair run at)

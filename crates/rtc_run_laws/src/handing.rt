@@ -13,8 +13,8 @@ ghost use Rattle.rtc_run_laws.specs.NewPairs.{IsNewPair};
 ghost use Rattle.rtc_run_laws.specs.PlainPairs.{PlainPair, plain_over};
 ghost use Rattle.rtc_run_laws.specs.AnnouncedOnce.{AreAnnouncedOnce};
 ghost use Rattle.rtc_run_laws.specs.Delivered.{AreAllDelivered, AreAllDeliveredOver};
-ghost use Rattle.rtc_run_laws.specs.HandedOut.{AreAllHandedOut, AreHandedOut, AreHandedOver, AreSentFirst, AreSentWhole, AreToldWhole};
-ghost use Rattle.rtc_run_laws.specs.HandedOut.{AreWhollyHandedOut, HandsOut};
+ghost use Rattle.rtc_run_laws.specs.HandedOut.{AreAllHandedOut, AreHandedOut, AreHandedOver, AreSentFirst, AreSentWhole};
+ghost use Rattle.rtc_run_laws.specs.HandedOut.{AreToldInOne, AreToldWhole, AreWhollyHandedOut, HandsOut};
 ghost use Rattle.rtc_run_laws.specs.SideDrains.{IsSideDrained};
 ghost use Rattle.rtc_run_laws.specs.SentMessages.{sent_over};
 ghost use Rattle.rtc_run_laws.specs.ToldMessages.{told_over};
@@ -26,6 +26,7 @@ use rtc_parts::Ids;
 ///
 /// - Each side announces each once, and at most one over each generation of a stream. What it sent over it is the first that it ever sent
 ///   to that generation, and all of that if no rollback removed the channel.
+/// - Whatever was reported of a channel, before its announcement or since, is of the generation of its announcement.
 /// - If both sides announced one over the same generation of the same stream, what one received over its own is all that was reported to
 ///   it of that generation, and a prefix of all that the other sent to that generation, by whatever channel. If no rollback removed that
 ///   of the other, it is a prefix of what the other sent over its own.
@@ -62,6 +63,10 @@ pub fn channels_hand_out_prefixes<N: Ids>()
         → are_native (steps_of past) ≡ true → (ran : Reached (plain_over N.ids) stun start past pair) → (at : Side)
         → AreToldWhole (uses_of (plain_over N.ids) stun start at past pair ran)
         (uses_of (plain_over N.ids) stun start (other_side at) past pair ran)
+        (told_over (plain_over N.ids) stun start at past pair ran) }
+    ensures only { (stun : List ℕ → Bool) (start pair : PlainPair N) (past : List (Entry PlainMediaEvent)) → IsNewPair N.ids start
+        → are_native (steps_of past) ≡ true → (ran : Reached (plain_over N.ids) stun start past pair) → (at : Side)
+        → AreToldInOne (uses_of (plain_over N.ids) stun start at past pair ran)
         (told_over (plain_over N.ids) stun start at past pair ran) }
     ensures all { (stun : List ℕ → Bool) (start pair : PlainPair N) (past : List (Entry PlainMediaEvent)) → IsNewPair N.ids start
         → are_native (steps_of past) ≡ true → (ran : Reached (plain_over N.ids) stun start past pair) → (at : Side)

@@ -4,7 +4,7 @@ use Rattle.rtc_run_laws.specs.ToldMessages.{told_over}
 use Rattle.rtc_run_laws.specs.UsesOfRuns.{uses_of}
 use Rattle.rtc_run_laws.proofs.HandsRuns.{run_hands_out}
 use Rattle.rtc_run_laws.proofs.RestedRuns.{run_delivered, run_delivered_over, run_drained}
-use Rattle.rtc_run_laws.proofs.RunsTold.{new_pair_told, pair_first, pair_handed, pair_handed_over, pair_once, pair_told_whole, pair_whole, pair_wholly, reached_told}
+use Rattle.rtc_run_laws.proofs.RunsTold.{new_pair_told, pair_first, pair_handed, pair_handed_over, pair_once, pair_only, pair_told_whole, pair_whole, pair_wholly, reached_told}
 use Rattle.rtc_run_laws.proofs.handing.channels_hand_out_prefixes.Goals as goal
 
 pub returns-clause-reached : goal.returns-clause-reached
@@ -45,6 +45,13 @@ returns-clause-first g c = λ stun start pair past new go ran at.
 pub returns-clause-told : goal.returns-clause-told
 returns-clause-told g c = λ stun start pair past new go ran at.
     pair_told_whole g.N.Ids.ids pair (λ x. uses_of (plain_over g.N.Ids.ids) stun start x past pair ran)
+    (λ x. sent_over (plain_over g.N.Ids.ids) stun start x past pair ran)
+    (λ x. told_over (plain_over g.N.Ids.ids) stun start x past pair ran) at
+    (reached_told g.N.Ids.ids stun start past pair go ran (new_pair_told g.N.Ids.ids start new))
+
+pub returns-clause-only : goal.returns-clause-only
+returns-clause-only g c = λ stun start pair past new go ran at.
+    pair_only g.N.Ids.ids pair (λ x. uses_of (plain_over g.N.Ids.ids) stun start x past pair ran)
     (λ x. sent_over (plain_over g.N.Ids.ids) stun start x past pair ran)
     (λ x. told_over (plain_over g.N.Ids.ids) stun start x past pair ran) at
     (reached_told g.N.Ids.ids stun start past pair go ran (new_pair_told g.N.Ids.ids start new))
