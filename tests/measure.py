@@ -37,15 +37,26 @@ def count(words, given, files={}, status=0):
         return int(re.search(rb"Collected : (\d+)", done.stderr)[1]), done.stdout
 
 
-# What of this is not the C library's allocator, whose walks over free blocks depend on the whole heap.
+# What of this is not in calls of the allocator. Those walk over free blocks, and a block that grows is extended in place or copied; both
+# depend on the whole heap.
 def count_beside_allocator(words, given):
     with tempfile.TemporaryDirectory() as folder:
         out = os.path.join(folder, "callgrind")
         run = ["valgrind", "--tool=callgrind", f"--callgrind-out-file={out}", *words]
         report = subprocess.run(run, input=given, capture_output=True, timeout=1200, check=True).stdout
-        told = subprocess.run(["callgrind_annotate", "--threshold=100", out], capture_output=True, check=True).stdout
-        rows = re.findall(rb"^ *([\d,]+) (?:\([^)]*\))? *(\S*:.*)$", told, re.M)
-        return sum(int(row[0].replace(b",", b"")) for row in rows if b"malloc.c:" not in row[1]), report
+        whole, in_calls = (told_by(out, way) for way in ("no", "yes"))
+        allocator = sum(cost for name, cost in in_calls if re.search(rb":rattle_(alloc|dealloc|realloc)", name))
+        if allocator == 0:
+            sys.exit(f"measure: no call of the allocator is seen in {words[0]}")
+        return sum(cost for _, cost in whole) - allocator, report
+
+
+# What each function costs, with what it calls or without.
+def told_by(out, with_calls):
+    words = ["callgrind_annotate", "--threshold=100", f"--inclusive={with_calls}", out]
+    told = subprocess.run(words, capture_output=True, check=True).stdout
+    rows = re.findall(rb"^ *([\d,]+) (?:\([^)]*\))? *(\S*:.*)$", told, re.M)
+    return [(name, int(cost.replace(b",", b""))) for cost, name in rows]
 
 
 # How many blocks a program asks for.
@@ -402,40 +413,32 @@ def room():
         print(f"| {members} | {rooms} | {len(given):,} | {min(times):.3f} s | {memory(words, given):,} KiB |")
 
 
-# Messages of member 0 that member 1 is sent, in batches. All are acknowledged at once. Further members are in rooms of their own.
-def forwarding_script(members, batches):
-    lines = ["str0m-room 1", "join 0", "join 0"] + [f"join {k}" for k in range(2, members)]
-    lines += [f"{k} {step}" for k in range(2) for step in JOINING.replace("TURN", TURN).split("|")]
-    packet = 13
-    for number, size in enumerate(batches):
-        there, back = range(packet, packet + size), range(packet + size, packet + 2 * size)
-        lines += ["0 do R write 0 text 68"] * size + ["0 do R drain", *(f"0 arrive {p} 0" for p in there), "0 do L drain"]
-        lines += [f"0 do R datagram {p} 0" for p in back]
-        if number < len(batches) - 1:
-            lines += ["1 forward", "1 do L drain", *(f"1 do R datagram {p} 0" for p in there), "1 do R drain"]
-            lines += [f"1 arrive {p} 0" for p in back]
-        packet += 2 * size
-    return "".join(f"{line}\n" for line in lines).encode()
+# A forward of ten messages to member 1 of a room of so many, of which member 0 says all, behind so many batches that were forwarded, heard
+# and acknowledged. What calls of the allocator take is not in it.
+def forward_cost(members, batches, size):
+    def cost(forwards):
+        line = f"rooms {members} {batches} {size} {forwards}\n".encode()
+        cost, told = count_beside_allocator([program("rtc_examples_faulty")], line)
+        if told != b"agrees " + line:
+            sys.exit(f"measure: {line} ended with {told!r}")
+        return cost
+
+    return cost(1) - cost(0)
 
 
-# A forward of ten messages, with few and with many members, and after few and after many messages: within half of each other, but for
-# the allocator.
+# The dearest forward costs at most so much more than the cheapest.
+FORWARD_SHARE = 0.01
+
+
+# With few members and with many, and after few messages and after many, a forward costs the same.
 def forwarding():
     print("| Members | Messages before | A forward of ten |\n|---|---|---|")
     costs = []
-    for members, before in ((2, [10]), (256, [10]), (2, [500] * 20)):
-        given = forwarding_script(members, before + [10])
-        if len(given) > 1_048_576:
-            sys.exit("measure: the script of forwards is too long")
-        words = [program("rtc_room"), "run"]
-        (without, _), (cost, report) = count_beside_allocator(words, given), count_beside_allocator(words, given + b"1 forward\n")
-        if not report.endswith(b" forwarded 10\n") or report.count(b" forwarded ") != len(before) + 1:
-            sys.exit("measure: the messages are not forwarded")
-        costs.append(cost - without)
-        print(f"| {members} | {sum(before):,} | {costs[-1]:,} |")
-    if max(costs) > 1.5 * min(costs):
+    for members, batches, size in ((2, 1, 10), (256, 1, 10), (2, 20, 500)):
+        costs.append(forward_cost(members, batches, size))
+        print(f"| {members} | {batches * size:,} | {costs[-1]:,} |")
+    if max(costs) > (1 + FORWARD_SHARE) * min(costs):
         sys.exit("measure: a forward costs more with more members or more messages")
-
 
 
 def main():

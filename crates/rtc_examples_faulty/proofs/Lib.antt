@@ -1,1 +1,2 @@
 mod CourseSizes
+mod RoomCourseSizes

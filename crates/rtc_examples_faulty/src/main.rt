@@ -4,13 +4,16 @@
 //! `single PART SPAN` connects two peers whose left DTLS part, association or media part fails at one call, for each
 //! number from 0 to 63. `pairs PART SPAN COUNT SEED` does so at two calls, for so many pairs of numbers that the seed
 //! determines. So many milliseconds pass before each round. `crossed PART ROLE` crosses the offers of a polite and an
-//! impolite peer, of which the left one, in this role, has a part that fails. `numbers` are calls of a part alone.
+//! impolite peer, of which the left one, in this role, has a part that fails. `rooms MEMBERS BATCHES SIZE FORWARDS` forwards
+//! messages in a room of so many members, so that a tool that counts instructions sees what the last forward costs. `numbers`
+//! are calls of a part alone.
 #![tactic(auto)]
 
 mod checking;
 mod course;
 mod crossing;
 mod dtls_calls;
+mod forwarding;
 mod growing;
 mod media_calls;
 mod numbers;
@@ -18,6 +21,8 @@ mod part;
 mod performing;
 mod ran;
 mod refusals;
+mod room_course;
+mod room_meeting;
 mod stream_calls;
 mod table;
 mod telling;
@@ -36,6 +41,7 @@ impl Examples for Faults {
             "single" => is_true(table::does_hold_once(alloc, name)),
             "pairs" => is_true(table::does_hold_twice(alloc, name)),
             "crossed" => is_true(crossing::does_meet(alloc, name)),
+            "rooms" => is_true(forwarding::does_forward(alloc, name)),
             "numbers" => is_true(numbers::does_agree(alloc, name)),
             _ => false,
         }
