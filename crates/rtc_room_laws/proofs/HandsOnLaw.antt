@@ -13,9 +13,9 @@ use Rattle.rtc_run_history.specs.Runs.{Reached}
 use Rattle.rtc_run_history.specs.declared.side.Side.{Side}
 use Rattle.rtc_run_history.specs.declared.side.Side.TheVariants.{Left, Right}
 use Rattle.rtc_run_laws.specs.ChannelUses.{ChannelUse}
+use Rattle.rtc_run_laws.specs.Delivered.{AreDelivering}
 use Rattle.rtc_run_laws.specs.InBandSteps.{AreInBandSteps}
 use Rattle.rtc_run_laws.specs.NewPairs.{IsNewPair}
-use Rattle.rtc_run_laws.specs.OpenUses.{AreJoinedUses}
 use Rattle.rtc_run_laws.specs.SentMessages.{sent_over}
 use Rattle.rtc_run_laws.specs.SideDrains.{IsSideDrained}
 use Rattle.rtc_run_laws.specs.ToldMessages.{told_over}
@@ -23,7 +23,7 @@ use Rattle.rtc_run_laws.specs.Unannounced.{HaveNumbersLeft, IsAnnouncedOver}
 use Rattle.rtc_run_laws.specs.UsesOfRuns.{reached_by, uses_of}
 use Rattle.rtc_run_laws.proofs.BandedUses.{IsInBandUse, run_in_band}
 use Rattle.rtc_run_laws.proofs.GotStretches.{GotStretch, pair_stretch}
-use Rattle.rtc_run_laws.proofs.RestedRuns.{run_drained}
+use Rattle.rtc_run_laws.proofs.RestedRuns.{run_delivered_over}
 use Rattle.rtc_run_laws.proofs.RunsTold.{PairTold, new_pair_told, pair_handed_over, pair_whole, reached_told}
 use Rattle.rtc_run_laws.proofs.SilentRuns.{run_got}
 use Rattle.rtc_run_laws.proofs.UseLists.{all_member, prefix_through}
@@ -42,7 +42,7 @@ use Rattle.rtc_room_laws.proofs.HeardStretches.{room_stretch, two_rooms}
 use Rattle.rtc_room_laws.proofs.ItemTexts.{messages_by, messages_from-append}
 use Rattle.rtc_room_laws.proofs.LineMoves.{Stands}
 use Rattle.rtc_room_laws.proofs.NativeMembers.{numbered_is_new, own_native, room_own}
-use Rattle.rtc_room_laws.proofs.RolledLines.{sent_is, sent_over_is}
+use Rattle.rtc_room_laws.proofs.RolledLines.{sent_over_is}
 use Rattle.rtc_room_laws.proofs.RoomsStand.{heard_of, room_due, room_line}
 use Rattle.rtc_room_laws.proofs.TakenMessages.{taken_messages}
 use Rattle.rtc_room_laws.proofs.Talks.{blank, blanks_of}
@@ -148,11 +148,7 @@ module _ (alloc : Global) (past : List RoomEntry) (room : RoomState) (went : Roo
     x_band : x.in_band ≡ true
     x_band = in_band Left x x_there hub.in_band
 
-    -- what was taken is all that was sent over it
-    pub sent_taken : x.sent ≡ taken_messages own
-    sent_taken = sent_is ran.start new hub.channel own pair reached x stands.writes hub.first
-
-    -- also by what was sent to its stream
+    -- what was taken is all that was sent to its stream
     pub over_taken : (stream : ℕ) → x.stream ≡ Some stream
         → sent_over plain_parts is_ice_message ran.start Left own pair reached stream x.generation ≡ taken_messages own
     over_taken stream of = sent_over_is ran.start new hub.channel own pair native reached x stands.writes hub.first x_band stream of
@@ -206,11 +202,13 @@ module _ (alloc : Global) (past : List RoomEntry) (room : RoomState) (went : Roo
         over
 
     -- and all of it once all was delivered
-    pub got_all : IsSideDrained Right own → (h : AreJoinedUses plain_parts y pair.right x pair.left)
+    pub got_all : IsSideDrained Right own → (h : AreDelivering y pair.right x pair.left)
         → has_unacknowledged h.writer.stream pair.left.core.sctp.association.outbox.items ≡ false → y.got ≡ taken_messages own
-    got_all drained joined acknowledged =
-        run_drained counting is_ice_message ran.start new own pair native reached Right y x line.other (x_there x line.hub_end) drained joined acknowledged
-        ∙ sent_taken x line.hub_end
+    got_all drained delivering acknowledged =
+        run_delivered_over counting is_ice_message ran.start new own pair native reached Right y x line.other (x_there x line.hub_end) drained delivering
+        acknowledged
+        ∙ ap (sent_over plain_parts is_ice_message ran.start Left own pair reached delivering.reader.stream) line.generation_is
+        ∙ over_taken x line.hub_end delivering.reader.stream (sym line.stream_is ∙ delivering.reader.of)
 
     -- what the member wrote is what was sent over its end, unless that was rolled back
     pub wrote_over : y.rolled_back ≡ false → (stream : ℕ) → x.stream ≡ Some stream → sent_at alloc k past pair ran Right stream x.generation ≡ y.sent
@@ -230,8 +228,8 @@ module _ (alloc : Global) (past : List RoomEntry) (room : RoomState) (went : Roo
     apart = λ sender sender_there rooms x y line.
         prefix_none (messages_from s y.got) (heard_for alloc s m past room went) (prefix x y line)
         (two_rooms alloc s m past room went sender listener sender_there there rooms);
-    all = λ here in_room none x y line drained joined acknowledged.
-        ap (messages_from s) (got_all alloc past room went m listener there pair ran x y line drained joined acknowledged)
+    all = λ here in_room none x y line drained delivering acknowledged.
+        ap (messages_from s) (got_all alloc past room went m listener there pair ran x y line drained delivering acknowledged)
         ∙ sym
         (due.whole in_room here
         ∙ ap (λ l. messages_from s (taken_messages (performed_of m past)) ++ messages_by s l) none

@@ -15,8 +15,8 @@ use Rattle.rtc_run_history.specs.declared.side.Side.{Side}
 use Rattle.rtc_run_history.specs.declared.side.Side.TheVariants.{Left, Right}
 use Rattle.rtc_run_history.specs.declared.step.Step.{Step}
 use Rattle.rtc_run_laws.specs.ChannelUses.{ChannelUse}
+use Rattle.rtc_run_laws.specs.Delivered.{AreDelivering}
 use Rattle.rtc_run_laws.specs.InBandSteps.{AreInBandSteps}
-use Rattle.rtc_run_laws.specs.OpenUses.{AreJoinedUses}
 use Rattle.rtc_run_laws.specs.SentMessages.{sent_over}
 use Rattle.rtc_run_laws.specs.SideDrains.{IsSideDrained}
 use Rattle.rtc_run_laws.specs.Unannounced.{HaveNumbersLeft, IsAnnouncedOver}
@@ -129,8 +129,8 @@ pub record IsHeardOver (heard : List LineMessage) (x : ChannelUse) (written : (s
 
 module _ (alloc : Global) (past : List RoomEntry) (room : RoomState) (went : RoomWent alloc past room) where
   -- What a member got of another one over its line is a prefix of what the hub heard of that one for it, and nothing if their rooms differ.
-  -- If it has not left and was not put out, nothing waits for it, its line stays open at both ends, the hub's end has no unacknowledged
-  -- item of it, and the member's peer was drained, it got all of that.
+  -- It got all of that if it has not left and was not put out, nothing waits for it, neither end of its line was closed, its own end is
+  -- open, the hub's end has no unacknowledged item of the stream, and the member's peer was drained.
   pub record GetsOf (s m : ℕ) (listener : MemberState) (pair : PlainPairState) (ran : MemberRan alloc m past pair) : Type 0 where
     pub prefix : (x y : ChannelUse) → AreLineEndsOf alloc m past pair ran listener.line x y
         → IsPrefix (messages_from s y.got) (heard_for alloc s m past room went)
@@ -138,7 +138,7 @@ module _ (alloc : Global) (past : List RoomEntry) (room : RoomState) (went : Roo
         → AreLineEndsOf alloc m past pair ran listener.line x y → messages_from s y.got ≡ []
     pub all : listener.has_left ≡ false → listener.is_put_out ≡ false → listener.queue ≡ [] → (x y : ChannelUse)
         → AreLineEndsOf alloc m past pair ran listener.line x y → IsSideDrained Right (performed_of m past)
-        → (h : AreJoinedUses plain_parts y pair.right x pair.left)
+        → (h : AreDelivering y pair.right x pair.left)
         → has_unacknowledged h.writer.stream pair.left.core.sctp.association.outbox.items ≡ false
         → messages_from s y.got ≡ heard_for alloc s m past room went
 
