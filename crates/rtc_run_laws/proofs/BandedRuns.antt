@@ -25,10 +25,8 @@ use Rattle.rtc_run_history.specs.Sides.{other_side, side_of}
 use Rattle.rtc_run_laws.specs.NewPairs.{IsNewPair, IsNewPeer}
 use Rattle.rtc_run_laws.specs.PlainPairs.{PlainPair, PlainPolled, plain_over}
 use Rattle.rtc_run_laws.proofs.StepsExchange.{plain_over_laws}
-use Rattle.rtc_run_laws.specs.ConfirmedChannels.{WasConfirmed}
 use Rattle.rtc_run_laws.specs.InBandSteps.{AreInBandSteps, IsInBandStep}
-use Rattle.rtc_run_laws.specs.SettledPairs.{AreAllConfirmedOpen, AreInBandChannels, AreInBandStreams, HasNothingDue, IsInBandStream, IsSettledPair}
-use Rattle.rtc_run_laws.specs.UsesOfRuns.{uses_of}
+use Rattle.rtc_run_laws.specs.SettledPairs.{AreInBandChannels, AreInBandStreams, IsInBandStream, IsSettledPair}
 use Rattle.rtc_run_laws.proofs.BandedRows.{banded_in_band}
 use Rattle.rtc_run_laws.proofs.BandedMoments.{IsBanded}
 use Rattle.rtc_run_laws.proofs.BandedInputs.{KeepsBand, SideBanded}
@@ -36,7 +34,6 @@ use Rattle.rtc_run_laws.proofs.BandedChanges.{AreBandedTokens}
 use Rattle.rtc_run_laws.proofs.BandedSteps.{acts_band}
 use Rattle.rtc_run_laws.proofs.OpenSides.{not_closed}
 use Rattle.rtc_run_laws.proofs.StandingEntries.{AreBanded}
-use Rattle.rtc_run_laws.proofs.ConfirmedPairs.{settled_due_none}
 use Rattle.rtc_run_laws.proofs.NativeSteps.{native_entry}
 
 -- the last of the steps, and those before
@@ -136,12 +133,3 @@ module _ {N : Type 0} (draws : Draws N) where
         there = banded_in_band s (rtc_at (other_side at) pair).core.channels.rows (settled_band (other_side at)).rows;
       },
     )
-
-    -- each channel that was confirmed is open at both sides
-    pub settled_all : (at : Side) → HasNothingDue at past pair
-        → AreAllConfirmedOpen draws (λ c. WasConfirmed (plain_over draws) stun start at c past pair ran)
-        (uses_of (plain_over draws) stun start at past pair ran) (rtc_at at pair)
-        (uses_of (plain_over draws) stun start (other_side at) past pair ran) (rtc_at (other_side at) pair)
-    settled_all at later = λ c s confirmed under stand.
-        let band = settled_in_band at s in
-        settled_due_none draws stun start past pair go ran new settled at later c s confirmed under band.0 band.1 stand

@@ -65,7 +65,7 @@ module _ {I D S M E X T W N : Type 0} (m : Meanings I D S M E X T W N) (laws : P
   answer_band p (Err error) q h changed k =
       inr (polled_banded m.association laws.association p.core.channels p.core.sctp q.core.channels q.core.sctp changed k)
 
-  poll_band : (p : PolledPeer I D S M N) (answer : Result (Output E) RtcError) (q : PolledPeer I D S M N) → PollsPeer m p answer q → KeepsBand m p q
+  pub poll_band : (p : PolledPeer I D S M N) (answer : Result (Output E) RtcError) (q : PolledPeer I D S M N) → PollsPeer m p answer q → KeepsBand m p q
   poll_band p answer q h (inl e) = inl (closed_stays m p answer q e h).1
   poll_band p answer q h (inr k) = answer_band p answer q h (poll_acts m laws p answer q h).streams.changed k
 

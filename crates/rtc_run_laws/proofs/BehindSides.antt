@@ -70,7 +70,7 @@ open_only s es Q P h one = by (entries_of s es) refl (any_opened s es h) one
 first_is : (x e : StreamEntry) (l l' : List StreamEntry) → x ∷ l ≡ e ∷ l' → x ≡ e
 first_is x e l l' h = cc
 
-in_band_has : (s : ℕ) (own : Option ℕ) (es : List StreamEntry) (e : StreamEntry) (l : List StreamEntry) → entries_of s es ≡ e ∷ l → IsOpenInBand own e
+pub in_band_has : (s : ℕ) (own : Option ℕ) (es : List StreamEntry) (e : StreamEntry) (l : List StreamEntry) → entries_of s es ≡ e ∷ l → IsOpenInBand own e
     → HasOpenInBand s own es
 in_band_has s own [] e l h k = absurd (none_some h)
   where

@@ -204,6 +204,23 @@ mod OwnedChanges
 mod SideChanges
 mod RoleSides
 pub mod OwnedRuns
+mod NumberedTokens
+mod OwnNegotiation
+mod OwnTokens
+mod ForeignUses
+mod ForeignRuns
+mod SettledInBand
+mod StayingStreams
+mod SureNumbers
+mod FreshOpenings
+mod PolledUses
+mod RowedStreams
+mod OwnerPolls
+mod OtherSteps
+mod OwnerSteps
+mod OwnerRuns
+mod OwnerSettled
+pub mod OwnNumbers
 pub mod OwnSides
 pub mod ThereRows
 pub mod ThereRuns

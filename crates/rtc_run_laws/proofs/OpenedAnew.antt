@@ -94,7 +94,7 @@ once_more y (x ∷ uses) h k = (others_more x y uses h.0 k.0, once_more y uses h
 
 -- ---- an announcement
 
-any_at : (before : List StreamMessage) (last : StreamMessage) (rest : List StreamMessage) → is_dcep_message last ≡ true
+pub any_at : (before : List StreamMessage) (last : StreamMessage) (rest : List StreamMessage) → is_dcep_message last ≡ true
     → any_dcep ((before ++ last ∷ []) ++ rest) ≡ true
 any_at [] last rest h = by (is_dcep_message last) h
   where

@@ -39,7 +39,7 @@ free_side c t held is =
     (first_all (IsIdOf (parity_of c)) (free_streams (parity_of c) held) t
     (All-filter (λ stream. not (is_taken stream held)) (IsIdOf (parity_of c)) (all_ids (parity_of c)) (each_id (parity_of c) (two c))) is).0
 
-sought_side : (c : Bool) (t : ℕ) (held : Channels) (channel : Channel) → sought_by (parity_of c) held channel ≡ Some t → channel.negotiated ≡ None
+pub sought_side : (c : Bool) (t : ℕ) (held : Channels) (channel : Channel) → sought_by (parity_of c) held channel ≡ Some t → channel.negotiated ≡ None
     → IsOfSide c t
 sought_side c t held channel is none = by channel.stream is
   where

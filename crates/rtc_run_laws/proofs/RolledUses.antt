@@ -44,7 +44,7 @@ not_true : (b : Bool) → not b ≡ true → b ≡ false
 not_true true h = absurd (true≢false (sym h))
 not_true false h = refl
 
-none_has : (c : ℕ) (rows : List Channel) → HasNoRow c rows → has_channel c rows ≡ false
+pub none_has : (c : ℕ) (rows : List Channel) → HasNoRow c rows → has_channel c rows ≡ false
 none_has c [] h = refl
 none_has c (row ∷ rows) h = by (row.id == c) (ne_eqb row.id c h.0) (none_has c rows h.1)
   where
@@ -87,7 +87,7 @@ lost_gone c held held' below rises lost =
     (omega (arith, low, rises), has_none c held'.rows (not_true (has_channel c held'.rows) two.1))
 
 -- one that has a stream and goes is removed
-gone_lost : (s c : ℕ) (held held' : Channels) → over_rows s held.rows ≡ Some c → IsGone c held' → loses_channel c held.rows held'.rows ≡ true
+pub gone_lost : (s c : ℕ) (held held' : Channels) → over_rows s held.rows ≡ Some c → IsGone c held' → loses_channel c held.rows held'.rows ≡ true
 gone_lost s c held held' over gone =
     by (has_channel c held.rows) (over_has s c held.rows over) (has_channel c held'.rows) (none_has c held'.rows gone.1)
   where

@@ -16,7 +16,8 @@ use Rattle.rtc_run_laws.proofs.SettledRuns.{settled_answered, settled_confirmed,
 use Rattle.rtc_run_laws.proofs.OwnSides.{settled_own, settled_parted, settled_waits_none}
 use Rattle.rtc_run_laws.proofs.RoleSides.{settled_sides}
 use Rattle.rtc_run_laws.proofs.ConfirmedPairs.{settled_due_none, settled_wants_none}
-use Rattle.rtc_run_laws.proofs.BandedRuns.{settled_all, settled_in_band}
+use Rattle.rtc_run_laws.proofs.BandedRuns.{settled_in_band}
+use Rattle.rtc_run_laws.proofs.SettledInBand.{settled_all}
 
 module _ {N : Type 0} (draws : Draws N) where
   pub run_settles_open : (stun : List ℕ → Bool) (start pair : PlainPair N) (steps : List Step) (replies : List (Reply PlainMediaEvent))

@@ -160,7 +160,7 @@ module _ {I D S M E X T W N : Type 0} (m : Meanings I D S M E X T W N) where
     }
 
     -- what each call keeps that is none of negotiation
-    calls_rows : CallsKeep m StepRows
+    pub calls_rows : CallsKeep m StepRows
     calls_rows = record {
       none = λ p q is. rows_none p q is;
       on = λ p b q h k. rows_on p b q h k;

@@ -55,7 +55,7 @@ module _ {I D S M E X T W N : Type 0} (m : Meanings I D S M E X T W N) (keeps : 
   once_keep at p packets [] (EndRefused error) q packets' h = k.polls p (Err error) q h.0
   once_keep at p packets outputs end q packets' h = absurd h
 
-  drains_on_keep : (at : Side) (p : PolledPeer I D S M N) (packets : List SentPacket) (outputs : List (Shown E)) (end : PollEnd)
+  pub drains_on_keep : (at : Side) (p : PolledPeer I D S M N) (packets : List SentPacket) (outputs : List (Shown E)) (end : PollEnd)
       (q : PolledPeer I D S M N) (packets' : List SentPacket) → DrainsOn m at p packets outputs end q packets' → keeps p q
   drains_on_keep at p packets [] Ended q packets' h = absurd h
   drains_on_keep at p packets [] (EndRefused error) q packets' h = k.polls p (Err error) q h.0

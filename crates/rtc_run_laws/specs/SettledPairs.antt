@@ -219,7 +219,6 @@ AreAllConfirmedOpen draws confirmed uses p others q =
     (channel stream : ℕ)
     → confirmed channel
     → stream_under channel p.core.channels ≡ Some stream
-    → AreKeptUses stream uses p others q
     → IsOpenAtBoth draws channel uses p others q
 
 -- A run by these steps with these replies leaves it so at both sides, if it left the pair settled. Of channels that were confirmed it

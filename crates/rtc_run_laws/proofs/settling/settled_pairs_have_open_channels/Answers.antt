@@ -2,7 +2,8 @@ use Rattle.rtc_run_laws.proofs.OwnSides.{settled_own, settled_parted, settled_wa
 use Rattle.rtc_run_laws.proofs.RoleSides.{settled_sides}
 use Rattle.rtc_run_laws.proofs.SettlesRuns.{run_settles_open}
 use Rattle.rtc_run_laws.proofs.ConfirmedPairs.{settled_due_none, settled_wants_none}
-use Rattle.rtc_run_laws.proofs.BandedRuns.{settled_all, settled_in_band}
+use Rattle.rtc_run_laws.proofs.BandedRuns.{settled_in_band}
+use Rattle.rtc_run_laws.proofs.SettledInBand.{settled_all}
 use Rattle.rtc_run_laws.proofs.SettledRuns.{settled_answered, settled_confirmed, settled_idle, settled_later, settled_level, settled_open, settled_refused}
 use Rattle.rtc_run_laws.proofs.settling.settled_pairs_have_open_channels.Goals as goal
 
