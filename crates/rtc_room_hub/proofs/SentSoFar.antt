@@ -124,6 +124,7 @@ sent_up_to line items taken refused start old new item sent inside is so_far h e
   performed = last_entry line item old new sent h ∷ so_far.performed;
   refusal = ends.refusal;
   sends = record {
+    counted = omega (arith, inside);
     went = (old, so_far.went, record { performs = h.performs; made = refl });
     written = subst (λ (left : List Item). AreWritten line (take taken items) (Some ends.end) left (last_entry line item old new sent h ∷ so_far.performed))
         (sym (drop_at items taken item inside is)) (so_far.are_taken, refl, ends.outcome_is, h.lasts);
@@ -157,6 +158,7 @@ sent_all line items taken start now few past so_far = record {
   performed = so_far.performed;
   refusal = refl;
   sends = record {
+    counted = few;
     went = so_far.went;
     written = (so_far.are_taken, drop_past items taken past);
     few = omega (arith, so_far.count, few);

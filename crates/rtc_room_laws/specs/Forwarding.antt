@@ -63,6 +63,7 @@ AreWritten line items (Some end) (next ∷ left) (entry ∷ past) =
 -- so many of the items that wait for a member were written to its line, up to the one that was not taken, if one was not
 pub record SendsItems (line : ℕ) (queue : List Item) (taken : ℕ) (end : Option WriteEnd) (before : PlainPairState)
     (performed : List (Entry PlainMediaEvent)) (after : PlainPairState) : Type 0 where
+  pub counted : taken ≤ length queue
   pub went : Reached plain_parts is_ice_message before performed after
   pub written : AreWritten line (take taken queue) end (drop taken queue) performed
   pub few : length performed ≤ length queue
