@@ -10,9 +10,9 @@
  * - `malloc`, `realloc` and `free` are those of one allocator, which aligns as C asks. No call is made from a signal handler.
  *
  * Every call returns a status, but `gondyru_free_peer`. crates/rtc_c_handle/README.md has what each leaves as it was. One that returns
- * GONDYRU_DONE has done all of it, also if room that it made for later was refused: what needs the room asks for it again. Nothing is
- * called back, and no clock and no socket is read: moments and datagrams are handed in, and polls hand datagrams out. The parts of the
- * peer are those in memory: they protect nothing. */
+ * GONDYRU_DONE has done all of it. If memory for a later poll was refused meanwhile, that poll returns GONDYRU_NO_MEMORY, and the peer is
+ * closed. Nothing is called back, and no clock and no socket is read: moments and datagrams are handed in, and polls hand datagrams out.
+ * The parts of the peer are those in memory: they protect nothing. */
 #ifndef GONDYRU_H
 #define GONDYRU_H
 
@@ -159,12 +159,13 @@ uint32_t gondyru_stop_media(gondyru_peer *slot, const uint8_t *mid, size_t mid_l
 uint32_t gondyru_ice_restart(gondyru_peer *slot, bool keep);
 
 /* Offers these changes; the text of the offer is then to be sent. GONDYRU_NOTHING_TO_OFFER if there is nothing that the other side
- * has to know: a channel over a line that both sides have is open without an offer. If the peer refuses a change, all of them wait on,
- * until they are discarded. GONDYRU_NO_MEMORY may leave an offer pending, whose text is not there: roll back then. */
+ * has to know: a channel over a line that both sides have opens without an offer. If the peer refuses a change, all of them are kept
+ * until they are discarded. GONDYRU_NO_MEMORY may leave an offer pending, whose text is lost: roll back then. */
 uint32_t gondyru_offer(gondyru_peer *slot);
 uint32_t gondyru_discard_changes(gondyru_peer *slot);
 
-/* Accepts the offer of the other side; the text of the answer is then to be sent. */
+/* Accepts the offer of the other side; the text of the answer is then to be sent. GONDYRU_NO_MEMORY may be returned once the offer is
+ * accepted; the text of the answer is then lost. */
 uint32_t gondyru_accept_offer(gondyru_peer *slot, const uint8_t *text, size_t text_len);
 
 /* Accepts the answer to the pending offer. A text that cannot be read leaves the offer pending. */
