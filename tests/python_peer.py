@@ -6,11 +6,13 @@ usage: tests/python_peer.py
 import os
 import sys
 import threading
+from ctypes import byref
 
 sys.path.insert(0, os.path.join(os.path.dirname(os.path.dirname(os.path.abspath(__file__))), "python"))
 
 from gondyru import ChannelClose, ChannelData, ChannelOpen, Closed, Connected, Direction, GondyruError, IceConnectionStateChange, IceState
 from gondyru import MediaAdded, MediaKind, Peer, Reliability, Role, Status, Timeout, Transmit
+from gondyru.peer import _calls
 
 STEP = 20_000_000
 LEFT, RIGHT = ("10.0.0.1", 1000), ("10.0.0.2", 2000)
@@ -161,11 +163,24 @@ def end(pair):
         check("a peer waits", isinstance(peer.poll_output(), Timeout))
 
 
+# The thread that made a peer frees it by dropping it; another one does not.
+def dropped(_):
+    peers = [Peer(LEFT, 1), Peer(LEFT, 1)]
+    here, other = (peer._slot for peer in peers)
+    thread = threading.Thread(target=peers.pop)
+    thread.start()
+    thread.join()
+    check("a peer that another thread drops", _calls.gondyru_close(byref(other)) == Status.DONE)
+    peers.clear()
+    check("a peer that its thread drops", _calls.gondyru_close(byref(here)) == Status.NO_PEER)
+    _calls.gondyru_free_peer(byref(other))
+
+
 def main():
     if sys.argv[1:]:
         sys.exit(__doc__)
     pair = Pair()
-    for part in (first_offer, messages, changes, refusals, end):
+    for part in (first_offer, messages, changes, refusals, end, dropped):
         part(pair)
 
 

@@ -1,5 +1,6 @@
 """A peer, by the names of str0m."""
 import threading
+import weakref
 from ctypes import byref, c_size_t, create_string_buffer
 from typing import Any, Callable, Iterator, List, Optional, Union
 
@@ -78,11 +79,18 @@ def _within(number: int, bits: int) -> int:
     return number
 
 
+# Frees the peer of a slot, if it has one. Another thread than the one that made the peer may not.
+def _free_dropped(slot: library.Slot, thread: int) -> None:
+    if threading.get_ident() == thread:
+        _calls.gondyru_free_peer(byref(slot))
+
+
 class Peer:
     """A WebRTC peer over the parts in memory, with the address that it sends from.
 
     Its random numbers count up from `first`: no two peers of a session should draw the same ones. All its calls are made by the thread
-    that made it. It is freed at the end of a `with` block, or by `free`.
+    that made it. It is freed at the end of a `with` block, by `free`, or when that thread drops it. One that another thread drops is
+    never freed.
     """
 
     def __init__(self, address: Address, first: int, *, role: Role = Role.NO_ROLE, ice_lite: bool = False, snap: bool = False) -> None:
@@ -91,6 +99,7 @@ class Peer:
         self._row = library.OutputRow()
         settings = library.Settings(_within(first, 64), _row_of(address), role, ice_lite, snap)
         self._do(_calls.gondyru_new_peer, byref(settings))
+        weakref.finalize(self, _free_dropped, self._slot, self._thread)
 
     def __enter__(self) -> "Peer":
         return self
@@ -144,7 +153,10 @@ class Peer:
         self._do(_calls.gondyru_ice_restart, keep_local_candidates)
 
     def offer(self) -> Optional[str]:
-        """Offers what was added, set and stopped. None if the other side has nothing to know of it. What is refused waits on."""
+        """Offers what was added, set and stopped. None if the other side has nothing to know of it.
+
+        If the peer refuses a change, all of them are kept until `discard_changes`.
+        """
         status = _calls.gondyru_offer(self._here())
         if status == Status.NOTHING_TO_OFFER:
             return None
