@@ -396,6 +396,10 @@ def room_script(members, rooms):
     return "".join(f"{line}\n" for line in lines).encode()
 
 
+# What the members of rooms may take at most, in seconds and in KiB.
+ROOM_SECONDS, ROOM_MEMORY = 5, 65_536
+
+
 def room():
     print("| Members | Rooms | Bytes of the script | Wall time | Greatest memory |\n|---|---|---|---|---|")
     for members, rooms in ((32, 2), (256, 16)):
@@ -410,7 +414,10 @@ def room():
         heard = report.count(b"out event data 0 binary ")
         if heard != members * (members // rooms - 1) or b"nomember" in report or b"putout" in report:
             sys.exit(f"measure: the members of rooms heard {heard} messages")
-        print(f"| {members} | {rooms} | {len(given):,} | {min(times):.3f} s | {memory(words, given):,} KiB |")
+        taken, most = min(times), memory(words, given)
+        print(f"| {members} | {rooms} | {len(given):,} | {taken:.3f} s | {most:,} KiB |")
+        if taken > ROOM_SECONDS or most > ROOM_MEMORY:
+            sys.exit(f"measure: the members of rooms may take {ROOM_SECONDS} s and {ROOM_MEMORY:,} KiB")
 
 
 # A forward of ten messages to member 1 of a room of so many, of which member 0 says all, behind so many batches that were forwarded, heard
