@@ -50,29 +50,33 @@ abbrev pub IsPairOf : Global → Script → PlainPairState → Type 0
 IsPairOf alloc script pair =
     IsProgramPair alloc (peer_settings Left script.settings) (peer_settings Right script.settings) pair
 
--- A script was run on the program's pair, which is formed, with these replies, which left this pair. Each description that was made is read
--- back as it was written, if each SSRC was unused when it was drawn. No reply reports that a part failed: those in memory never do. If no
--- step brings in a text or bytes of anybody, channels hand out what the other side sent, and of those that were opened in-band each is
--- announced at most once. A buffered amount of 0 says that all that was sent over a channel is acknowledged, if its last message is not
--- empty. A side that is connected can send over its DTLS connection. If the run then leaves the pair settled, a channel that is open at a
--- side, over a stream that both keep, is open at both, and was announced at both. On glare a polite and an impolite side that are in step
--- meet. Each answer is of the kind that its operation gives. No name of a hash function that an error prints has an end of
--- line. A drain shows at most as many outputs as its peer weighs before it.
+-- A script was run on the program's pair, which is formed, with these replies, which left this pair. Four promises are for runs in which no
+-- step brings in a text or bytes of anybody.
 pub record RanScript (alloc : Global) (script : Script) (replies : List (Reply PlainMediaEvent)) (pair : PlainPairState) : Type 0 where
   pub start : PlainPairState
   pub program : IsPairOf alloc script start
   pub formed : ArePeersFormed plain_parts start
   pub runs : Runs plain_parts is_ice_message start script.steps replies pair
+  -- each description is read back with the SSRCs of its lines, and as it was written if each SSRC was unused when it was drawn
   pub read_back : AllReadBack pair.sdps
   pub plain : DrawsUnused plain_parts is_ice_message start script.steps replies pair runs → AllPlain pair.sdps
+  -- no reply reports that a part failed: those in memory never do
   pub no_fault : tell_fault replies ≡ false
+  -- what in-band channels hand out is what the other side sent, and each is announced at most once
   pub channels : are_native script.steps ≡ true → HandsOut counting is_ice_message start script.steps replies pair runs
+  -- once nothing is in flight, channels are open at both sides
   pub settles : are_native script.steps ≡ true → SettlesOpen counting is_ice_message start script.steps replies pair runs
+  -- a buffered amount of 0 says that all data is acknowledged, if the last message is not empty
   pub acknowledges : are_native script.steps ≡ true → AcknowledgesData counting is_ice_message start script.steps replies pair runs
+  -- a side that is connected can send over its DTLS connection
   pub connected : are_native script.steps ≡ true → ConnectedCanSend counting pair
+  -- crossed offers of a polite and an impolite side that are in step settle
   pub crossed : CrossedOffersMeet plain_parts is_ice_message start
+  -- each answer is of the kind that its operation gives
   pub answered : AreAnswersTo script.steps replies
+  -- no name of a hash function that an error prints has an end of line
   pub in_line : AreInLine replies
+  -- a drain shows at most as many outputs as its peer weighs before it
   pub drains : DrainsWithin plain_parts is_ice_message start runs.past pair
 
 -- This text is the report of a run of a script.
