@@ -170,9 +170,9 @@ def dropped(_):
     thread = threading.Thread(target=peers.pop)
     thread.start()
     thread.join()
-    check("a peer that another thread drops", _calls.gondyru_close(byref(other)) == Status.DONE)
+    check("a peer that another thread drops", _calls.gondyru_discard_changes(byref(other)) == Status.DONE)
     peers.clear()
-    check("a peer that its thread drops", _calls.gondyru_close(byref(here)) == Status.NO_PEER)
+    check("a peer that its thread drops", _calls.gondyru_discard_changes(byref(here)) == Status.NO_PEER)
     _calls.gondyru_free_peer(byref(other))
 
 
