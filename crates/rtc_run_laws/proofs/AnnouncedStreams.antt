@@ -89,7 +89,7 @@ over_more s own x [] h = absurd h
 over_more s own x (y ∷ uses) (inl h) = inl h
 over_more s own x (y ∷ uses) (inr h) = inr (over_more s own x uses h)
 
-over_last : (s : ℕ) (own : Option ℕ) (x : ChannelUse) (uses : List ChannelUse) → IsUseOver s own x → HasUseOver s own (uses ++ x ∷ [])
+pub over_last : (s : ℕ) (own : Option ℕ) (x : ChannelUse) (uses : List ChannelUse) → IsUseOver s own x → HasUseOver s own (uses ++ x ∷ [])
 over_last s own x [] h = inl h
 over_last s own x (y ∷ uses) h = inr (over_last s own x uses h)
 

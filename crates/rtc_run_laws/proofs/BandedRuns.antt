@@ -1,16 +1,10 @@
 -- In a run of new pairs by steps that settle no channel by other means than messages none is so, nor an entry of a stream, unless the peer is
 -- closed.
-use Rattle.std.proofs.Common.{◌≡◌, ◌∙◌, inl, inr, ◌++◌, ℕ, Bool, true, List, [], ◌∷◌, sym, ap, subst}
+use Rattle.std.proofs.Common.{◌≡◌, inl, inr, ◌++◌, ℕ, Bool, true, List, [], ◌∷◌, sym, subst}
 use Rattle.rtc_parts.specs.Draws.{Draws}
-use Rattle.rtc_plain_dtls.specs.Contents.{DtlsContents}
-use Rattle.rtc_plain_ice.specs.Contents.{IceContents}
-use Rattle.rtc_plain_media.specs.MediaContents.{MediaContents}
 use Rattle.rtc_plain_media.specs.declared.plain_media_event.PlainMediaEvent.{PlainMediaEvent}
-use Rattle.rtc_assoc_state.specs.Contents.{Contents}
 use Rattle.rtc_sctp_entries.specs.declared.stream_entry.StreamEntry.{StreamEntry}
-use Rattle.rtc_sctp.specs.Streams.{SctpStreams}
 use Rattle.rtc_channels.specs.Channels.{Channels, no_channels}
-use Rattle.rtc_peer_core.specs.declared.peer.Peer.{Peer}
 use Rattle.rtc_peer_core.specs.Meanings.{Meanings, PartsLaws}
 use Rattle.rtc_peer_transport.specs.declared.polled_peer.PolledPeer.{PolledPeer}
 use Rattle.rtc_run_history.specs.declared.kept.Kept.{Kept}
@@ -35,6 +29,7 @@ use Rattle.rtc_run_laws.proofs.BandedSteps.{acts_band}
 use Rattle.rtc_run_laws.proofs.OpenSides.{not_closed}
 use Rattle.rtc_run_laws.proofs.StandingEntries.{AreBanded}
 use Rattle.rtc_run_laws.proofs.NativeSteps.{native_entry}
+use Rattle.rtc_run_laws.proofs.NewPeers.{new_channels, new_entries}
 
 -- the last of the steps, and those before
 pub first_steps : (steps : List Step) (step : Step) → AreInBandSteps (steps ++ step ∷ []) → AreInBandSteps steps × IsInBandStep step
@@ -83,20 +78,8 @@ banded_stream s (e ∷ es) h = ((λ is. h.0), banded_stream s es h.1)
 module _ {N : Type 0} (draws : Draws N) where
   new_banded : (p : PlainPolled N) → IsNewPeer draws p.core → IsBanded p.core.channels p.core.sctp.entries
   new_banded p h =
-      subst (λ (x : Channels). IsBanded x p.core.sctp.entries) (sym (channels ∙ none))
-      (subst (λ (l : List StreamEntry). IsBanded no_channels l) (sym entries) (record { rows = tt; entries = tt }))
-    where
-      sctp : p.core.sctp ≡ h.built.sctp
-      sctp = ap (λ (x : Peer IceContents DtlsContents Contents MediaContents N). x.sctp) h.rest
-
-      channels : p.core.channels ≡ h.built.channels
-      channels = ap (λ (x : Peer IceContents DtlsContents Contents MediaContents N). x.channels) h.rest
-
-      none : h.built.channels ≡ no_channels
-      none = ap (λ (x : Peer IceContents DtlsContents Contents MediaContents N). x.channels) h.by_build.rest
-
-      entries : p.core.sctp.entries ≡ []
-      entries = ap (λ (x : SctpStreams Contents). x.entries) sctp ∙ ap (λ (x : SctpStreams Contents). x.entries) h.by_build.streams
+      subst (λ (x : Channels). IsBanded x p.core.sctp.entries) (sym (new_channels draws p h))
+      (subst (λ (l : List StreamEntry). IsBanded no_channels l) (sym (new_entries draws p h)) (record { rows = tt; entries = tt }))
 
   -- one that keeps no session description yet
   pub new_pair_banded : (pair : PlainPair N) → IsNewPair draws pair → pair.sdps ≡ [] → PairBanded (plain_over draws) (plain_over_laws draws) pair

@@ -51,7 +51,7 @@ use Rattle.rtc_run_laws.proofs.KeptNegotiation.{answer_step_keeps, offer_step_ke
 use Rattle.rtc_run_laws.proofs.RowLemmas.{closed_stays}
 use Rattle.rtc_run_laws.proofs.StandingEntries.{AreBanded}
 use Rattle.rtc_run_laws.proofs.StepRows.{RowsCancelled, rollback_rows}
-use Rattle.rtc_run_laws.proofs.StepWalks.{CallsKeep, calls_keep, close_keep, datagram_keep, drain_keep, poll_keep, write_keep}
+use Rattle.rtc_run_laws.proofs.StepWalks.{AnyInput, CallsKeep, calls_keep, close_keep, datagram_keep, drain_keep, poll_keep, write_keep}
 
 module _ {I D S M E X T W N : Type 0} (m : Meanings I D S M E X T W N) (laws : PartsLaws m) where
   -- ---- calls beside those of negotiation
@@ -72,14 +72,16 @@ module _ {I D S M E X T W N : Type 0} (m : Meanings I D S M E X T W N) (laws : P
   same_band : (p q : PolledPeer I D S M N) → q ≡ p → KeepsBand m p q
   same_band p q is = λ k. subst (λ (x : PolledPeer I D S M N). SideBanded m x) (sym is) k
 
-  calls_band : CallsKeep m (KeepsBand m)
+  calls_band : CallsKeep m AnyInput (KeepsBand m)
   calls_band = record {
-    none = same_band;
+    beside = record {
+      none = same_band;
+      inputs = λ input any p r q h. input_band m input p r q h;
+      writes = λ stream binary bytes p r q h. write_band m stream binary bytes p r q h;
+      shuts = λ id p r q h. shut_band m id p r q h;
+    };
     on = λ p b q h k x. k (h x);
     polls = poll_band;
-    inputs = λ input p r q h. input_band m input p r q h;
-    writes = λ stream binary bytes p r q h. write_band m stream binary bytes p r q h;
-    shuts = λ id p r q h. shut_band m id p r q h;
   }
 
   close_band : (p : PolledPeer I D S M N) (r : Result (Unit {0}) RtcError) (q : PolledPeer I D S M N) → ClosesPeer m p r q → KeepsBand m p q
@@ -223,23 +225,23 @@ module _ {I D S M E X T W N : Type 0} (m : Meanings I D S M E X T W N) (laws : P
       (held_banded sdps at token)
   acts_band stun other own (Time at now) old sdps packets outcome table new sdps' packets' go band h =
       same_tokens old sdps new sdps' h.1
-      (calls_keep m (KeepsBand m) calls_band (HandlesInput m (given.Timeout now)) (λ p r q x. input_band m (given.Timeout now) p r q x) old outcome table
+      (calls_keep m (KeepsBand m) calls_band.beside (HandlesInput m (given.Timeout now)) (λ p r q x. input_band m (given.Timeout now) p r q x) old outcome table
       new h.0)
   acts_band stun other own (Datagram at packet now) old sdps packets outcome table new sdps' packets' go band h =
       same_tokens old sdps new sdps' h.1
-      (datagram_keep m (KeepsBand m) calls_band stun (remote_packet packets at packet) now old outcome table new h.0)
+      (datagram_keep m (KeepsBand m) calls_band.beside stun (remote_packet packets at packet) now (λ datagram. tt) old outcome table new h.0)
   acts_band stun other own (Poll at) old sdps packets outcome table new sdps' packets' go band h =
       same_tokens old sdps new sdps' h.1 (poll_keep m (KeepsBand m) calls_band at old packets outcome table new packets' h.0)
   acts_band stun other own (Drain at) old sdps packets outcome table new sdps' packets' go band h =
       same_tokens old sdps new sdps' h.1 (drain_keep m (KeepsBand m) calls_band at old packets outcome table new packets' h.0)
   acts_band stun other own (Write at channel binary bytes) old sdps packets outcome table new sdps' packets' go band h =
       same_tokens old sdps new sdps' h.1
-      (write_keep m (KeepsBand m) calls_band (open_stream_under channel old) binary bytes old outcome table new h.0)
+      (write_keep m (KeepsBand m) calls_band.beside (open_stream_under channel old) binary bytes old outcome table new h.0)
   acts_band stun other own (CloseChannel at channel) old sdps packets outcome table new sdps' packets' go band h =
       same_tokens old sdps new sdps' h.1
-      (close_keep m (KeepsBand m) calls_band (open_stream_under channel old) channel old outcome table new h.0)
+      (close_keep m (KeepsBand m) calls_band.beside (open_stream_under channel old) channel old outcome table new h.0)
   acts_band stun other own (Close at) old sdps packets outcome table new sdps' packets' go band h =
-      same_tokens old sdps new sdps' h.1 (calls_keep m (KeepsBand m) calls_band (ClosesPeer m) close_band old outcome table new h.0)
+      same_tokens old sdps new sdps' h.1 (calls_keep m (KeepsBand m) calls_band.beside (ClosesPeer m) close_band old outcome table new h.0)
   acts_band stun other own (Rollback at token) old sdps packets outcome table new sdps' packets' go band h = record {
     side = λ tokens. cancels_band old new (rollback_rows m token (held_token sdps at token) old sdps outcome table new sdps' h.0);
     tokens = λ tokens. rolled_tokens token (held_token sdps at token) old sdps outcome table new sdps' h.0 tokens;

@@ -4,18 +4,14 @@ use Rattle.std.specs.Prelude.{is_some}
 use Rattle.std.proofs.lemmas.Bool.{eqb-true}
 use Rattle.rtc_assoc_state.specs.Contents.{Contents, is_started}
 use Rattle.rtc_assoc_state.specs.PlainMeaning.{plain_meaning}
-use Rattle.rtc_plain_ice.specs.Contents.{IceContents}
-use Rattle.rtc_plain_dtls.specs.Contents.{DtlsContents}
-use Rattle.rtc_plain_media.specs.MediaContents.{MediaContents}
 use Rattle.rtc_parts.specs.Draws.{Draws}
 use Rattle.rtc_sctp_entries.specs.declared.stream_entry_state.StreamEntryState.{StreamEntryState}
 use Rattle.rtc_sctp_entries.specs.declared.stream_entry_state.StreamEntryState.TheVariants.{AwaitOpen, AwaitConfig, AwaitDcepAck, Open, Closed}
 use Rattle.rtc_sctp_entries.specs.declared.stream_entry.StreamEntry.{StreamEntry}
 use Rattle.rtc_sctp_entries.specs.Entries.{has_open, is_open_awaited, is_open_state}
 use Rattle.rtc_sctp.specs.Streams.{SctpStreams}
-use Rattle.rtc_channels.specs.Channels.{AreRising, Channel, Channels, no_channels}
+use Rattle.rtc_channels.specs.Channels.{AreRising, Channel, Channels}
 use Rattle.rtc_channels.specs.Openings.{can_be_opened, can_open, channels_wake, is_progress_due}
-use Rattle.rtc_peer_core.specs.declared.peer.Peer.{Peer}
 use Rattle.rtc_peer_transport.specs.ChannelCalls.{stream_under}
 use Rattle.rtc_peer_laws.specs.ChannelStreams.{AreNumberedChannels}
 use Rattle.rtc_peer_laws.specs.Drained.{AreHeard, IsHeard}
@@ -28,6 +24,7 @@ use Rattle.rtc_run_laws.specs.SettledPairs.{WaitsForAnswer}
 use Rattle.rtc_run_laws.proofs.BegunRows.{AreSound, Awaits, HasGone, IsBegun, Stands}
 use Rattle.rtc_run_laws.proofs.StandingVisits.{IsStanding}
 use Rattle.rtc_run_laws.proofs.StandingEntries.{HasStanding, NoneClosed}
+use Rattle.rtc_run_laws.proofs.NewPeers.{new_channels, new_entries}
 
 no_some : (s : ℕ) → None ≡ Some s → ⊥
 no_some s h = cc
@@ -137,14 +134,7 @@ confirmed_stands c s held p numbers started idle (Stands t over h) under =
 
 module _ {N : Type 0} (draws : Draws N) where
   pub new_sound : (p : PlainPolled N) → IsNewPeer draws p.core → AreSound p.core.channels p.core.sctp
-  new_sound p h =
-      let sctp : p.core.sctp ≡ h.built.sctp = ap (λ (x : Peer IceContents DtlsContents Contents MediaContents N). x.sctp) h.rest in
-      let channels : p.core.channels ≡ h.built.channels = ap (λ (x : Peer IceContents DtlsContents Contents MediaContents N). x.channels) h.rest in
-      let none : h.built.channels ≡ no_channels =
-      ap (λ (x : Peer IceContents DtlsContents Contents MediaContents N). x.channels) h.by_build.rest in
-      let entries : p.core.sctp.entries ≡ [] =
-      ap (λ (x : SctpStreams Contents). x.entries) sctp ∙ ap (λ (x : SctpStreams Contents). x.entries) h.by_build.streams in
-      record {
-        numbers = subst (λ (x : Channels). AreNumberedChannels x) (sym (channels ∙ none)) (tt, tt, tt);
-        before = λ e. subst (λ (l : List StreamEntry). NoneClosed l) (sym entries) tt;
-      }
+  new_sound p h = record {
+    numbers = subst (λ (x : Channels). AreNumberedChannels x) (sym (new_channels draws p h)) (tt, tt, tt);
+    before = λ e. subst (λ (l : List StreamEntry). NoneClosed l) (sym (new_entries draws p h)) tt;
+  }

@@ -54,7 +54,7 @@ use Rattle.rtc_run_laws.proofs.NativeSteps.{native_entry}
 use Rattle.rtc_run_laws.proofs.NegotiationActed.{answer_acts, negotiates_did, offer_acts, rollback_acts}
 use Rattle.rtc_run_laws.proofs.NewPeers.{new_exchanged}
 use Rattle.rtc_run_laws.proofs.RunsExchange.{reached_exchanged, went_reached}
-use Rattle.rtc_run_laws.proofs.StepWalks.{CallsKeep, calls_keep, close_keep, datagram_keep, drain_keep, poll_keep, write_keep}
+use Rattle.rtc_run_laws.proofs.StepWalks.{AnyInput, CallsKeep, calls_keep, close_keep, datagram_keep, drain_keep, poll_keep, write_keep}
 
 -- ---- steps
 
@@ -75,20 +75,22 @@ module _ {N : Type 0} (draws : Draws N) where
       let did = close_acts (plain_over draws) nothing_came [] plain_laws p r q h in
       acts_go p q did.acts did.went.dtls (closes_same (plain_over draws) p r q h)
 
-  calls_go : CallsKeep (plain_over draws) Goes
+  calls_go : CallsKeep (plain_over draws) AnyInput Goes
   calls_go = record {
-    none = λ p q is. same_goes p q is;
+    beside = record {
+      none = λ p q is. same_goes p q is;
+      inputs = λ input any p r q h.
+          let did = input_acts (plain_over draws) plain_laws input p r q h in
+          acts_go p q did.acts did.went.dtls (inputs_same (plain_over draws) p q input r h);
+      writes = λ stream binary bytes p r q h.
+          let did = write_acts (plain_over draws) stream binary bytes p r q h in
+          acts_go p q did.acts did.went.dtls (writes_same (plain_over draws) p q stream binary bytes r h);
+      shuts = λ id p r q h.
+          let did = channel_close_acts (plain_over draws) id p r q h in
+          acts_go p q did.acts did.went.dtls (channel_closes_same (plain_over draws) p q id r h);
+    };
     on = λ p b q h k. λ fit. k (h fit);
     polls = λ p answer q h. λ fit. poll_fit draws p answer q h fit;
-    inputs = λ input p r q h.
-        let did = input_acts (plain_over draws) plain_laws input p r q h in
-        acts_go p q did.acts did.went.dtls (inputs_same (plain_over draws) p q input r h);
-    writes = λ stream binary bytes p r q h.
-        let did = write_acts (plain_over draws) stream binary bytes p r q h in
-        acts_go p q did.acts did.went.dtls (writes_same (plain_over draws) p q stream binary bytes r h);
-    shuts = λ id p r q h.
-        let did = channel_close_acts (plain_over draws) id p r q h in
-        acts_go p q did.acts did.went.dtls (channel_closes_same (plain_over draws) p q id r h);
   }
 
   -- each step, an arm each
@@ -105,20 +107,20 @@ module _ {N : Type 0} (draws : Draws N) where
       let did = answer_acts (plain_over draws) token (held_token sdps at token) (kept_remote_sdp false sdps at answer) old sdps outcome table new sdps' h.0 in
       acts_go old new did.acts did.went.dtls (ap (λ x. x.handshake) h.1.connection)
   acts_fit stun other own (Time at now) old sdps packets outcome table new sdps' packets' native h =
-      calls_keep (plain_over draws) Goes calls_go (HandlesInput (plain_over draws) (given.Timeout now))
-      (λ p r q k. calls_go.inputs (given.Timeout now) p r q k) old outcome table new h.0
+      calls_keep (plain_over draws) Goes calls_go.beside (HandlesInput (plain_over draws) (given.Timeout now))
+      (λ p r q k. calls_go.beside.inputs (given.Timeout now) tt p r q k) old outcome table new h.0
   acts_fit stun other own (Datagram at packet now) old sdps packets outcome table new sdps' packets' native h =
-      datagram_keep (plain_over draws) Goes calls_go stun (remote_packet packets at packet) now old outcome table new h.0
+      datagram_keep (plain_over draws) Goes calls_go.beside stun (remote_packet packets at packet) now (λ datagram. tt) old outcome table new h.0
   acts_fit stun other own (Poll at) old sdps packets outcome table new sdps' packets' native h =
       poll_keep (plain_over draws) Goes calls_go at old packets outcome table new packets' h.0
   acts_fit stun other own (Drain at) old sdps packets outcome table new sdps' packets' native h =
       drain_keep (plain_over draws) Goes calls_go at old packets outcome table new packets' h.0
   acts_fit stun other own (Write at channel binary bytes) old sdps packets outcome table new sdps' packets' native h =
-      write_keep (plain_over draws) Goes calls_go (open_stream_under channel old) binary bytes old outcome table new h.0
+      write_keep (plain_over draws) Goes calls_go.beside (open_stream_under channel old) binary bytes old outcome table new h.0
   acts_fit stun other own (CloseChannel at channel) old sdps packets outcome table new sdps' packets' native h =
-      close_keep (plain_over draws) Goes calls_go (open_stream_under channel old) channel old outcome table new h.0
+      close_keep (plain_over draws) Goes calls_go.beside (open_stream_under channel old) channel old outcome table new h.0
   acts_fit stun other own (Close at) old sdps packets outcome table new sdps' packets' native h =
-      calls_keep (plain_over draws) Goes calls_go (ClosesPeer (plain_over draws)) (λ p r q k. close_goes p r q k) old outcome table new h.0
+      calls_keep (plain_over draws) Goes calls_go.beside (ClosesPeer (plain_over draws)) (λ p r q k. close_goes p r q k) old outcome table new h.0
   acts_fit stun other own (Rollback at token) old sdps packets outcome table new sdps' packets' native h =
       let did = rollback_acts (plain_over draws) token (held_token sdps at token) old sdps outcome table new sdps' h.0 in
       acts_go old new did.acts did.went.dtls (ap (λ x. x.handshake) h.1.connection)

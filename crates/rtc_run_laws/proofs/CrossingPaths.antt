@@ -8,7 +8,7 @@ use Rattle.rtc_run_history.specs.declared.side.Side.{Side}
 use Rattle.rtc_run_history.specs.declared.step.Step.{Step}
 use Rattle.rtc_run_history.specs.Past.{Entry, steps_of}
 use Rattle.rtc_run_laws.specs.Crossed.{BeginsWith, CrossedNumbers, IsCourse, PoliteFirst, ImpoliteFirst, orders}
-use Rattle.rtc_run_laws.proofs.CrossingPhases.{Polite, Quiet, Out, Back, Done, Impolite, Still, Asks, Told, Over, Leads, Path, Here, There, OffersFirst, OffersLast, AsksFirst, AsksLast, ClashesOut, ClashesBack, ClashesDone, RollsBack, Answers, Ends}
+use Rattle.rtc_run_laws.proofs.CrossingPhases.{Polite, Quiet, Out, Back, Done, Impolite, Still, Asks, Told, Over, Leads, OffersFirst, OffersLast, AsksFirst, AsksLast, ClashesOut, ClashesBack, ClashesDone, RollsBack, Answers, Ends}
 
 module _ (s : Side) (ops others : List Op) (n : CrossedNumbers) where
   -- steps that lead from phases to the end of the round
@@ -87,15 +87,6 @@ module _ (s : Side) (ops others : List Op) (n : CrossedNumbers) where
       (ends.count, subst (λ (ip : Impolite). LedTo first entries ends.count Done ip) impolite (subst (λ (pp : Polite). LedTo first entries ends.count pp ends.impolite) polite ends.led))
 
   -- ---- as a path
-
-  path_of : (k : ℕ) (pp : Polite) (ip : Impolite) (steps : List Step) → LeadOn k pp ip steps → Path s ops others n k pp ip steps
-  path_of k pp ip [] h =
-      subst (λ (p : Polite). Path s ops others n k p ip []) (sym h.0) (subst (λ (i : Impolite). Path s ops others n k Done i []) (sym h.1) (Here k))
-  path_of k pp ip (step ∷ steps) h = There k h.0 pp h.1 ip h.2 step steps h.3 (path_of h.0 h.1 h.2 steps h.4)
-
-  -- a course is a path to the end of the round
-  pub course_path : (k : ℕ) (steps : List Step) → IsCourse s k ops others n steps → Path s ops others n k Quiet Still steps
-  course_path k steps is = path_of k Quiet Still steps (course_leads k steps is)
 
   -- the two offers have two numbers
   pub course_numbers : (k : ℕ) (steps : List Step) → IsCourse s k ops others n steps → (n.polite == n.impolite) ≡ false

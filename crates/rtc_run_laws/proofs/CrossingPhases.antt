@@ -1,5 +1,5 @@
 -- Where the steps of crossed offers lead: the phases of the polite side and of the impolite one.
-use Rattle.std.proofs.Common.{◌≡◌, ◌+◌, ℕ, true, List, [], ◌∷◌}
+use Rattle.std.proofs.Common.{◌≡◌, ◌+◌, ℕ, true, List}
 use Rattle.rtc_run_history.specs.declared.op.Op.{Op}
 use Rattle.rtc_run_history.specs.declared.side.Side.{Side}
 use Rattle.rtc_run_history.specs.declared.step.Step.{Step}
@@ -33,8 +33,3 @@ pub data Leads (s : Side) (ops others : List Op) (n : CrossedNumbers) : ℕ → 
   RollsBack : (k : ℕ) → Leads s ops others n k Out Asks (rollback_step s n) k Back Asks
   Answers : (k : ℕ) → n.answer ≡ k → Leads s ops others n k Back Asks (answer_step s n) (k + 1) Done Told
   Ends : (k : ℕ) → Leads s ops others n k Done Told (end_step s n) k Done Over
-
--- steps that lead on, one after the other, to the end of the round
-pub data Path (s : Side) (ops others : List Op) (n : CrossedNumbers) : ℕ → Polite → Impolite → List Step → Type 0 where
-  Here : (k : ℕ) → Path s ops others n k Done Over []
-  There : (k k' : ℕ) (pp pp' : Polite) (ip ip' : Impolite) (step : Step) (steps : List Step) → Leads s ops others n k pp ip step k' pp' ip' → Path s ops others n k' pp' ip' steps → Path s ops others n k pp ip (step ∷ steps)

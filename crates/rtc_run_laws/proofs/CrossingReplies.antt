@@ -1,32 +1,25 @@
 -- The offer of the impolite side is answered, and the answer ends the round.
-use Rattle.std.proofs.Common.{◌≡◌, ◌≢◌, ◌+◌, ◌&&◌, not, ℕ, Bool, true, false, List, [], ◌∷◌, ◌++◌, length, Option, Some, None, refl, sym, ◌∙◌, ap, subst}
-use Rattle.std.specs.Prelude.{is_some, slice_get}
-use Rattle.rtc_sctp_values.specs.InitHalves.{InitHalves, local_text}
-use Rattle.rtc_sctp_values.specs.SnapHalves.{KeptHalves, text_in}
-use Rattle.rtc_sdp_values.specs.Sdp.{sdp_sctp_init}
-use Rattle.rtc_sdp_values.specs.declared.line_row.LineRow.{LineRow}
+use Rattle.std.proofs.Common.{◌≡◌, ◌≢◌, ◌+◌, ◌&&◌, ℕ, Bool, true, false, List, [], ◌∷◌, ◌++◌, length, Option, Some, None, refl, sym, ◌∙◌, ap, subst}
+use Rattle.std.specs.Prelude.{slice_get}
 use Rattle.rtc_sdp_values.specs.declared.sdp.Sdp.{Sdp}
-use Rattle.rtc_change.specs.Held.{Asked, Held}
-use Rattle.rtc_change.specs.PendingOffer.{staged_restart}
 use Rattle.rtc_change.specs.Plans.{verdict}
 use Rattle.rtc_peer_core.proofs.StanceTaken.{StandsAnswer, StandsOffer}
 use Rattle.rtc_peer_core.specs.Glare.{meets_glare}
-use Rattle.rtc_peer_core.specs.Stance.{Stance, held_by}
-use Rattle.rtc_peer_core.specs.declared.rtc_error.RtcError.TheVariants.{Alloc as PeerAlloc, Dtls, RemoteSdp, Sctp, Sdp as SdpRefused}
+use Rattle.rtc_peer_core.specs.Stance.{held_by}
 use Rattle.rtc_run_history.specs.Memory.{fails}
-use Rattle.rtc_run_history.specs.Orderly.{AreJoined, can_connect}
+use Rattle.rtc_run_history.specs.Orderly.{can_connect}
 use Rattle.rtc_run_history.specs.Outstanding.{has_outstanding}
 use Rattle.rtc_run_history.specs.PairState.{held_token, kept_remote_sdp}
-use Rattle.rtc_run_history.specs.Past.{Entry, MadeSdp, before, holds_token, is_right, remote_sdp, restarts_by, sdp_for, sdps}
+use Rattle.rtc_run_history.specs.Past.{Entry, MadeSdp, before, holds_token, is_right, remote_sdp, restarts_by, sdps}
 use Rattle.rtc_run_history.specs.Performs.{kept_answer}
 use Rattle.rtc_run_history.specs.SaidRows.{are_live}
 use Rattle.rtc_run_history.specs.Sides.{other_side}
-use Rattle.rtc_run_history.specs.Signalled.{NotMade, Readable, ReadsBack, Signalled, Unreadable, signalled_if}
-use Rattle.rtc_run_history.specs.Sound.{RepliesToAnswer, RepliesToOffer, asked_in, is_glare_at}
+use Rattle.rtc_run_history.specs.Signalled.{Readable, ReadsBack}
+use Rattle.rtc_run_history.specs.Sound.{asked_in, is_glare_at}
 use Rattle.rtc_run_history.specs.SoundEntry.{AreReadBack}
-use Rattle.rtc_run_history.specs.Views.{Stances, view_in}
+use Rattle.rtc_run_history.specs.Views.{view_in}
 use Rattle.rtc_run_history.specs.declared.outcome.Outcome.{Outcome}
-use Rattle.rtc_run_history.specs.declared.outcome.Outcome.TheVariants.{Answered, Finished, Refused}
+use Rattle.rtc_run_history.specs.declared.outcome.Outcome.TheVariants.{Answered, Finished}
 use Rattle.rtc_run_history.specs.declared.side.Side.{Side}
 use Rattle.rtc_run_history.specs.declared.side.Side.TheVariants.{Left, Right}
 use Rattle.rtc_run_history.specs.declared.step.Step.TheVariants.{AcceptAnswer, AcceptOffer}
@@ -40,124 +33,19 @@ use Rattle.rtc_run_laws.proofs.CrossingOffers.{some_live}
 use Rattle.rtc_run_laws.proofs.CrossingRoles.{HasRole, role_answered, roles_ended}
 use Rattle.rtc_run_laws.proofs.Knowns.{Known, Takes, known_read, known_sees, known_sound, known_starts, known_tells}
 use Rattle.rtc_run_laws.proofs.Around.{entry, length-told}
-use Rattle.rtc_run_laws.proofs.AsReadSdps.{init_as_read}
-use Rattle.rtc_run_laws.proofs.Entries.{said_at}
 use Rattle.rtc_run_laws.proofs.OpsNext.{same_made}
 use Rattle.rtc_run_laws.proofs.OrderlyNext.{answered_by, ends_by}
-use Rattle.rtc_run_laws.proofs.OrderlyRuns.{delivered_at, inited_alike, kept_read, token_held}
+use Rattle.rtc_run_laws.proofs.OrderlyRuns.{answer_head, delivered_at, inited_alike, kept_read, offer_head}
+use Rattle.rtc_run_laws.proofs.OrderlySteps.{answer_finishes, offer_answers}
 use Rattle.rtc_run_laws.proofs.PastAnswers.{answered}
 use Rattle.rtc_run_laws.proofs.PastOffers.{next_there}
-use Rattle.rtc_run_laws.proofs.RoundRows.{HeadPasses}
 use Rattle.rtc_run_laws.proofs.RowNames.{Aligned}
-use Rattle.rtc_run_laws.proofs.SeenSides.{SideSees, view_is}
 use Rattle.rtc_run_laws.proofs.SideRoundSteps.{accepted_round, other_twice}
-use Rattle.rtc_run_laws.proofs.SideRounds.{IsAnswerOut, IsOfferOut, side_passes, told_as_read}
+use Rattle.rtc_run_laws.proofs.SideRounds.{IsAnswerOut, IsOfferOut}
 use Rattle.rtc_run_laws.proofs.SoundPasts.{Sound}
 use Rattle.rtc_run_laws.proofs.StanceSteps.{PairStance, lent}
-use Rattle.rtc_run_laws.proofs.StartHalves.{AnswersHalf, TellsHalf, init_passes}
 use Rattle.rtc_run_laws.proofs.Takings.{answer_taking, offer_taking}
 use Rattle.rtc_run_laws.proofs.Tells.{Tells}
-
--- ---- heads
-
--- one of the two sides is not lite
-lites_apart : (fresh : Stances) → can_connect fresh ≡ true → (at : Side) → ((fresh (other_side at)).ice.lite && (fresh at).ice.lite) ≡ false
-lites_apart fresh connect Left = by (fresh Left).ice.lite (fresh Right).ice.lite connect
-  where
-    by : (left right : Bool) → not (left && right) ≡ true → (right && left) ≡ false
-    by true true is = absurd (cc)
-    by true false is = refl
-    by false true is = refl
-    by false false is = refl
-lites_apart fresh connect Right = by (fresh Left).ice.lite (fresh Right).ice.lite connect
-  where
-    by : (left right : Bool) → not (left && right) ≡ true → (left && right) ≡ false
-    by true true is = absurd (cc)
-    by true false is = refl
-    by false true is = refl
-    by false false is = refl
-
-told_started : (inited : Bool) (snap : KeptHalves) (told : Option (List ℕ)) → inited ≡ true → TellsHalf inited snap told → told ≡ text_in local_text snap.started
-told_started true snap told is tells = tells
-told_started false snap told is tells = absurd (cc)
-
-answered_started : (inited : Bool) (snap : KeptHalves) (theirs : Option InitHalves) (says : Bool) (told : Option (List ℕ)) → inited ≡ true → AnswersHalf inited snap theirs says told
-    → AreJoined snap.started theirs × (told ≡ text_in local_text theirs)
-answered_started true snap theirs says told is half = half
-answered_started false snap theirs says told is half = absurd (cc)
-
--- the head of an offer that is out passes at the other side
-offer_head : {E : Type 0} → (fresh : Stances) (past : List (Entry E)) (pair : PairStance) (side : Side) (k : ℕ) (sdp : Sdp) → can_connect fresh ≡ true → Tells past pair → AreReadBack (sdps past) → ((at : Side) → SideSees fresh past at (pair.sides at))
-    → IsOfferOut side k pair → (pair.sides (other_side side)).inited ≡ (pair.sides side).inited → remote_sdp true (other_side side) k past ≡ Readable sdp
-    → HeadPasses (view_in fresh (other_side side) past (held_by (pair.sides (other_side side)))) true sdp
-offer_head fresh past pair side k sdp connect tells read sees out alike is =
-    let reads : ReadsBack out.offer.kept.sdp = kept_read past pair k out.offer.kept tells read out.offer.there in
-    let same : as_read out.offer.kept.sdp ≡ sdp = delivered_at pair true (other_side side) k out.offer.kept sdp reads out.offer.there (sym remote_told) in
-    let mine : Stance = pair.sides (other_side side) in
-    let apart : (mine.ice.lite && (pair.sides side).ice.lite) ≡ false = rw ((sees (other_side side)).lite, (sees side).lite) (lites_apart fresh connect side) in
-    let joined : AreJoined mine.snap.started (pair.sides side).snap.started =
-    subst (λ (one : Side). AreJoined mine.snap.started (pair.sides one).snap.started) (other_twice side) (out.joined (other_side side)) in
-    rw (view_is fresh past (other_side side) mine (tells.sides (other_side side)).rows (sees (other_side side)))
-    (rw (← same) (record {
-      side = side_passes (held_by mine) true (as_read out.offer.kept.sdp) _ _ (told_as_read _ _ _ out.offer.tells) apart (λ may. absurd (let e : true ≡ false = may in cc));
-      init = init_passes mine.inited mine.snap.started (pair.sides side).snap.started (sdp_sctp_init (as_read out.offer.kept.sdp))
-          (λ is. (joined, init_as_read out.offer.kept.sdp ∙ told_started (pair.sides side).inited (pair.sides side).snap (sdp_sctp_init out.offer.kept.sdp) (sym alike ∙ is) out.offer.half));
-    }))
-  where
-    remote_told : Readable sdp ≡ kept_remote_sdp true pair.sdps (other_side side) k
-    remote_told = sym is ∙ ap (λ said. signalled_if (sdp_for true (other_side side) said)) (said_at past pair k tells.says)
-
--- the head of an answer that is out passes at the side that offered
-answer_head : {E : Type 0} → (fresh : Stances) (past : List (Entry E)) (pair : PairStance) (at : Side) (t a : ℕ) (sdp : Sdp) → can_connect fresh ≡ true → Tells past pair → AreReadBack (sdps past) → ((side : Side) → SideSees fresh past side (pair.sides side))
-    → IsAnswerOut at t a pair → remote_sdp false at a past ≡ Readable sdp → HeadPasses (view_in fresh at past (held_by (pair.sides at))) (restarts_by t past) sdp
-answer_head fresh past pair at t a sdp connect tells read sees out is =
-    let reads : ReadsBack out.answer.sdp = kept_read past pair a out.answer tells read out.there in
-    let same : as_read out.answer.sdp ≡ sdp = delivered_at pair false at a out.answer sdp reads out.there (sym remote_told) in
-    let mine : Stance = pair.sides at in
-    let apart : (mine.ice.lite && (pair.sides (other_side at)).ice.lite) ≡ false =
-    rw ((sees at).lite, (sees (other_side at)).lite) (subst (λ (side : Side). ((fresh side).ice.lite && (fresh (other_side at)).ice.lite) ≡ false) (other_twice at) (lites_apart fresh connect (other_side at))) in
-    let restarts : is_some (staged_restart out.offer.token.changes) ≡ restarts_by t past = ((tells.sides at).tokens t).restarts out.offer.token (token_held at t pair out.offer) in
-    rw (view_is fresh past at mine (tells.sides at).rows (sees at))
-    (rw (← same) (record {
-      side = side_passes (held_by mine) (restarts_by t past) (as_read out.answer.sdp) _ _ (told_as_read _ _ _ out.tells) apart (λ may. out.known (restarts ∙ may));
-      init = init_passes mine.inited mine.snap.started (pair.sides (other_side at)).snap.started (sdp_sctp_init (as_read out.answer.sdp))
-          (λ is. let both = answered_started mine.inited mine.snap (pair.sides (other_side at)).snap.started out.offer.token.says_init (sdp_sctp_init out.answer.sdp) is out.half in
-          (both.0, init_as_read out.answer.sdp ∙ both.1));
-    }))
-  where
-    remote_told : Readable sdp ≡ kept_remote_sdp false pair.sdps at a
-    remote_told = sym is ∙ ap (λ said. signalled_if (sdp_for false at said)) (said_at past pair a tells.says)
-
--- ---- outcomes
-
--- an offer that is not refused is answered, where nothing fails
-offer_answers : {E : Type 0} → (glare : Bool) (sdp : Signalled) (said : Sdp) (view : Held) (next : ℕ) (outcome : Outcome E) (after : List LineRow) → glare ≡ false → sdp ≡ Readable said → verdict view None said ≡ None
-    → RepliesToOffer glare sdp view next outcome after → fails outcome ≡ false → (j : ℕ) × (outcome ≡ Answered j)
-offer_answers true sdp said view next outcome after none is passes takes enough = absurd (cc)
-offer_answers false NotMade said view next outcome after none is passes takes enough = absurd (cc)
-offer_answers false (Unreadable line) said view next outcome after none is passes takes enough = absurd (cc)
-offer_answers false (Readable sdp) said view next (Answered k) after none is passes takes enough = (k, refl)
-offer_answers false (Readable sdp) said view next (Refused (RemoteSdp why)) after none is passes takes enough = absurd (let same : sdp ≡ said = cc in let e = rw same at takes.0 in cc)
-offer_answers false (Readable sdp) said view next (Refused (SdpRefused error)) after none is passes takes enough = absurd (let same : sdp ≡ said = cc in let e = rw same at takes.0 in cc)
-offer_answers false (Readable sdp) said view next (Refused (Dtls error)) after none is passes takes enough = absurd (cc)
-offer_answers false (Readable sdp) said view next (Refused (Sctp error)) after none is passes takes enough = absurd (let e = rw takes.0 at enough in cc)
-offer_answers false (Readable sdp) said view next (Refused PeerAlloc) after none is passes takes enough = absurd (cc)
-offer_answers false (Readable sdp) said view next outcome after none is passes takes enough = absurd takes
-
--- an answer that is not refused finishes, where nothing fails
-answer_finishes : {E : Type 0} → (held right : Bool) (asked : Asked) (sdp : Signalled) (said : Sdp) (view : Held) (outcome : Outcome E) (after : List LineRow) → held ≡ true → right ≡ true → sdp ≡ Readable said
-    → verdict view (Some asked) said ≡ None → RepliesToAnswer held right asked sdp view outcome after → fails outcome ≡ false → outcome ≡ Finished
-answer_finishes false right asked sdp said view outcome after held_is right_is is passes takes enough = absurd (cc)
-answer_finishes true false asked sdp said view outcome after held_is right_is is passes takes enough = absurd (cc)
-answer_finishes true true asked NotMade said view outcome after held_is right_is is passes takes enough = absurd (cc)
-answer_finishes true true asked (Unreadable line) said view outcome after held_is right_is is passes takes enough = absurd (cc)
-answer_finishes true true asked (Readable sdp) said view Finished after held_is right_is is passes takes enough = refl
-answer_finishes true true asked (Readable sdp) said view (Refused (RemoteSdp why)) after held_is right_is is passes takes enough = absurd (let same : sdp ≡ said = cc in let e = rw same at takes.0 in cc)
-answer_finishes true true asked (Readable sdp) said view (Refused (SdpRefused error)) after held_is right_is is passes takes enough = absurd (let same : sdp ≡ said = cc in let e = rw same at takes.0 in cc)
-answer_finishes true true asked (Readable sdp) said view (Refused (Dtls error)) after held_is right_is is passes takes enough = absurd (cc)
-answer_finishes true true asked (Readable sdp) said view (Refused (Sctp error)) after held_is right_is is passes takes enough = absurd (let e = rw takes.0 at enough in cc)
-answer_finishes true true asked (Readable sdp) said view (Refused PeerAlloc) after held_is right_is is passes takes enough = absurd (cc)
-answer_finishes true true asked (Readable sdp) said view outcome after held_is right_is is passes takes enough = absurd takes
 
 -- ---- the polite side answers
 

@@ -1,5 +1,5 @@
 -- What holds in each phase of crossed offers, and what steps leave of it that are none of its own.
-use Rattle.std.proofs.Common.{◌≡◌, ◌<◌, ◌&&◌, ◌||◌, ℕ, Bool, true, false, List, [], ◌∷◌, length, Some, refl, sym, ◌∙◌, ap, subst}
+use Rattle.std.proofs.Common.{◌≡◌, ◌<◌, ◌&&◌, ℕ, true, false, List, [], ◌∷◌, length, Some, sym, ◌∙◌, ap, subst}
 use Rattle.std.specs.Prelude.{slice_get}
 use Rattle.std.proofs.lemmas.Option.{slice_get_within}
 use Rattle.rtc_sdp_values.specs.declared.line_row.LineRow.{LineRow}
@@ -46,10 +46,6 @@ Politely Done s k stood past = IsSaid s k past
 
 said_stays : {E : Type 0} → (s : Side) (k : ℕ) (past : List (Entry E)) (e : Entry E) → IsSaid s k past → IsSaid s k (e ∷ past)
 said_stays s k past e said = (said.0, stays_there (sdps past) e.made k _ said.1)
-
-or_true : (b : Bool) → (b || true) ≡ true
-or_true true = refl
-or_true false = refl
 
 -- an entry that leaves the rows of the polite side, and its token
 pub record IsBeside {E : Type 0} (s : Side) (k : ℕ) (past : List (Entry E)) (e : Entry E) : Type 0 where

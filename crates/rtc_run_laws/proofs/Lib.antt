@@ -211,10 +211,13 @@ mod ForeignUses
 mod ForeignRuns
 mod SettledInBand
 mod StayingStreams
+mod NumberedRows
 mod SureNumbers
 mod FreshOpenings
 mod PolledUses
 mod RowedStreams
+mod OpeningFacts
+mod OtherPolls
 mod OwnerPolls
 mod OtherSteps
 mod OwnerSteps
@@ -248,7 +251,6 @@ pub mod SentUses
 pub mod SilentRuns
 pub mod HandsRuns
 pub mod Delivered
-pub mod UndrivenWalks
 pub mod UndrivenNegotiation
 pub mod UndrivenRuns
 pub mod CrossingPhases

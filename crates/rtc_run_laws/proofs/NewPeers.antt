@@ -13,6 +13,7 @@ use Rattle.rtc_parts.specs.DtlsState.{DtlsState}
 use Rattle.rtc_parts.specs.DtlsWords.{dtls_given}
 use Rattle.rtc_parts.specs.MediaActs.{Configured, MediaStirred}
 use Rattle.rtc_sctp.specs.Streams.{SctpStreams}
+use Rattle.rtc_channels.specs.Channels.{no_channels}
 use Rattle.rtc_plain_ice.specs.Contents.{IceContents}
 use Rattle.rtc_plain_ice.specs.PlainMeaning.{plain_ice}
 use Rattle.rtc_plain_dtls.specs.Contents.{DtlsContents}
@@ -65,6 +66,17 @@ pub record WasBuilt {N : Type 0} (p : PlainPolled N) : Type 0 where
   pub none_given : dtls_given acts.dtls ≡ []
 
 module _ {N : Type 0} (draws : Draws N) where
+  -- there is no channel, and no stream has an entry
+  pub new_channels : (p : PlainPolled N) → IsNewPeer draws p.core → p.core.channels ≡ no_channels
+  new_channels p h =
+      ap (λ (x : Peer IceContents DtlsContents Contents MediaContents N). x.channels) h.rest
+      ∙ ap (λ (x : Peer IceContents DtlsContents Contents MediaContents N). x.channels) h.by_build.rest
+
+  pub new_entries : (p : PlainPolled N) → IsNewPeer draws p.core → p.core.sctp.entries ≡ []
+  new_entries p h =
+      ap (λ (x : SctpStreams Contents). x.entries) (ap (λ (x : Peer IceContents DtlsContents Contents MediaContents N). x.sctp) h.rest)
+      ∙ ap (λ (x : SctpStreams Contents). x.entries) h.by_build.streams
+
   built_acts : (p : Peer IceContents DtlsContents Contents MediaContents N) → IsNewPeer draws p → PeerActs
   built_acts p h =
       peer_acts

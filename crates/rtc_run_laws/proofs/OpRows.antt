@@ -1,12 +1,12 @@
 -- What ops leave of the rows that they act on: rows change where they stand, and none does where no op sets or stops a line.
-use Rattle.std.proofs.Common.{◌≡◌, ℕ, Bool, true, false, List, [], ◌∷◌, map, length, refl, sym, ◌∙◌, subst}
+use Rattle.std.proofs.Common.{◌≡◌, ℕ, Bool, true, false, List, [], ◌∷◌, map, refl, sym, ◌∙◌, subst}
 use Rattle.std.specs.List.{list_any}
 use Rattle.rtc_sdp_values.specs.LineRow.{row_mid}
 use Rattle.rtc_sdp_values.specs.declared.direction.Direction.{Direction}
 use Rattle.rtc_sdp_values.specs.declared.line_row.LineRow.{LineRow}
 use Rattle.rtc_peer_rows.specs.RowChanges.{RowChange, directed_row, stopped_row, changed_at}
 use Rattle.rtc_peer_rows.specs.Table.{IsTable, is_app}
-use Rattle.rtc_peer_rows.proofs.RowChangeLemmas.{KeepsRow, directed_row_keeps, stopped_row_keeps, changed_at_alike, table_alike, length-alike, AreAlike}
+use Rattle.rtc_peer_rows.proofs.RowChangeLemmas.{KeepsRow, directed_row_keeps, stopped_row_keeps, changed_at_alike, table_alike, AreAlike}
 use Rattle.rtc_run_history.specs.declared.op.Op.{Op}
 use Rattle.rtc_run_history.specs.declared.op.Op.TheVariants.{AddMedia, SetDirection, StopMedia, AddChannel, IceRestart}
 use Rattle.rtc_run_history.specs.declared.op_answer.OpAnswer.{OpAnswer}
@@ -77,13 +77,6 @@ pub ops_mids : (m : Midway) (ops : List Op) (answers : List OpAnswer) (after : L
 ops_mids m ops answers after answered =
     ops_keep (λ others. map row_mid others ≡ map row_mid m.rows) (λ dir. mids_changed m.rows (directed_row dir) (directed_row_keeps dir)) (mids_changed m.rows stopped_row stopped_row_keeps) m ops answers after answered refl
 
-length_changed : (first : List LineRow) (change : RowChange) → KeepsRow change → IsKeptBy change (λ rows. length rows ≡ length first)
-length_changed first change keeps place rows same = length-alike rows (changed_at change place rows) (changed_at_alike change keeps place rows) ∙ same
-
-pub ops_length : (m : Midway) (ops : List Op) (answers : List OpAnswer) (after : List LineRow) → OpsAnswered m ops answers after → length after ≡ length m.rows
-ops_length m ops answers after answered =
-    ops_keep (λ others. length others ≡ length m.rows) (λ dir. length_changed m.rows (directed_row dir) (directed_row_keeps dir)) (length_changed m.rows stopped_row stopped_row_keeps) m ops answers after answered refl
-
 -- whether there is a line of data channels
 pub has_app-alike : (rows others : List LineRow) → AreAlike rows others → has_app_row others ≡ has_app_row rows
 has_app-alike [] [] alike = refl
@@ -94,11 +87,3 @@ has_app-alike (row ∷ rows) (other ∷ others) alike = by (is_app row) refl ali
     by false is same rest = rw (same, is) rest
 has_app-alike [] (other ∷ others) alike = absurd alike
 has_app-alike (row ∷ rows) [] alike = absurd alike
-
-app_changed : (first : List LineRow) (change : RowChange) → KeepsRow change → IsKeptBy change (λ rows. has_app_row rows ≡ has_app_row first)
-app_changed first change keeps place rows same = has_app-alike rows (changed_at change place rows) (changed_at_alike change keeps place rows) ∙ same
-
--- ops leave a line of data channels, and add none
-pub ops_app : (m : Midway) (ops : List Op) (answers : List OpAnswer) (after : List LineRow) → OpsAnswered m ops answers after → has_app_row after ≡ has_app_row m.rows
-ops_app m ops answers after answered =
-    ops_keep (λ others. has_app_row others ≡ has_app_row m.rows) (λ dir. app_changed m.rows (directed_row dir) (directed_row_keeps dir)) (app_changed m.rows stopped_row stopped_row_keeps) m ops answers after answered refl

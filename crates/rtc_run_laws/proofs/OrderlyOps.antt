@@ -157,10 +157,6 @@ offer_seen rows lines ops app more are app_is adds =
     ∙ ap (λ list. map unnamed lines ++ list) (adds (length lines) ∙ ap (λ (place : ℕ). added (seen_app app) place ops (map adding_answer ops)) few ∙ ap (λ (mid : Option (List ℕ)). added mid (length (map unnamed lines)) ops (map adding_answer ops)) app_is)
     ∙ ap (λ (list : List LineRow). list ++ rows_added list ops) are
 
--- an offer tells the mid of a line of data channels exactly where its side has none
-told_where : (lines : List LineRow) (made : List MadeSdp) (mid : List ℕ) → app_mid_said made ≡ Some mid → has_app_row lines ≡ false → is_some (new_app lines made) ≡ true
-told_where lines made mid says none = rw (none, says) refl
-
 none_where : (lines : List LineRow) (made : List MadeSdp) → is_some (new_app lines made) ≡ true → has_app_row lines ≡ false
 none_where lines made tells = by (has_app_row lines) refl
   where

@@ -40,6 +40,8 @@ use Rattle.rtc_run_laws.proofs.RoundRows.{IsOffered}
 use Rattle.rtc_run_laws.proofs.RowNames.{Aligned, has_app-aligned}
 use Rattle.rtc_run_laws.proofs.StartedSides.{IsStartTold}
 use Rattle.rtc_run_laws.proofs.StartHalves.{TellsHalf, AnswersHalf, init_passes}
+use Rattle.rtc_run_history.specs.Views.{view_in}
+use Rattle.rtc_run_laws.proofs.RoundRows.{HeadPasses}
 
 -- ---- what is delivered in a round
 
@@ -126,34 +128,33 @@ no_collision polite false none = by (is_impolite polite)
     by true = refl
     by false = refl
 
-offer_side : {E : Type 0} → (fresh : Stances) (past : List (Entry E)) (pair : PairStance) (side : Side) (k : ℕ) → can_connect fresh ≡ true → Tells past pair → AreReadBack (sdps past) → ((at : Side) → SideSees fresh past at (pair.sides at)) → IsOfferOut side k pair
-    → (pair.sides (other_side side)).inited ≡ (pair.sides side).inited → is_glare_at fresh (other_side side) past ≡ false → SidePasses fresh pair.sides past (AcceptOffer (other_side side) k)
-offer_side fresh past pair side k connect tells read sees out alike none = (
-  none,
-  λ sdp is.
-      let reads : ReadsBack out.offer.kept.sdp = kept_read past pair k out.offer.kept tells read out.offer.there in
-      let same : as_read out.offer.kept.sdp ≡ sdp = delivered_at pair true (other_side side) k out.offer.kept sdp reads out.offer.there (sym (remote_told sdp is)) in
-      let mine : Stance = pair.sides (other_side side) in
-      let apart : (mine.ice.lite && (pair.sides side).ice.lite) ≡ false = rw ((sees (other_side side)).lite, (sees side).lite) (lites_apart fresh connect side) in
-      let joined : AreJoined mine.snap.started (pair.sides side).snap.started =
-      subst (λ (one : Side). AreJoined mine.snap.started (pair.sides one).snap.started) (other_twice side) (out.joined (other_side side)) in
-      rw (view_is fresh past (other_side side) mine (tells.sides (other_side side)).rows (sees (other_side side)))
-      (rw (← same) (record {
-        side = side_passes (held_by mine) true (as_read out.offer.kept.sdp) _ _ (told_as_read _ _ _ out.offer.tells) apart (λ may. absurd (let e : true ≡ false = may in cc));
-        init = init_passes mine.inited mine.snap.started (pair.sides side).snap.started (sdp_sctp_init (as_read out.offer.kept.sdp))
-            (λ is. (joined, init_as_read out.offer.kept.sdp ∙ told_started (pair.sides side).inited (pair.sides side).snap (sdp_sctp_init out.offer.kept.sdp) (sym alike ∙ is) out.offer.half));
-      })),
-)
+-- the head of an offer that is out passes at the other side
+pub offer_head : {E : Type 0} → (fresh : Stances) (past : List (Entry E)) (pair : PairStance) (side : Side) (k : ℕ) (sdp : Sdp) → can_connect fresh ≡ true → Tells past pair → AreReadBack (sdps past) → ((at : Side) → SideSees fresh past at (pair.sides at))
+    → IsOfferOut side k pair → (pair.sides (other_side side)).inited ≡ (pair.sides side).inited → remote_sdp true (other_side side) k past ≡ Readable sdp
+    → HeadPasses (view_in fresh (other_side side) past (held_by (pair.sides (other_side side)))) true sdp
+offer_head fresh past pair side k sdp connect tells read sees out alike is =
+    let reads : ReadsBack out.offer.kept.sdp = kept_read past pair k out.offer.kept tells read out.offer.there in
+    let same : as_read out.offer.kept.sdp ≡ sdp = delivered_at pair true (other_side side) k out.offer.kept sdp reads out.offer.there (sym remote_told) in
+    let mine : Stance = pair.sides (other_side side) in
+    let apart : (mine.ice.lite && (pair.sides side).ice.lite) ≡ false = rw ((sees (other_side side)).lite, (sees side).lite) (lites_apart fresh connect side) in
+    let joined : AreJoined mine.snap.started (pair.sides side).snap.started =
+    subst (λ (one : Side). AreJoined mine.snap.started (pair.sides one).snap.started) (other_twice side) (out.joined (other_side side)) in
+    rw (view_is fresh past (other_side side) mine (tells.sides (other_side side)).rows (sees (other_side side)))
+    (rw (← same) (record {
+      side = side_passes (held_by mine) true (as_read out.offer.kept.sdp) _ _ (told_as_read _ _ _ out.offer.tells) apart (λ may. absurd (let e : true ≡ false = may in cc));
+      init = init_passes mine.inited mine.snap.started (pair.sides side).snap.started (sdp_sctp_init (as_read out.offer.kept.sdp))
+          (λ is. (joined, init_as_read out.offer.kept.sdp ∙ told_started (pair.sides side).inited (pair.sides side).snap (sdp_sctp_init out.offer.kept.sdp) (sym alike ∙ is) out.offer.half));
+    }))
   where
-    remote_told : (sdp : Sdp) → remote_sdp true (other_side side) k past ≡ Readable sdp → Readable sdp ≡ kept_remote_sdp true pair.sdps (other_side side) k
-    remote_told sdp is = sym is ∙ ap (λ said. signalled_if (sdp_for true (other_side side) said)) (said_at past pair k tells.says)
+    remote_told : Readable sdp ≡ kept_remote_sdp true pair.sdps (other_side side) k
+    remote_told = sym is ∙ ap (λ said. signalled_if (sdp_for true (other_side side) said)) (said_at past pair k tells.says)
 
-answer_side : {E : Type 0} → (fresh : Stances) (past : List (Entry E)) (pair : PairStance) (at : Side) (t a : ℕ) → can_connect fresh ≡ true → Tells past pair → AreReadBack (sdps past) → ((side : Side) → SideSees fresh past side (pair.sides side)) → IsAnswerOut at t a pair
-    → SidePasses fresh pair.sides past (AcceptAnswer at t a)
-answer_side fresh past pair at t a connect tells read sees out =
-    λ sdp is.
+-- the head of an answer that is out passes at the side that offered
+pub answer_head : {E : Type 0} → (fresh : Stances) (past : List (Entry E)) (pair : PairStance) (at : Side) (t a : ℕ) (sdp : Sdp) → can_connect fresh ≡ true → Tells past pair → AreReadBack (sdps past) → ((side : Side) → SideSees fresh past side (pair.sides side))
+    → IsAnswerOut at t a pair → remote_sdp false at a past ≡ Readable sdp → HeadPasses (view_in fresh at past (held_by (pair.sides at))) (restarts_by t past) sdp
+answer_head fresh past pair at t a sdp connect tells read sees out is =
     let reads : ReadsBack out.answer.sdp = kept_read past pair a out.answer tells read out.there in
-    let same : as_read out.answer.sdp ≡ sdp = delivered_at pair false at a out.answer sdp reads out.there (sym (remote_told sdp is)) in
+    let same : as_read out.answer.sdp ≡ sdp = delivered_at pair false at a out.answer sdp reads out.there (sym remote_told) in
     let mine : Stance = pair.sides at in
     let apart : (mine.ice.lite && (pair.sides (other_side at)).ice.lite) ≡ false =
     rw ((sees at).lite, (sees (other_side at)).lite) (subst (λ (side : Side). ((fresh side).ice.lite && (fresh (other_side at)).ice.lite) ≡ false) (other_twice at) (lites_apart fresh connect (other_side at))) in
@@ -166,8 +167,17 @@ answer_side fresh past pair at t a connect tells read sees out =
           (both.0, init_as_read out.answer.sdp ∙ both.1));
     }))
   where
-    remote_told : (sdp : Sdp) → remote_sdp false at a past ≡ Readable sdp → Readable sdp ≡ kept_remote_sdp false pair.sdps at a
-    remote_told sdp is = sym is ∙ ap (λ said. signalled_if (sdp_for false at said)) (said_at past pair a tells.says)
+    remote_told : Readable sdp ≡ kept_remote_sdp false pair.sdps at a
+    remote_told = sym is ∙ ap (λ said. signalled_if (sdp_for false at said)) (said_at past pair a tells.says)
+
+offer_side : {E : Type 0} → (fresh : Stances) (past : List (Entry E)) (pair : PairStance) (side : Side) (k : ℕ) → can_connect fresh ≡ true → Tells past pair → AreReadBack (sdps past) → ((at : Side) → SideSees fresh past at (pair.sides at)) → IsOfferOut side k pair
+    → (pair.sides (other_side side)).inited ≡ (pair.sides side).inited → is_glare_at fresh (other_side side) past ≡ false → SidePasses fresh pair.sides past (AcceptOffer (other_side side) k)
+offer_side fresh past pair side k connect tells read sees out alike none =
+    (none, λ sdp is. offer_head fresh past pair side k sdp connect tells read sees out alike is)
+
+answer_side : {E : Type 0} → (fresh : Stances) (past : List (Entry E)) (pair : PairStance) (at : Side) (t a : ℕ) → can_connect fresh ≡ true → Tells past pair → AreReadBack (sdps past) → ((side : Side) → SideSees fresh past side (pair.sides side)) → IsAnswerOut at t a pair
+    → SidePasses fresh pair.sides past (AcceptAnswer at t a)
+answer_side fresh past pair at t a connect tells read sees out = λ sdp is. answer_head fresh past pair at t a sdp connect tells read sees out is
 
 pub step_side : {E : Type 0} → (fresh : Stances) (past : List (Entry E)) (pair : PairStance) (step : Step) (course course' : Course) → can_connect fresh ≡ true → IsOnCourse fresh past pair course → after_step course step ≡ Some course'
     → SidePasses fresh pair.sides past step

@@ -47,7 +47,7 @@ negotiated_ok fresh between past at ops apply (Negotiated answers what) (Some ta
 negotiated_ok fresh between past at ops apply outcome table made course course' rows few after replied = absurd replied
 
 -- an offer that is not refused is answered, where nothing fails
-offer_answers : {E : Type 0} → (glare : Bool) (sdp : Signalled) (said : Sdp) (view : Held) (next : ℕ) (outcome : Outcome E) (after : List LineRow) → glare ≡ false → sdp ≡ Readable said → verdict view None said ≡ None
+pub offer_answers : {E : Type 0} → (glare : Bool) (sdp : Signalled) (said : Sdp) (view : Held) (next : ℕ) (outcome : Outcome E) (after : List LineRow) → glare ≡ false → sdp ≡ Readable said → verdict view None said ≡ None
     → RepliesToOffer glare sdp view next outcome after → fails outcome ≡ false → (j : ℕ) × (outcome ≡ Answered j)
 offer_answers true sdp said view next outcome after none is passes takes enough = absurd (cc)
 offer_answers false NotMade said view next outcome after none is passes takes enough = absurd (cc)
@@ -61,7 +61,7 @@ offer_answers false (Readable sdp) said view next (Refused PeerAlloc) after none
 offer_answers false (Readable sdp) said view next outcome after none is passes takes enough = absurd takes
 
 -- an answer that is not refused finishes, where nothing fails
-answer_finishes : {E : Type 0} → (held right : Bool) (asked : Asked) (sdp : Signalled) (said : Sdp) (view : Held) (outcome : Outcome E) (after : List LineRow) → held ≡ true → right ≡ true → sdp ≡ Readable said
+pub answer_finishes : {E : Type 0} → (held right : Bool) (asked : Asked) (sdp : Signalled) (said : Sdp) (view : Held) (outcome : Outcome E) (after : List LineRow) → held ≡ true → right ≡ true → sdp ≡ Readable said
     → verdict view (Some asked) said ≡ None → RepliesToAnswer held right asked sdp view outcome after → fails outcome ≡ false → outcome ≡ Finished
 answer_finishes false right asked sdp said view outcome after held_is right_is is passes takes enough = absurd (cc)
 answer_finishes true false asked sdp said view outcome after held_is right_is is passes takes enough = absurd (cc)

@@ -1,57 +1,43 @@
 -- Steps of the side that a stream is not of: the stream has the row of its channel where it is open, and this side announces none over a generation that
 -- the other one alone announced one over.
-use Rattle.std.proofs.Common.{◌≡◌, ◌∙◌, ◌⊎◌, inl, inr, ◌++◌, ◌∷◌, ◌==◌, if◌then◌else◌, ℕ, Bool, true, false, true≢false, List, [], Option, Some, None, Result, Ok, Err, alloc_error, refl, sym, subst}
-use Rattle.rtc_wire.specs.DatagramRecv.{kind_by}
+use Rattle.std.proofs.Common.{◌≡◌, ◌⊎◌, inl, inr, ℕ, Bool, true, false, true≢false, List, [], Option, sym, subst}
 use Rattle.rtc_wire.specs.declared.addr.Addr.{Addr}
-use Rattle.rtc_wire.specs.declared.multiplex_kind.MultiplexKind.{MultiplexKind}
-use Rattle.rtc_wire.specs.declared.net_error.NetError.{NetError}
-use Rattle.rtc_wire.specs.declared.transmit.Transmit.{Transmit}
 use Rattle.rtc_assoc_state.proofs.PlainLaws.{plain_laws}
 use Rattle.rtc_parts.specs.Draws.{Draws}
 use Rattle.rtc_plain_media.specs.declared.plain_media_event.PlainMediaEvent.{PlainMediaEvent}
-use Rattle.rtc_channels.specs.Channels.{Channel}
-use Rattle.rtc_peer_core.specs.declared.rtc_error.RtcError.{RtcError}
-use Rattle.rtc_peer_core.specs.declared.rtc_error.RtcError.TheVariants.{Alloc as PeerAlloc}
 use Rattle.rtc_peer_transport.specs.ChannelCalls.{open_stream_under}
 use Rattle.rtc_peer_transport.specs.Closing.{ClosesPeer}
 use Rattle.rtc_peer_transport.specs.declared.input.Input.TheVariants as given
 use Rattle.rtc_peer_polling.specs.Inputs.{HandlesInput}
-use Rattle.rtc_peer_polling.specs.StreamStages.{channel_over}
 use Rattle.rtc_peer_laws.specs.ChannelStreams.{AreNumberedChannels, IsGone, IsLiveChannel}
 use Rattle.rtc_peer_laws.specs.KeptChannels.{CallKeepsStreams}
 use Rattle.rtc_peer_laws.specs.PeerActs.{PeerActs}
 use Rattle.rtc_peer_laws.proofs.KeptInputs.{input_keeps}
 use Rattle.rtc_peer_laws.proofs.KeptPeers.{channel_close_keeps, channel_write_keeps, close_keeps}
-use Rattle.rtc_run_history.specs.CallReplies.{ClosesOpenChannel, FindsNone, StepCalls, StepClosesChannel, StepWrites, StepWritesOpen}
 use Rattle.rtc_run_history.specs.declared.kept.Kept.{Kept}
 use Rattle.rtc_run_history.specs.declared.outcome.Outcome.{Outcome}
-use Rattle.rtc_run_history.specs.declared.outcome.Outcome.TheVariants.{Done, Refused, NoSuch, Alloc, Wrote}
 use Rattle.rtc_run_history.specs.declared.sent_packet.SentPacket.{SentPacket}
-use Rattle.rtc_run_history.specs.declared.side.Side.{Side}
 use Rattle.rtc_run_history.specs.declared.step.Step.{Step}
 use Rattle.rtc_run_history.specs.declared.step.Step.TheVariants.{Negotiate, AcceptOffer, AcceptAnswer, Time, Datagram, Poll, Drain}
 use Rattle.rtc_run_history.specs.declared.step.Step.TheVariants.{Write, CloseChannel, Close, Rollback, ForeignOffer, ForeignAnswer, Raw}
 use Rattle.rtc_run_history.specs.declared.table.Table.{Table}
 use Rattle.rtc_run_history.specs.Native.{is_native}
 use Rattle.rtc_run_history.specs.PairState.{held_token, kept_remote_sdp, remote_packet}
-use Rattle.rtc_run_history.specs.Performs.{Acts, HandlesRead, StepTakesDatagram}
+use Rattle.rtc_run_history.specs.Performs.{Acts}
 use Rattle.rtc_run_history.specs.Sides.{side_of}
-use Rattle.rtc_run_laws.specs.ChannelUses.{ChannelUse, loses_channel, with_rolled_back, with_sent_message}
+use Rattle.rtc_run_laws.specs.ChannelUses.{ChannelUse}
 use Rattle.rtc_run_laws.specs.OwnOpenings.{IsOfSide}
 use Rattle.rtc_run_laws.specs.PlainPairs.{PlainPolled, plain_over}
 use Rattle.rtc_run_laws.specs.ToldMessages.{MessagesTold}
-use Rattle.rtc_run_laws.specs.UsesOfRuns.{uses_acted, uses_written}
-use Rattle.rtc_run_laws.proofs.AnnouncedStreams.{HasUseOver, IsUseOver}
 use Rattle.rtc_run_laws.proofs.ForeignUses.{lost_so, over_own, rollback_cancels}
 use Rattle.rtc_run_laws.proofs.KeptNegotiation.{answer_step_keeps, negotiates_keep, offer_step_keeps, rollback_leaves}
 use Rattle.rtc_run_laws.proofs.NumberedTokens.{AreKeptSo, held_so}
 use Rattle.rtc_run_laws.proofs.OwnNegotiation.{IsOwn}
-use Rattle.rtc_run_laws.proofs.OwnNumbers.{IsOwnNumber}
-use Rattle.rtc_run_laws.proofs.OwnerPolls.{other_polled}
 use Rattle.rtc_run_laws.proofs.PolledUses.{IsGood, Lives, drain_step_go, poll_step_go}
 use Rattle.rtc_run_laws.proofs.RolledUses.{gone_lost}
 use Rattle.rtc_run_laws.proofs.RowedStreams.{NotFull, Rowed, rowed_called, rowed_polled}
-use Rattle.rtc_run_laws.proofs.StandingSides.{Sent, SideStood, Stood}
+use Rattle.rtc_run_laws.proofs.StandingSides.{Sent, Stood}
+use Rattle.rtc_run_laws.proofs.StepWalks.{AnyInput, CallsBeside, calls_keep, close_keep, datagram_keep, write_keep}
 
 module _ {N : Type 0} (draws : Draws N) (s : ℕ) where
   abbrev KeepsRowed : PlainPolled N → PlainPolled N → Type 0
@@ -63,61 +49,13 @@ module _ {N : Type 0} (draws : Draws N) (s : ℕ) where
   kept_rowed : (p q : PlainPolled N) (wrote : _) → CallKeepsStreams (plain_over draws) p wrote q → KeepsRowed p q
   kept_rowed p q wrote keeps = λ numbers k. rowed_called draws s p q wrote keeps numbers k
 
-  calls_rowed : (call : PlainPolled N → Result (Unit {0}) RtcError → PlainPolled N → Type 0)
-      → ((p : PlainPolled N) (r : Result (Unit {0}) RtcError) (q : PlainPolled N) → call p r q → KeepsRowed p q)
-      → (old : PlainPolled N) (outcome : Outcome PlainMediaEvent) (table : Option Table) (new : PlainPolled N)
-      → StepCalls (plain_over draws) call old outcome table new → KeepsRowed old new
-  calls_rowed call goes old Alloc None new h = same_rowed old new h
-  calls_rowed call goes old Done (Some table) new h = goes old (Ok tt) new h.0
-  calls_rowed call goes old (Refused error) (Some table) new h = goes old (Err error) new h.0
-  calls_rowed call goes old outcome table new h = absurd h
-
-  read_rowed : (kind : Result MultiplexKind NetError) (transmit : Transmit) (now : ℕ) (p : PlainPolled N) (r : Result (Unit {0}) RtcError)
-      (q : PlainPolled N) → HandlesRead (plain_over draws) kind transmit now p r q → KeepsRowed p q
-  read_rowed (Err why) transmit now p r q h = same_rowed p q h.1
-  read_rowed (Ok kind) transmit now p r q h =
-      kept_rowed p q [] (input_keeps (plain_over draws) plain_laws (given.Receive now h.0) p r q h.2)
-
-  datagram_rowed : (stun : List ℕ → Bool) (found : Option Transmit) (now : ℕ) (old : PlainPolled N) (outcome : Outcome PlainMediaEvent)
-      (table : Option Table) (new : PlainPolled N) → StepTakesDatagram (plain_over draws) stun found now old outcome table new → KeepsRowed old new
-  datagram_rowed stun None now old Alloc None new h = same_rowed old new h
-  datagram_rowed stun None now old NoSuch (Some table) new h = same_rowed old new h.0
-  datagram_rowed stun None now old outcome table new h = absurd h
-  datagram_rowed stun (Some transmit) now old outcome table new h =
-      calls_rowed (HandlesRead (plain_over draws) (kind_by stun transmit.contents) transmit now)
-      (λ p r q x. read_rowed (kind_by stun transmit.contents) transmit now p r q x) old outcome table new h
-
-  none_rowed : (old : PlainPolled N) (outcome : Outcome PlainMediaEvent) (table : Option Table) (new : PlainPolled N)
-      → FindsNone (plain_over draws) old outcome table new → KeepsRowed old new
-  none_rowed old Alloc None new h = same_rowed old new h
-  none_rowed old NoSuch (Some table) new h = same_rowed old new h.0
-  none_rowed old outcome table new h = absurd h
-
-  open_write_rowed : (stream : ℕ) (binary : Bool) (bytes : List ℕ) (old : PlainPolled N) (outcome : Outcome PlainMediaEvent) (table : Option Table)
-      (new : PlainPolled N) → StepWritesOpen (plain_over draws) stream binary bytes old outcome table new → KeepsRowed old new
-  open_write_rowed stream binary bytes old Alloc None new h = same_rowed old new h
-  open_write_rowed stream binary bytes old (Wrote taken) (Some table) new h =
-      kept_rowed old new _ (channel_write_keeps (plain_over draws) plain_laws stream binary bytes old (Ok taken) new h.0)
-  open_write_rowed stream binary bytes old (Refused error) (Some table) new h =
-      kept_rowed old new _ (channel_write_keeps (plain_over draws) plain_laws stream binary bytes old (Err error) new h.0)
-  open_write_rowed stream binary bytes old outcome table new h = absurd h
-
-  write_rowed : (stream : Option ℕ) (binary : Bool) (bytes : List ℕ) (old : PlainPolled N) (outcome : Outcome PlainMediaEvent) (table : Option Table)
-      (new : PlainPolled N) → StepWrites (plain_over draws) stream binary bytes old outcome table new → KeepsRowed old new
-  write_rowed None binary bytes old outcome table new h = none_rowed old outcome table new h
-  write_rowed (Some stream) binary bytes old outcome table new h = open_write_rowed stream binary bytes old outcome table new h
-
-  shut_rowed : (id : ℕ) (p : PlainPolled N) (r : Result (Unit {0}) RtcError) (q : PlainPolled N) → ClosesOpenChannel (plain_over draws) id p r q
-      → KeepsRowed p q
-  shut_rowed id p (Ok done) q h = kept_rowed p q [] (channel_close_keeps (plain_over draws) plain_laws id p (Ok tt) q h)
-  shut_rowed id p (Err PeerAlloc) q h = kept_rowed p q [] (channel_close_keeps (plain_over draws) plain_laws id p (Err alloc_error) q h)
-  shut_rowed id p (Err error) q h = absurd h
-
-  close_rowed : (stream : Option ℕ) (id : ℕ) (old : PlainPolled N) (outcome : Outcome PlainMediaEvent) (table : Option Table) (new : PlainPolled N)
-      → StepClosesChannel (plain_over draws) stream id old outcome table new → KeepsRowed old new
-  close_rowed None id old outcome table new h = none_rowed old outcome table new h
-  close_rowed (Some stream) id old outcome table new h =
-      calls_rowed (ClosesOpenChannel (plain_over draws) id) (λ p r q x. shut_rowed id p r q x) old outcome table new h
+  calls_rowed : CallsBeside (plain_over draws) AnyInput KeepsRowed
+  calls_rowed = record {
+    none = same_rowed;
+    inputs = λ input any p r q h. kept_rowed p q [] (input_keeps (plain_over draws) plain_laws input p r q h);
+    writes = λ stream binary bytes p r q h. kept_rowed p q _ (channel_write_keeps (plain_over draws) plain_laws stream binary bytes p r q h);
+    shuts = λ id p r q h. kept_rowed p q [] (channel_close_keeps (plain_over draws) plain_laws id p r q h);
+  }
 
   -- what a step leaves of the side that acts, if it is not the side of the stream
   module _ (b : PeerActs) (other : PlainPolled N) (sent : Sent) (c : Bool) (foreign : IsOfSide c s → ⊥) where
@@ -139,11 +77,11 @@ module _ {N : Type 0} (draws : Draws N) (s : ℕ) where
         sdps' h.0)
         stood.side.told.numbers k
     other_rowed stun far own (Time at now) old sdps packets outcome table new sdps' packets' go h lives good uses told stood tokens free k =
-        calls_rowed (HandlesInput (plain_over draws) (given.Timeout now))
+        calls_keep (plain_over draws) KeepsRowed calls_rowed (HandlesInput (plain_over draws) (given.Timeout now))
         (λ p r q x. kept_rowed p q [] (input_keeps (plain_over draws) plain_laws (given.Timeout now) p r q x)) old outcome table new h.0
         stood.side.told.numbers k
     other_rowed stun far own (Datagram at packet now) old sdps packets outcome table new sdps' packets' go h lives good uses told stood tokens free k =
-        datagram_rowed stun (remote_packet packets at packet) now old outcome table new h.0 stood.side.told.numbers k
+        datagram_keep (plain_over draws) KeepsRowed calls_rowed stun (remote_packet packets at packet) now (λ datagram. tt) old outcome table new h.0 stood.side.told.numbers k
     other_rowed stun far own (Poll at) old sdps packets outcome table new sdps' packets' go h lives good uses told stood tokens free k =
         poll_step_go draws at b other sent c (λ p l. NotFull draws s p → Rowed draws s p) (rowed_polled draws s at b other sent c) old packets outcome table
         new packets' uses told h.0 lives good stood (λ f. k) free
@@ -151,11 +89,11 @@ module _ {N : Type 0} (draws : Draws N) (s : ℕ) where
         drain_step_go draws at b other sent c (λ p l. NotFull draws s p → Rowed draws s p) (rowed_polled draws s at b other sent c) old packets outcome table
         new packets' uses told h.0 lives good stood (λ f. k) free
     other_rowed stun far own (Write at channel binary bytes) old sdps packets outcome table new sdps' packets' go h lives good uses told stood tokens free k =
-        write_rowed (open_stream_under channel old) binary bytes old outcome table new h.0 stood.side.told.numbers k
+        write_keep (plain_over draws) KeepsRowed calls_rowed (open_stream_under channel old) binary bytes old outcome table new h.0 stood.side.told.numbers k
     other_rowed stun far own (CloseChannel at channel) old sdps packets outcome table new sdps' packets' go h lives good uses told stood tokens free k =
-        close_rowed (open_stream_under channel old) channel old outcome table new h.0 stood.side.told.numbers k
+        close_keep (plain_over draws) KeepsRowed calls_rowed (open_stream_under channel old) channel old outcome table new h.0 stood.side.told.numbers k
     other_rowed stun far own (Close at) old sdps packets outcome table new sdps' packets' go h lives good uses told stood tokens free k =
-        calls_rowed (ClosesPeer (plain_over draws)) (λ p r q x. kept_rowed p q [] (close_keeps (plain_over draws) plain_laws p r q x)) old outcome table new
+        calls_keep (plain_over draws) KeepsRowed calls_rowed (ClosesPeer (plain_over draws)) (λ p r q x. kept_rowed p q [] (close_keeps (plain_over draws) plain_laws p r q x)) old outcome table new
         h.0 stood.side.told.numbers k
     other_rowed stun far own (Rollback at token) old sdps packets outcome table new sdps' packets' go h lives good uses told stood tokens free k =
         λ o open_there.

@@ -1,5 +1,5 @@
 -- Negotiation gives the channels that it stages numbers whose rows have no stream yet.
-use Rattle.std.proofs.Common.{◌≡◌, ◌≤◌, ◌+◌, arith, ◌++◌, ◌∷◌, Bool, true, false, ℕ, List, [], Result, Ok, Err, alloc_error, refl, sym, ap, subst}
+use Rattle.std.proofs.Common.{◌≡◌, ◌≤◌, arith, ◌++◌, ◌∷◌, Bool, true, false, ℕ, List, [], Result, Ok, Err, alloc_error, refl, sym, ap, subst}
 use Rattle.std.specs.declared.alloc.AllocError.{AllocError}
 use Rattle.rtc_sdp_values.specs.declared.direction.Direction.{Direction}
 use Rattle.rtc_sdp_values.specs.declared.direction.Direction.TheVariants.{Inactive}

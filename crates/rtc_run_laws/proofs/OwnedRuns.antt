@@ -1,18 +1,13 @@
 -- In a run each opening from here is over a stream of the side that its association has at the end, unless a channel was settled for it by other
 -- means.
 use Rattle.std.proofs.Common.{◌≡◌, ◌∙◌, ◌⊎◌, inl, inr, ℕ, zero, suc, Bool, true, List, [], ◌∷◌, Ok, refl, sym, ap, subst}
-use Rattle.rtc_assoc_state.specs.Contents.{Contents}
 use Rattle.rtc_parts.specs.AssociationLaws.{AssociationLaws}
 use Rattle.rtc_parts.specs.AssociationMeaning.{AssociationMeaning}
 use Rattle.rtc_parts.specs.Draws.{Draws}
-use Rattle.rtc_plain_dtls.specs.Contents.{DtlsContents}
-use Rattle.rtc_plain_ice.specs.Contents.{IceContents}
-use Rattle.rtc_plain_media.specs.MediaContents.{MediaContents}
 use Rattle.rtc_sctp_entries.specs.declared.stream_entry.StreamEntry.{StreamEntry}
 use Rattle.rtc_sctp.specs.Streams.{SctpStreams}
 use Rattle.rtc_channels.specs.Channels.{Channels, all_confirmed, no_channels, unconfirmed, with_channel}
 use Rattle.rtc_channels.specs.Holds.{all_cancelled}
-use Rattle.rtc_peer_core.specs.declared.peer.Peer.{Peer}
 use Rattle.rtc_peer_core.specs.declared.phase.Phase.TheVariants.{Closed}
 use Rattle.rtc_peer_core.specs.Meanings.{Meanings, PartsLaws}
 use Rattle.rtc_peer_transport.specs.declared.polled_peer.PolledPeer.{PolledPeer}
@@ -40,6 +35,7 @@ use Rattle.rtc_run_laws.proofs.StreamPolls.{poll_goes}
 use Rattle.rtc_run_laws.proofs.StepRows.{StepChanges}
 use Rattle.rtc_run_laws.proofs.SureRows.{confirmed_sure, made_sure}
 use Rattle.rtc_run_laws.proofs.NativeSteps.{native_entry}
+use Rattle.rtc_run_laws.proofs.NewPeers.{new_channels, new_entries}
 
 module _ {S : Type 0} (m : AssociationMeaning S) (w : AssociationLaws m) (c : Bool) where
   -- an association that is started has this side
@@ -173,20 +169,9 @@ module _ {I D S M E X T W N : Type 0} (m : Meanings I D S M E X T W N) (laws : P
 module _ {N : Type 0} (draws : Draws N) (c : Bool) where
   new_owned : (p : PlainPolled N) → IsNewPeer draws p.core → IsOwned c p.core.channels p.core.sctp.entries
   new_owned p h =
-      subst (λ (x : Channels). IsOwned c x p.core.sctp.entries) (sym (channels ∙ none))
-      (subst (λ (l : List StreamEntry). IsOwned c no_channels l) (sym entries) (record { ordered = tt; rows = tt; openings = λ s o. absurd o; sure = tt }))
-    where
-      sctp : p.core.sctp ≡ h.built.sctp
-      sctp = ap (λ (x : Peer IceContents DtlsContents Contents MediaContents N). x.sctp) h.rest
-
-      channels : p.core.channels ≡ h.built.channels
-      channels = ap (λ (x : Peer IceContents DtlsContents Contents MediaContents N). x.channels) h.rest
-
-      none : h.built.channels ≡ no_channels
-      none = ap (λ (x : Peer IceContents DtlsContents Contents MediaContents N). x.channels) h.by_build.rest
-
-      entries : p.core.sctp.entries ≡ []
-      entries = ap (λ (x : SctpStreams Contents). x.entries) sctp ∙ ap (λ (x : SctpStreams Contents). x.entries) h.by_build.streams
+      subst (λ (x : Channels). IsOwned c x p.core.sctp.entries) (sym (new_channels draws p h))
+      (subst (λ (l : List StreamEntry). IsOwned c no_channels l) (sym (new_entries draws p h))
+      (record { ordered = tt; rows = tt; openings = λ s o. absurd o; sure = tt }))
 
   pub new_pair_owned : (pair : PlainPair N) → IsNewPair draws pair → (at : Side)
       → IsOwned c (rtc_at at pair).core.channels (rtc_at at pair).core.sctp.entries

@@ -1,6 +1,6 @@
 -- Steps of the side of a stream keep it that no channel is rolled back which it announced, or that it alone announced one over a generation; and so do the
 -- steps of the other side.
-use Rattle.std.proofs.Common.{◌≡◌, ◌∙◌, ◌⊎◌, inl, inr, ◌<◌, ◌≤◌, ◌++◌, ◌∷◌, ◌==◌, if◌then◌else◌, not, ◌&&◌, ℕ, Bool, true, false, true≢false, List, [], Option, Some, None, refl, sym, ap, subst, arith}
+use Rattle.std.proofs.Common.{◌≡◌, ◌∙◌, ◌⊎◌, inl, inr, ◌<◌, ◌++◌, ◌∷◌, ◌==◌, if◌then◌else◌, not, ◌&&◌, ℕ, Bool, true, false, true≢false, List, [], Option, Some, refl, sym, ap, subst, arith}
 use Rattle.rtc_wire.specs.declared.addr.Addr.{Addr}
 use Rattle.rtc_parts.specs.Draws.{Draws}
 use Rattle.rtc_plain_media.specs.declared.plain_media_event.PlainMediaEvent.{PlainMediaEvent}
@@ -32,7 +32,8 @@ use Rattle.rtc_run_laws.proofs.ForeignUses.{lost_so, rollback_cancels}
 use Rattle.rtc_run_laws.proofs.NumberedTokens.{AreKeptSo, held_so, kept_map}
 use Rattle.rtc_run_laws.proofs.OwnNegotiation.{IsOwn}
 use Rattle.rtc_run_laws.proofs.OwnTokens.{acts_tokens}
-use Rattle.rtc_run_laws.proofs.OwnerPolls.{IsSafe, OwnerKeeps, other_polled, owner_polled}
+use Rattle.rtc_run_laws.proofs.OtherPolls.{other_polled}
+use Rattle.rtc_run_laws.proofs.OwnerPolls.{IsSafe, OwnerKeeps, owner_polled}
 use Rattle.rtc_run_laws.proofs.PolledUses.{IsGood, Lives, drain_step_go, poll_step_go}
 use Rattle.rtc_run_laws.proofs.RowedStreams.{NotFull, Rowed}
 use Rattle.rtc_run_laws.proofs.StandingSides.{Sent, SideStood, Stood}

@@ -37,9 +37,6 @@ put_fine row rows own h s =
           subst (λ (r : StreamRow). r.finished ≡ true → is_closed_here r ≡ true) (sym (stream_of-put_other s row rows e.0)) (h s)
     ]
 
-is_fine : (xs ys : List StreamRow) → ys ≡ xs → AreFine xs → AreFine ys
-is_fine xs ys is h = subst AreFine (sym is) h
-
 not_finished : (row : StreamRow) → false ≡ true → is_closed_here row ≡ true
 not_finished row h = absurd (true≢false (sym h))
 

@@ -1,5 +1,5 @@
 -- What polls keep of a peer and of the channels that it announced, one poll after the other.
-use Rattle.std.proofs.Common.{◌≡◌, ◌⊎◌, inl, inr, ℕ, Bool, List, [], ◌∷◌, Option, Some, None, Result, Ok, Err, sym, subst}
+use Rattle.std.proofs.Common.{◌≡◌, ◌⊎◌, inl, inr, Bool, List, [], ◌∷◌, Option, Some, None, Result, Ok, Err, sym, subst}
 use Rattle.rtc_plain_media.specs.declared.plain_media_event.PlainMediaEvent.{PlainMediaEvent}
 use Rattle.rtc_parts.specs.Draws.{Draws}
 use Rattle.rtc_assoc_state.proofs.PlainLaws.{plain_laws}
@@ -20,7 +20,7 @@ use Rattle.rtc_run_history.specs.declared.shown.Shown.{Shown}
 use Rattle.rtc_run_history.specs.declared.shown.Shown.TheVariants.{Timeout, Packet, Event}
 use Rattle.rtc_run_history.specs.declared.side.Side.{Side}
 use Rattle.rtc_run_history.specs.declared.table.Table.{Table}
-use Rattle.rtc_run_history.specs.Performs.{DrainsOn, DrainsPeer, PollsOnce, PollsShown, StepPollsPeer}
+use Rattle.rtc_run_history.specs.Performs.{DrainsOn, DrainsPeer, PollsOnce, StepPollsPeer}
 use Rattle.rtc_run_laws.specs.ChannelUses.{ChannelUse, uses_shown}
 use Rattle.rtc_run_laws.specs.PlainPairs.{PlainPolled, plain_over}
 use Rattle.rtc_run_laws.specs.PollsOfRuns.{by_drain, by_drain_step, by_poll, by_poll_step, by_polls}

@@ -4,10 +4,9 @@ use Rattle.std.proofs.Common.{◌≡◌, ℕ, Bool, true, false, List, [], ◌�
 use Rattle.rtc_sdp_values.specs.LineRow.{row_mid}
 use Rattle.rtc_sdp_values.specs.declared.line_row.LineRow.{LineRow}
 use Rattle.rtc_sdp_values.specs.declared.line_row.LineRow.TheVariants.{Media, App}
-use Rattle.rtc_peer_rows.specs.Table.{OneApp, NoMore, has_mid, is_app}
+use Rattle.rtc_peer_rows.specs.Table.{has_mid, is_app}
 use Rattle.rtc_run_history.specs.Answers.{has_app_row}
 use Rattle.rtc_run_history.specs.Orderly.{mid_of_app}
-use Rattle.rtc_run_laws.proofs.AddedRows.{app_is_found}
 
 -- two media rows of one mid and kind, or two rows of data channels of one mid
 abbrev pub SameName : LineRow → LineRow → Type 0
@@ -85,15 +84,6 @@ app_mid-aligned (App place mid ∷ rows) (App place' mid' ∷ others) same = ap 
 app_mid-aligned (Media place mid kind dir stopped remote_created ∷ rows) (App place' mid' ∷ others) same = absurd same.0
 app_mid-aligned (App place mid ∷ rows) (Media place' mid' kind' dir' stopped' remote_created' ∷ others) same = absurd same.0
 app_mid-aligned rows others same = absurd same
-
-pub one_app-aligned : (rows others : List LineRow) → Aligned rows others → OneApp rows → OneApp others
-one_app-aligned [] [] same one = tt
-one_app-aligned (row ∷ rows) (other ∷ others) same one = (by (is_app row) (same_app row other same.0) one.0, one_app-aligned rows others same.1 one.1)
-  where
-    by : (here : Bool) → is_app other ≡ here → NoMore here rows → NoMore (is_app other) others
-    by true is none = rw is (sym (app_is_found others) ∙ has_app-aligned rows others same.1 ∙ app_is_found rows ∙ none)
-    by false is none = rw is tt
-one_app-aligned rows others same one = absurd same
 
 pub length-aligned : (rows others : List LineRow) → Aligned rows others → length others ≡ length rows
 length-aligned [] [] same = refl

@@ -1,6 +1,6 @@
 -- A stream that is open in-band has the row of its channel, as polls go on, and calls that roll nothing back. What one side read in a generation that
 -- it announced a channel over, the other one wrote.
-use Rattle.std.proofs.Common.{◌≡◌, ◌∙◌, ◌⊎◌, inl, inr, ◌≤◌, ◌-◌, ◌^◌, ◌++◌, ◌∷◌, ◌||◌, ℕ, Bool, true, false, true≢false, List, [], map, Option, Some, None, Result, Ok, Err, refl, sym, ap, subst}
+use Rattle.std.proofs.Common.{◌≡◌, ◌∙◌, ◌⊎◌, inl, inr, ◌≤◌, ◌-◌, ◌^◌, ◌++◌, ◌∷◌, ◌||◌, ℕ, Bool, true, false, true≢false, List, [], map, Option, Some, Result, Ok, Err, refl, sym, ap, subst}
 use Rattle.rtc_assoc.specs.Unread.{IsPrefix}
 use Rattle.rtc_assoc_state.proofs.PlainLaws.{plain_laws}
 use Rattle.rtc_assoc_state.specs.PlainMeaning.{plain_meaning}
@@ -8,7 +8,6 @@ use Rattle.rtc_parts.specs.AssociationWords.{AssociationMessage, read, written}
 use Rattle.rtc_parts.specs.Draws.{Draws}
 use Rattle.rtc_plain_media.specs.declared.plain_media_event.PlainMediaEvent.{PlainMediaEvent}
 use Rattle.rtc_sctp_entries.specs.declared.stream_entry.StreamEntry.{StreamEntry}
-use Rattle.rtc_sctp_entries.specs.Entries.{is_out_of_band}
 use Rattle.rtc_sctp_entries.specs.declared.stream_entry_state.StreamEntryState.{StreamEntryState}
 use Rattle.rtc_sctp_entries.specs.declared.stream_entry_state.StreamEntryState.TheVariants.{Open, Closed as EntryClosed}
 use Rattle.rtc_sctp_laws.specs.Contents.{numbered_message}
@@ -16,13 +15,11 @@ use Rattle.rtc_sctp_laws.specs.StreamMessages.{StreamMessage, HaveNamedPpis, is_
 use Rattle.rtc_sctp_laws.specs.StreamUses.{HasOpenInBand, IsLive, IsLiveIn, IsShutDown, OneAtMost, any_dcep, entries_of, messages_of}
 use Rattle.rtc_sctp_laws.proofs.ContentLemmas.{read_are, written_are}
 use Rattle.rtc_sctp_laws.proofs.PlainGenerations.{plain_generations}
-use Rattle.rtc_peer_core.specs.declared.phase.Phase.TheVariants.{Closed}
 use Rattle.rtc_peer_core.specs.declared.rtc_error.RtcError.{RtcError}
 use Rattle.rtc_peer_core.specs.declared.rtc_error.RtcError.TheVariants.{Alloc as PeerAlloc}
 use Rattle.rtc_peer_transport.specs.declared.event.Event.TheVariants.{ChannelOpen, ChannelClose}
 use Rattle.rtc_peer_transport.specs.declared.output.Output.{Output}
 use Rattle.rtc_peer_transport.specs.declared.output.Output.TheVariants as outputs
-use Rattle.rtc_peer_polling.specs.StreamStages.{channel_over}
 use Rattle.rtc_peer_polling.specs.Walk.{PollsPeer}
 use Rattle.rtc_peer_polling.proofs.Lacking.{poll_lacks}
 use Rattle.rtc_peer_laws.specs.Acts.{PollActs}
@@ -46,13 +43,13 @@ use Rattle.rtc_run_laws.proofs.AnnouncedStreams.{HasUseOver, OpenOne, found, ope
 use Rattle.rtc_run_laws.proofs.FreshOpenings.{banded_of}
 use Rattle.rtc_run_laws.proofs.GotAndSent.{begins_too}
 use Rattle.rtc_run_laws.proofs.OpenedAnew.{any_at}
-use Rattle.rtc_run_laws.proofs.PolledUses.{IsGood, Lives, PollsKeep}
+use Rattle.rtc_run_laws.proofs.PolledUses.{Lives, PollsKeep}
 use Rattle.rtc_run_laws.proofs.RowLemmas.{closed_stays}
 use Rattle.rtc_run_laws.proofs.StandingEntries.{AreBanded}
 use Rattle.rtc_run_laws.proofs.StandingExchange.{ExchangeBy}
 use Rattle.rtc_run_laws.proofs.StandingSides.{Sent, SideStood, Stood}
 use Rattle.rtc_run_laws.proofs.StepsExchange.{plain_over_laws}
-use Rattle.rtc_run_laws.proofs.UseLists.{AllUses, all_member, named_kept}
+use Rattle.rtc_run_laws.proofs.UseLists.{all_member, named_kept}
 use Rattle.rtc_run_laws.proofs.UsesTold.{InBandTold, UsedUnlessClosed, use_opened}
 
 some_is : (a b : ℕ) → Some a ≡ Some b → a ≡ b

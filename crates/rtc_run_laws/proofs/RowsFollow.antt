@@ -5,10 +5,8 @@ use Rattle.std.specs.List.{list_any}
 use Rattle.std.specs.Str.{bytes_eq}
 use Rattle.std.proofs.lemmas.Bool.{or_parts, eq-eqb, both_ways, le-ltb}
 use Rattle.rtc_sdp_values.specs.LineRow.{row_place, row_mid}
-use Rattle.rtc_sdp_values.specs.MediaKind.{same_kind}
 use Rattle.rtc_sdp_values.specs.declared.line_row.LineRow.{LineRow}
 use Rattle.rtc_sdp_values.specs.declared.line_row.LineRow.TheVariants.{Media, App}
-use Rattle.rtc_sdp_values.specs.declared.media_kind.MediaKind.{MediaKind}
 use Rattle.rtc_sdp_values.specs.declared.media_kind.MediaKind.TheVariants.{Audio, Video}
 use Rattle.rtc_sdp_values.specs.Mids.{is_among}
 use Rattle.rtc_peer_rows.specs.Table.{IsTable, Rising, OneApp, NoMore, has_mid, row_of, is_app, app_of}
@@ -155,10 +153,6 @@ next_left rows place row left at k = ap (slice_get rows) (let e : place + 1 + k 
 
 pub none_left : (rows : List LineRow) (place : ℕ) → IsLeft rows place [] → IsLeft rows (place + 1) []
 none_left rows place at k = ap (slice_get rows) (let e : place + 1 + k ≡ place + suc k = omega arith in e) ∙ at (suc k)
-
-same_kind-self : (kind : MediaKind) → same_kind kind kind ≡ true
-same_kind-self Audio = refl
-same_kind-self Video = refl
 
 -- a line of data channels does not come again
 abbrev pub MayCome : Bool → LineRow → Type 0

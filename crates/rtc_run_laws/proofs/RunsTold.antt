@@ -4,19 +4,13 @@ use Rattle.rtc_parts.specs.Among.{Among}
 use Rattle.rtc_parts.proofs.AmongLemmas.{among_none}
 use Rattle.rtc_parts.specs.DtlsWords.{dtls_got}
 use Rattle.rtc_assoc.specs.Unread.{IsPrefix}
-use Rattle.rtc_assoc_state.specs.Contents.{Contents}
 use Rattle.rtc_assoc_state.specs.PlainMeaning.{plain_meaning}
-use Rattle.rtc_plain_dtls.specs.Contents.{DtlsContents}
-use Rattle.rtc_plain_ice.specs.Contents.{IceContents}
-use Rattle.rtc_plain_media.specs.MediaContents.{MediaContents}
 use Rattle.rtc_plain_media.specs.declared.plain_media_event.PlainMediaEvent.{PlainMediaEvent}
 use Rattle.rtc_parts.specs.Draws.{Draws}
 use Rattle.rtc_sctp_entries.specs.declared.stream_entry.StreamEntry.{StreamEntry}
-use Rattle.rtc_sctp.specs.Streams.{SctpStreams}
 use Rattle.rtc_sctp_laws.specs.StreamUses.{HasOpenInBand, IsUsed, messages_of}
 use Rattle.rtc_sctp_laws.specs.Contents.{contents_of}
-use Rattle.rtc_channels.specs.Channels.{Channels, no_channels}
-use Rattle.rtc_peer_core.specs.declared.peer.Peer.{Peer}
+use Rattle.rtc_channels.specs.Channels.{Channels}
 use Rattle.rtc_peer_laws.specs.ChannelStreams.{AreNumberedChannels}
 use Rattle.rtc_peer_laws.specs.PeerActs.{PeerActs}
 use Rattle.rtc_peer_laws.proofs.OpenedOnce.{restarted}
@@ -33,7 +27,7 @@ use Rattle.rtc_run_history.specs.Sides.{other_side, same_side, side_of}
 use Rattle.rtc_run_laws.specs.NewPairs.{IsNewPair, IsNewPeer}
 use Rattle.rtc_run_laws.specs.PlainPairs.{PairActs, PairExchanges, PlainPair, PlainPolled, plain_over}
 use Rattle.rtc_run_laws.specs.SentContents.{contents_sent}
-use Rattle.rtc_run_laws.proofs.NewPeers.{new_built, nothing_sent}
+use Rattle.rtc_run_laws.proofs.NewPeers.{new_built, nothing_sent, new_channels, new_entries}
 use Rattle.rtc_run_laws.proofs.RunsExchange.{side_all, side_reads}
 use Rattle.rtc_run_laws.specs.AnnouncedOnce.{AreAnnouncedOnce}
 use Rattle.rtc_run_laws.specs.ChannelUses.{ChannelUse}
@@ -108,19 +102,14 @@ module _ {N : Type 0} (draws : Draws N) where
   -- a new pair
   new_told : (p : PlainPolled N) → IsNewPeer draws p.core → SideTold (plain_over draws) [] [] [] p
   new_told p h =
-      let sctp : p.core.sctp ≡ h.built.sctp = ap (λ (x : Peer IceContents DtlsContents Contents MediaContents N). x.sctp) h.rest in
-      let channels : p.core.channels ≡ h.built.channels = ap (λ (x : Peer IceContents DtlsContents Contents MediaContents N). x.channels) h.rest in
-      let none : h.built.channels ≡ no_channels =
-      ap (λ (x : Peer IceContents DtlsContents Contents MediaContents N). x.channels) h.by_build.rest in
-      let entries : p.core.sctp.entries ≡ [] =
-      ap (λ (x : SctpStreams Contents). x.entries) sctp ∙ ap (λ (x : SctpStreams Contents). x.entries) h.by_build.streams in
+      let entries = new_entries draws p h in
       record {
         used =
             inr
             (λ s.
             subst (λ (es : List StreamEntry). IsUsed plain_meaning s [] [] p.core.sctp.association es) (sym entries)
             (restarted plain_meaning s 0 p.core.sctp.association [] (inr tt)));
-        numbers = subst (λ (x : Channels). AreNumberedChannels x) (sym (channels ∙ none)) (tt, tt, tt);
+        numbers = subst (λ (x : Channels). AreNumberedChannels x) (sym (new_channels draws p h)) (tt, tt, tt);
         named_written = tt;
         named_read = tt;
         each = tt;

@@ -1,15 +1,7 @@
 -- What is told in runs of channels that the other side has not announced.
-use Rattle.std.proofs.Common.{◌≡◌, ◌∙◌, ◌⊎◌, ◌≤◌, ◌<◌, ◌-◌, ◌^◌, ◌++◌, ◌∷◌, if◌then◌else◌, ℕ, Bool, true, false, true≢false, List, [], Some, inl, inr, refl, sym, ap, subst, arith}
-use Rattle.rtc_assoc_state.specs.Contents.{Contents}
-use Rattle.rtc_channels.specs.Channels.{Channels, no_channels}
+use Rattle.std.proofs.Common.{◌≡◌, ◌⊎◌, ◌≤◌, ◌<◌, ◌-◌, ◌^◌, ◌++◌, ◌∷◌, if◌then◌else◌, ℕ, Bool, true, false, true≢false, List, [], Some, inl, inr, refl, sym, subst, arith}
 use Rattle.rtc_parts.specs.Draws.{Draws}
-use Rattle.rtc_plain_dtls.specs.Contents.{DtlsContents}
-use Rattle.rtc_plain_ice.specs.Contents.{IceContents}
-use Rattle.rtc_plain_media.specs.MediaContents.{MediaContents}
 use Rattle.rtc_plain_media.specs.declared.plain_media_event.PlainMediaEvent.{PlainMediaEvent}
-use Rattle.rtc_sctp.specs.Streams.{SctpStreams}
-use Rattle.rtc_sctp_entries.specs.declared.stream_entry.StreamEntry.{StreamEntry}
-use Rattle.rtc_peer_core.specs.declared.peer.Peer.{Peer}
 use Rattle.rtc_peer_core.specs.declared.phase.Phase.TheVariants.{Closed}
 use Rattle.rtc_peer_laws.specs.PeerActs.{PeerActs}
 use Rattle.rtc_run_history.specs.Native.{are_native, is_native}
@@ -17,22 +9,19 @@ use Rattle.rtc_run_history.specs.PairState.{addr_at, rtc_at}
 use Rattle.rtc_run_history.specs.Past.{Entry, steps_of}
 use Rattle.rtc_run_history.specs.Runs.{Reached}
 use Rattle.rtc_run_history.specs.Sides.{other_side, same_side, side_of}
-use Rattle.rtc_run_history.specs.declared.kept.Kept.{Kept}
 use Rattle.rtc_run_history.specs.declared.side.Side.{Side}
 use Rattle.rtc_run_history.specs.declared.side.Side.TheVariants.{Left, Right}
 use Rattle.rtc_run_history.specs.declared.step.Step.{Step}
 use Rattle.rtc_run_laws.specs.ChannelUses.{ChannelUse}
 use Rattle.rtc_run_laws.specs.InBandSteps.{AreInBandSteps, IsInBandStep}
-use Rattle.rtc_run_laws.specs.NewPairs.{IsNewPair, IsNewPeer}
+use Rattle.rtc_run_laws.specs.NewPairs.{IsNewPair}
 use Rattle.rtc_run_laws.specs.PlainPairs.{PlainPair, PlainPolled, plain_over}
 use Rattle.rtc_run_laws.specs.SentMessages.{sent_acted, sent_over}
 use Rattle.rtc_run_laws.specs.ToldMessages.{told_over}
 use Rattle.rtc_run_laws.specs.UsesOfRuns.{uses_acted, uses_of}
 use Rattle.rtc_run_laws.proofs.AnnouncedStreams.{HasUseOver, found}
-use Rattle.rtc_run_laws.proofs.BandedChanges.{AreBandedTokens}
 use Rattle.rtc_run_laws.proofs.BandedInputs.{SideBanded}
-use Rattle.rtc_run_laws.proofs.BandedMoments.{IsBanded}
-use Rattle.rtc_run_laws.proofs.BandedRuns.{PairBanded, run_banded}
+use Rattle.rtc_run_laws.proofs.BandedRuns.{PairBanded, new_pair_banded, run_banded}
 use Rattle.rtc_run_laws.proofs.ConfirmedRuns.{last_rows}
 use Rattle.rtc_run_laws.proofs.NativeSteps.{native_entry}
 use Rattle.rtc_run_laws.proofs.RunsTold.{PairTold, new_pair_told, reached_told}
@@ -82,31 +71,6 @@ less_before : (n k : ℕ) → n ≤ k → k < 2 ^ 64 - 1 → n < 2 ^ 64 - 1
 less_before n k up left = omega (arith, up, left)
 
 module _ {N : Type 0} (draws : Draws N) where
-  -- ---- new pairs
-
-  new_banded : (p : PlainPolled N) → IsNewPeer draws p.core → IsBanded p.core.channels p.core.sctp.entries
-  new_banded p h =
-      subst (λ (x : Channels). IsBanded x p.core.sctp.entries) (sym (channels ∙ none))
-      (subst (λ (l : List StreamEntry). IsBanded no_channels l) (sym entries) (record { rows = tt; entries = tt }))
-    where
-      channels : p.core.channels ≡ h.built.channels
-      channels = ap (λ (x : Peer IceContents DtlsContents Contents MediaContents N). x.channels) h.rest
-
-      none : h.built.channels ≡ no_channels
-      none = ap (λ (x : Peer IceContents DtlsContents Contents MediaContents N). x.channels) h.by_build.rest
-
-      entries : p.core.sctp.entries ≡ []
-      entries =
-          ap (λ (x : SctpStreams Contents). x.entries) (ap (λ (x : Peer IceContents DtlsContents Contents MediaContents N). x.sctp) h.rest)
-          ∙ ap (λ (x : SctpStreams Contents). x.entries) h.by_build.streams
-
-  new_pair_banded : (pair : PlainPair N) → IsNewPair draws pair → pair.sdps ≡ [] → PairBanded (plain_over draws) (plain_over_laws draws) pair
-  new_pair_banded pair h none = record { sides = λ at. by at; tokens = subst (λ (l : List Kept). AreBandedTokens l) (sym none) tt }
-    where
-      by : (at : Side) → SideBanded (plain_over draws) (rtc_at at pair)
-      by Left = inr (new_banded pair.left h.left)
-      by Right = inr (new_banded pair.right h.right)
-
   entries_band : (p : PlainPolled N) → SideBanded (plain_over draws) p → (p.core.phase ≡ Closed) ⊎ AreBanded p.core.sctp.entries
   entries_band p (inl closed) = inl closed
   entries_band p (inr band) = inr band.entries
@@ -148,7 +112,7 @@ module _ {N : Type 0} (draws : Draws N) where
         told = reached_told draws stun start past ran.0 native.0 ran.1 (new_pair_told draws start new)
 
         band : PairBanded (plain_over draws) (plain_over_laws draws) ran.0
-        band = run_banded (plain_over draws) (plain_over_laws draws) stun start past ran.0 native.0 ran.1 both.0 (new_pair_banded start new none)
+        band = run_banded (plain_over draws) (plain_over_laws draws) stun start past ran.0 native.0 ran.1 both.0 (new_pair_banded draws start new none)
 
         side : (x : Side) → (acts : PeerActs)
             × SideSent draws acts (uses x) (sent x) (told_over (plain_over draws) stun start x past ran.0 ran.1) (rtc_at x ran.0)

@@ -1,5 +1,6 @@
 -- Writes to channels and closes of them leave what negotiation reads of a peer, but for the rows of its channels, and give no number.
 use Rattle.std.proofs.Common.{◌≡◌, ◌∙◌, ℕ, Bool, true, false, not, ◌&&◌, ◌||◌, nat_lt, List, [], length, Option, Some, None, Result, Ok, Err, alloc_error, refl, sym, ap, subst}
+use Rattle.std.specs.declared.alloc.AllocError.{AllocError}
 use Rattle.rtc_sctp_values.specs.declared.sctp_error.SctpError.{SctpError}
 use Rattle.rtc_sctp_values.specs.declared.sctp_error.SctpError.TheVariants as sctp
 use Rattle.rtc_sctp.specs.Calls.{WritesStream, WrittenIf, can_write, is_current, is_ended, is_open_stream}
@@ -11,7 +12,7 @@ use Rattle.rtc_peer_core.specs.declared.rtc_error.RtcError.TheVariants.{Alloc as
 use Rattle.rtc_peer_core.specs.Meanings.{Meanings, PartsLaws}
 use Rattle.rtc_peer_core.specs.Stance.{Stance, stance_of}
 use Rattle.rtc_peer_transport.specs.declared.polled_peer.PolledPeer.{PolledPeer}
-use Rattle.rtc_peer_transport.specs.ChannelCalls.{WritesChannel, WritesIf, bytes_available, write_taken, stream_under}
+use Rattle.rtc_peer_transport.specs.ChannelCalls.{ClosesDataChannel, WritesChannel, WritesIf, bytes_available, write_taken, stream_under}
 use Rattle.rtc_peer_transport.specs.Connection.{with_sctp}
 use Rattle.rtc_peer_polling.proofs.KeptCalls.{keeps_by}
 use Rattle.rtc_peer_polling.proofs.StandingCalls.{stands_by}
@@ -122,11 +123,15 @@ module _ {I D S M E X T W N : Type 0} (m : Meanings I D S M E X T W N) (laws : P
   write_rest None binary bytes old outcome table new sdps sdps' h kept = none_rest is_written refl old outcome table new sdps sdps' h kept
   write_rest (Some stream) binary bytes old outcome table new sdps sdps' h kept = open_write_rest stream binary bytes old outcome table new sdps sdps' h kept
 
-  pub closes_move : (id : ℕ) (p : PolledPeer I D S M N) (r : Result (Unit {0}) RtcError) (q : PolledPeer I D S M N) → ClosesOpenChannel m id p r q → Moves m laws [] p q
-  closes_move id p (Ok done) q h = streams_move p q h.1 (closed_size m.association _ p.core.sctp (Ok tt) q.core.sctp h.0)
-      (closed_start m.association laws.association (stream_under id p.core.channels) p.core.sctp (Ok tt) q.core.sctp h.0)
-  closes_move id p (Err PeerAlloc) q h = streams_move p q h.1 (closed_size m.association _ p.core.sctp (Err alloc_error) q.core.sctp h.0)
-      (closed_start m.association laws.association (stream_under id p.core.channels) p.core.sctp (Err alloc_error) q.core.sctp h.0)
+  pub shuts_move : (id : ℕ) (p : PolledPeer I D S M N) (r : Result (Unit {0}) AllocError) (q : PolledPeer I D S M N) → ClosesDataChannel m id p r q
+      → Moves m laws [] p q
+  shuts_move id p r q h =
+      streams_move p q h.1 (closed_size m.association (stream_under id p.core.channels) p.core.sctp r q.core.sctp h.0)
+      (closed_start m.association laws.association (stream_under id p.core.channels) p.core.sctp r q.core.sctp h.0)
+
+  closes_move : (id : ℕ) (p : PolledPeer I D S M N) (r : Result (Unit {0}) RtcError) (q : PolledPeer I D S M N) → ClosesOpenChannel m id p r q → Moves m laws [] p q
+  closes_move id p (Ok done) q h = shuts_move id p (Ok tt) q h
+  closes_move id p (Err PeerAlloc) q h = shuts_move id p (Err alloc_error) q h
   closes_move id p (Err error) q h = absurd h
 
   close_refused : (id : ℕ) (p : PolledPeer I D S M N) (error : RtcError) (q : PolledPeer I D S M N) → ClosesOpenChannel m id p (Err error) q → error_lacks error ≡ true

@@ -2,7 +2,6 @@
 use Rattle.std.proofs.Common.{◌≡◌, ◌∙◌, ℕ, Bool, true, false, not, ◌&&◌, List, [], Option, Some, None, Result, Ok, Err}
 use Rattle.rtc_wire.specs.declared.addr.Addr.{Addr}
 use Rattle.rtc_wire.specs.DatagramRecv.{kind_by}
-use Rattle.rtc_wire.specs.declared.transmit.Transmit.{Transmit}
 use Rattle.rtc_sdp_values.specs.declared.sdp.Sdp.{Sdp}
 use Rattle.rtc_change.specs.PendingOffer.{PendingOffer}
 use Rattle.rtc_peer_core.specs.declared.peer.Peer.{Peer}
@@ -22,17 +21,17 @@ use Rattle.rtc_run_history.specs.declared.step.Step.TheVariants.{Negotiate, Acce
 use Rattle.rtc_run_history.specs.declared.poll_end.PollEnd.{PollEnd}
 use Rattle.rtc_run_history.specs.declared.shown.Shown.{Shown}
 use Rattle.rtc_run_history.specs.declared.outcome.Outcome.{Outcome}
-use Rattle.rtc_run_history.specs.declared.outcome.Outcome.TheVariants.{Negotiated, Answered, Finished, Done, Wrote, Polled, Refused, NoSuch, Alloc}
+use Rattle.rtc_run_history.specs.declared.outcome.Outcome.TheVariants.{Negotiated, Answered, Finished, Done, Polled, Refused, NoSuch, Alloc}
 use Rattle.rtc_run_history.specs.declared.table.Table.{Table}
 use Rattle.rtc_run_history.specs.declared.kept.Kept.{Kept}
 use Rattle.rtc_run_history.specs.declared.sent_packet.SentPacket.{SentPacket}
-use Rattle.rtc_run_history.specs.CallReplies.{StepCalls, FindsNone, StepWritesOpen, StepWrites, ClosesOpenChannel, StepClosesChannel}
 use Rattle.rtc_run_history.specs.Memory.{answers_lack}
 use Rattle.rtc_run_history.specs.PairState.{kept_remote_sdp, remote_packet, held_token}
-use Rattle.rtc_run_history.specs.Performs.{Negotiates, StepAcceptsOffer, StepAcceptsAnswer, StepRollsBack, raw_datagram, HandlesRead, StepTakesDatagram, PollsOnce, DrainsPeer, StepPollsPeer, Acts}
+use Rattle.rtc_run_history.specs.Performs.{Negotiates, StepAcceptsOffer, StepAcceptsAnswer, StepRollsBack, raw_datagram, HandlesRead, PollsOnce, DrainsPeer, StepPollsPeer, Acts}
 use Rattle.rtc_run_laws.proofs.OpParts.{counting_parts, ops_counting, makes_counting, rolls_counting}
-use Rattle.rtc_run_laws.proofs.StandingChannels.{write_moves, closes_move}
-use Rattle.rtc_run_laws.proofs.StandingPolls.{Moves, read_moves, input_moves, close_moves, once_moves, drains_moves}
+use Rattle.rtc_run_laws.proofs.StandingChannels.{shuts_move, write_moves}
+use Rattle.rtc_run_laws.proofs.StepWalks.{AnyInput, CallsBeside, calls_keep, close_keep, datagram_keep, read_keep, write_keep}
+use Rattle.rtc_run_laws.proofs.StandingPolls.{Moves, input_moves, close_moves, once_moves, drains_moves}
 
 module _ {I D S M E X T W N : Type 0} (m : Meanings I D S M E X T W N) (laws : PartsLaws m) where
   -- the peer is as it was, was told operations or rolled an offer back, or took an offer or an answer with nothing staged
@@ -100,23 +99,14 @@ module _ {I D S M E X T W N : Type 0} (m : Meanings I D S M E X T W N) (laws : P
       StagedOps (rolls_counting m (record old { staged = []; undo = [] }) token (Err error) new h.0)
   step_rollback_kind t token old sdps outcome table new sdps' h = absurd h
 
-  calls_kind : (call : PolledPeer I D S M N → Result (Unit {0}) RtcError → PolledPeer I D S M N → Type 0)
-      → ((p : PolledPeer I D S M N) (r : Result (Unit {0}) RtcError) (q : PolledPeer I D S M N) → call p r q → Moves m laws [] p q)
-      → (old : PolledPeer I D S M N) (outcome : Outcome E) (table : Option Table) (new : PolledPeer I D S M N) → StepCalls m call old outcome table new
-      → StepKind old new
-  calls_kind call moves old Alloc None new h = Stayed h
-  calls_kind call moves old Done (Some table) new h = MovedBy [] (moves old (Ok tt) new h.0)
-  calls_kind call moves old (Refused error) (Some table) new h = MovedBy [] (moves old (Err error) new h.0)
-  calls_kind call moves old outcome table new h = absurd h
-
-  datagram_kind : (stun : List ℕ → Bool) (found : Option Transmit) (now : ℕ) (old : PolledPeer I D S M N) (outcome : Outcome E) (table : Option Table) (new : PolledPeer I D S M N)
-      → StepTakesDatagram m stun found now old outcome table new → StepKind old new
-  datagram_kind stun None now old Alloc None new h = Stayed h
-  datagram_kind stun None now old NoSuch (Some table) new h = Stayed h.0
-  datagram_kind stun None now old outcome table new h = absurd h
-  datagram_kind stun (Some transmit) now old outcome table new h =
-      calls_kind (HandlesRead m (kind_by stun transmit.contents) transmit now)
-      (read_moves m laws (kind_by stun transmit.contents) transmit now) old outcome table new h
+  -- inputs, writes and closes
+  calls_kind : CallsBeside m AnyInput StepKind
+  calls_kind = record {
+    none = λ p q is. Stayed is;
+    inputs = λ input any p r q h. MovedBy [] (input_moves m laws input p r q h);
+    writes = λ stream binary bytes p r q h. MovedBy [] (write_moves m laws stream binary bytes p r q h);
+    shuts = λ id p r q h. MovedBy [] (shuts_move m laws id p r q h);
+  }
 
   polls_kind : (polls : List SentPacket → List (Shown E) → PollEnd → PolledPeer I D S M N → List SentPacket → Type 0) (old : PolledPeer I D S M N)
       → ((packets : List SentPacket) (outputs : List (Shown E)) (end : PollEnd) (q : PolledPeer I D S M N) (packets' : List SentPacket)
@@ -128,32 +118,6 @@ module _ {I D S M E X T W N : Type 0} (m : Meanings I D S M E X T W N) (laws : P
       let moved = moves packets outputs end new packets' h.0 in MovedBy moved.0 moved.1
   polls_kind polls old moves packets outcome table new packets' h = absurd h
 
-  none_kind : (old : PolledPeer I D S M N) (outcome : Outcome E) (table : Option Table) (new : PolledPeer I D S M N) → FindsNone m old outcome table new
-      → StepKind old new
-  none_kind old Alloc None new h = Stayed h
-  none_kind old NoSuch (Some table) new h = Stayed h.0
-  none_kind old outcome table new h = absurd h
-
-  open_write_kind : (stream : ℕ) (binary : Bool) (bytes : List ℕ) (old : PolledPeer I D S M N) (outcome : Outcome E) (table : Option Table) (new : PolledPeer I D S M N)
-      → StepWritesOpen m stream binary bytes old outcome table new → StepKind old new
-  open_write_kind stream binary bytes old Alloc None new h = Stayed h
-  open_write_kind stream binary bytes old (Wrote taken) (Some table) new h =
-      MovedBy [] (write_moves m laws stream binary bytes old (Ok taken) new h.0)
-  open_write_kind stream binary bytes old (Refused error) (Some table) new h =
-      MovedBy [] (write_moves m laws stream binary bytes old (Err error) new h.0)
-  open_write_kind stream binary bytes old outcome table new h = absurd h
-
-  write_kind : (stream : Option ℕ) (binary : Bool) (bytes : List ℕ) (old : PolledPeer I D S M N) (outcome : Outcome E) (table : Option Table) (new : PolledPeer I D S M N)
-      → StepWrites m stream binary bytes old outcome table new → StepKind old new
-  write_kind None binary bytes old outcome table new h = none_kind old outcome table new h
-  write_kind (Some stream) binary bytes old outcome table new h = open_write_kind stream binary bytes old outcome table new h
-
-  close_kind : (stream : Option ℕ) (id : ℕ) (old : PolledPeer I D S M N) (outcome : Outcome E) (table : Option Table) (new : PolledPeer I D S M N)
-      → StepClosesChannel m stream id old outcome table new → StepKind old new
-  close_kind None id old outcome table new h = none_kind old outcome table new h
-  close_kind (Some stream) id old outcome table new h =
-      calls_kind (ClosesOpenChannel m id) (closes_move m laws id) old outcome table new h
-
   pub acts_kind : (stun : List ℕ → Bool) (other own : Addr) (step : Step) (old : PolledPeer I D S M N) (sdps : List Kept) (packets : List SentPacket) (outcome : Outcome E) (table : Option Table) (new : PolledPeer I D S M N)
       (sdps' : List Kept) (packets' : List SentPacket) → Acts m stun other own step old sdps packets outcome table new sdps' packets' → StepKind old new
   acts_kind stun other own (Negotiate at ops apply) old sdps packets outcome table new sdps' packets' h =
@@ -163,19 +127,20 @@ module _ {I D S M E X T W N : Type 0} (m : Meanings I D S M E X T W N) (laws : P
   acts_kind stun other own (AcceptAnswer at t a) old sdps packets outcome table new sdps' packets' h =
       Described (step_answer_kind t (held_token sdps at t) (kept_remote_sdp false sdps at a) old.core sdps outcome table new.core sdps' h.0)
   acts_kind stun other own (Time at now) old sdps packets outcome table new sdps' packets' h =
-      calls_kind (HandlesInput m (given.Timeout now)) (input_moves m laws (given.Timeout now)) old outcome table new h.0
+      calls_keep m StepKind calls_kind (HandlesInput m (given.Timeout now)) (λ p r q k. MovedBy [] (input_moves m laws (given.Timeout now) p r q k)) old outcome
+      table new h.0
   acts_kind stun other own (Datagram at packet now) old sdps packets outcome table new sdps' packets' h =
-      datagram_kind stun (remote_packet packets at packet) now old outcome table new h.0
+      datagram_keep m StepKind calls_kind stun (remote_packet packets at packet) now (λ datagram. tt) old outcome table new h.0
   acts_kind stun other own (Poll at) old sdps packets outcome table new sdps' packets' h =
       polls_kind (PollsOnce m at old) old (λ before_it outputs end q after polls. (_, once_moves m laws at old before_it outputs end q after polls)) packets outcome table new packets' h.0
   acts_kind stun other own (Drain at) old sdps packets outcome table new sdps' packets' h =
       polls_kind (DrainsPeer m at old) old (λ before_it outputs end q after polls. (_, drains_moves m laws at old before_it outputs end q after polls)) packets outcome table new packets' h.0
   acts_kind stun other own (Write at channel binary bytes) old sdps packets outcome table new sdps' packets' h =
-      write_kind (open_stream_under channel old) binary bytes old outcome table new h.0
+      write_keep m StepKind calls_kind (open_stream_under channel old) binary bytes old outcome table new h.0
   acts_kind stun other own (CloseChannel at channel) old sdps packets outcome table new sdps' packets' h =
-      close_kind (open_stream_under channel old) channel old outcome table new h.0
+      close_keep m StepKind calls_kind (open_stream_under channel old) channel old outcome table new h.0
   acts_kind stun other own (Close at) old sdps packets outcome table new sdps' packets' h =
-      calls_kind (ClosesPeer m) (close_moves m laws) old outcome table new h.0
+      calls_keep m StepKind calls_kind (ClosesPeer m) (λ p r q k. MovedBy [] (close_moves m laws p r q k)) old outcome table new h.0
   acts_kind stun other own (Rollback at t) old sdps packets outcome table new sdps' packets' h =
       Described (step_rollback_kind t (held_token sdps at t) old.core sdps outcome table new.core sdps' h.0)
   acts_kind stun other own (ForeignOffer at text) old sdps packets outcome table new sdps' packets' h =
@@ -183,4 +148,5 @@ module _ {I D S M E X T W N : Type 0} (m : Meanings I D S M E X T W N) (laws : P
   acts_kind stun other own (ForeignAnswer at t text) old sdps packets outcome table new sdps' packets' h =
       Described (step_answer_kind t (held_token sdps at t) (foreign text) old.core sdps outcome table new.core sdps' h.0)
   acts_kind stun other own (Raw at bytes now) old sdps packets outcome table new sdps' packets' h =
-      calls_kind (HandlesRead m (kind_by stun bytes) (raw_datagram other own bytes) now) (read_moves m laws (kind_by stun bytes) (raw_datagram other own bytes) now) old outcome table new h.0
+      calls_keep m StepKind calls_kind (HandlesRead m (kind_by stun bytes) (raw_datagram other own bytes) now)
+      (λ p r q k. read_keep m StepKind calls_kind (kind_by stun bytes) (raw_datagram other own bytes) now (λ datagram. tt) p r q k) old outcome table new h.0

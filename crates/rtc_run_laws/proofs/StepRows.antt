@@ -46,7 +46,7 @@ use Rattle.rtc_run_history.specs.Performs.{Acts, StepRollsBack, lent}
 use Rattle.rtc_run_history.specs.Sides.{other_side}
 use Rattle.rtc_run_laws.proofs.KeptNegotiation.{answer_step_keeps, negotiates_keep, offer_step_keeps}
 use Rattle.rtc_run_laws.proofs.RowLemmas.{closed_stays}
-use Rattle.rtc_run_laws.proofs.StepWalks.{CallsKeep, calls_keep, close_keep, datagram_keep, drain_keep, poll_keep, write_keep}
+use Rattle.rtc_run_laws.proofs.StepWalks.{AnyInput, CallsKeep, calls_keep, close_keep, datagram_keep, drain_keep, poll_keep, write_keep}
 
 module _ {I D S M E X T W N : Type 0} (m : Meanings I D S M E X T W N) where
   -- the changes of a peer that is not closed; a closed one stays so, and no number that a channel was given is taken back
@@ -160,14 +160,16 @@ module _ {I D S M E X T W N : Type 0} (m : Meanings I D S M E X T W N) where
     }
 
     -- what each call keeps that is none of negotiation
-    pub calls_rows : CallsKeep m StepRows
+    pub calls_rows : CallsKeep m AnyInput StepRows
     calls_rows = record {
-      none = λ p q is. rows_none p q is;
+      beside = record {
+        none = λ p q is. rows_none p q is;
+        inputs = λ input any p r q h. call_rows p q [] (input_keeps m laws.association input p r q h);
+        writes = λ stream binary bytes p r q h. call_rows p q _ (channel_write_keeps m laws.association stream binary bytes p r q h);
+        shuts = λ id p r q h. call_rows p q [] (channel_close_keeps m laws.association id p r q h);
+      };
       on = λ p b q h k. rows_on p b q h k;
       polls = λ p answer q h. poll_rows p answer q h;
-      inputs = λ input p r q h. call_rows p q [] (input_keeps m laws.association input p r q h);
-      writes = λ stream binary bytes p r q h. call_rows p q _ (channel_write_keeps m laws.association stream binary bytes p r q h);
-      shuts = λ id p r q h. call_rows p q [] (channel_close_keeps m laws.association id p r q h);
     }
 
     -- each step, an arm each
@@ -188,11 +190,11 @@ module _ {I D S M E X T W N : Type 0} (m : Meanings I D S M E X T W N) where
         sdps' h.0))
     acts_rows stun other own (Time at now) old sdps packets outcome table new sdps' packets' native h =
         inl
-        (calls_keep m StepRows calls_rows (HandlesInput m (given.Timeout now))
+        (calls_keep m StepRows calls_rows.beside (HandlesInput m (given.Timeout now))
         (λ p r q k. call_rows p q [] (input_keeps m laws.association (given.Timeout now) p r q k)) old outcome table new h.0)
     acts_rows stun other own (Datagram at packet now) old sdps packets outcome table new sdps' packets' native h =
         inl
-        (datagram_keep m StepRows calls_rows stun (remote_packet packets at packet) now old outcome table new h.0)
+        (datagram_keep m StepRows calls_rows.beside stun (remote_packet packets at packet) now (λ datagram. tt) old outcome table new h.0)
     acts_rows stun other own (Poll at) old sdps packets outcome table new sdps' packets' native h =
         inl
         (poll_keep m StepRows calls_rows at old packets outcome table new packets' h.0)
@@ -201,13 +203,13 @@ module _ {I D S M E X T W N : Type 0} (m : Meanings I D S M E X T W N) where
         (drain_keep m StepRows calls_rows at old packets outcome table new packets' h.0)
     acts_rows stun other own (Write at channel binary bytes) old sdps packets outcome table new sdps' packets' native h =
         inl
-        (write_keep m StepRows calls_rows (open_stream_under channel old) binary bytes old outcome table new h.0)
+        (write_keep m StepRows calls_rows.beside (open_stream_under channel old) binary bytes old outcome table new h.0)
     acts_rows stun other own (CloseChannel at channel) old sdps packets outcome table new sdps' packets' native h =
         inl
-        (close_keep m StepRows calls_rows (open_stream_under channel old) channel old outcome table new h.0)
+        (close_keep m StepRows calls_rows.beside (open_stream_under channel old) channel old outcome table new h.0)
     acts_rows stun other own (Close at) old sdps packets outcome table new sdps' packets' native h =
         inl
-        (calls_keep m StepRows calls_rows (ClosesPeer m) (λ p r q k. call_rows p q [] (close_keeps m laws.association p r q k)) old outcome table new h.0)
+        (calls_keep m StepRows calls_rows.beside (ClosesPeer m) (λ p r q k. call_rows p q [] (close_keeps m laws.association p r q k)) old outcome table new h.0)
     acts_rows stun other own (Rollback at token) old sdps packets outcome table new sdps' packets' native h =
         inr (rollback_rows token (held_token sdps at token) old sdps outcome table new sdps' h.0)
     acts_rows stun other own (ForeignOffer at text) old sdps packets outcome table new sdps' packets' native h = absurd (true≢false (sym native))

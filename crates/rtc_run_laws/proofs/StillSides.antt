@@ -5,10 +5,8 @@ use Rattle.std.proofs.lemmas.Bool.{eqb-true}
 use Rattle.rtc_parts.specs.AssociationWords.{ended, read, written}
 use Rattle.rtc_assoc.specs.Unread.{unread}
 use Rattle.rtc_assoc_state.specs.Contents.{Contents, generation_of, has_unread}
-use Rattle.rtc_assoc_state.specs.Inbox.{is_message_of}
 use Rattle.rtc_assoc_state.specs.Outbox.{has_unacknowledged}
 use Rattle.rtc_assoc_state.specs.PlainMeaning.{plain_meaning}
-use Rattle.rtc_assoc_state.specs.declared.message.Message.{Message}
 use Rattle.rtc_parts.specs.Draws.{Draws}
 use Rattle.rtc_sctp_entries.specs.declared.stream_entry_state.StreamEntryState.{StreamEntryState}
 use Rattle.rtc_sctp_entries.specs.declared.stream_entry_state.StreamEntryState.TheVariants.{AwaitOpen, AwaitDcepAck}
@@ -92,10 +90,6 @@ entry_has P s (x ∷ es) e l is so = by (x.id == s) refl is (λ k. entry_has P s
         → (entries_of s es ≡ e ∷ l → HasEntryOf P s es) → HasEntryOf P s (x ∷ es)
     by true c k rest = inl (eqb-true x.id s c, subst P (sym (first (entries_of s es) k)) so)
     by false c k rest = inr (rest k)
-
--- no message stands unread
-none_stands : (messages : List Message) (s g : ℕ) → messages ≡ [] → list_any (is_message_of s g) messages ≡ false
-none_stands messages s g none = ap (list_any (is_message_of s g)) none
 
 module _ {N : Type 0} (draws : Draws N) where
   module _ (a b : PeerActs) (us vs : List ChannelUse) (p q : PlainPolled N) (x : SideStood draws a us p) (y : SideStood draws b vs q)

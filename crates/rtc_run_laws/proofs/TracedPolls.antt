@@ -1,5 +1,5 @@
 -- A poll that announces a channel, or tells a message of one, ends with a poll of the streams that does so.
-use Rattle.std.proofs.Common.{◌≡◌, ◌++◌, ℕ, zero, suc, Bool, true, false, List, [], Option, Some, None, Result, Ok, Err, refl, sym, ap, subst}
+use Rattle.std.proofs.Common.{◌≡◌, ◌∙◌, ◌≤◌, ◌++◌, ℕ, zero, suc, Bool, true, false, List, [], Option, Some, None, Result, Ok, Err, refl, sym, ap, subst}
 use Rattle.std.specs.declared.alloc.AllocError.{AllocError}
 use Rattle.rtc_parts.specs.AssociationActs.{AssociationAct, Moved, moved-append}
 use Rattle.rtc_sctp_entries.specs.declared.sctp_event.SctpEvent.{SctpEvent}
@@ -25,20 +25,24 @@ use Rattle.rtc_peer_transport.specs.Stages.{Stage, FollowedBy, Stopped, WentOn, 
 use Rattle.rtc_peer_polling.specs.DtlsStages.{is_dtls_due}
 use Rattle.rtc_peer_polling.specs.StreamStages.{ClosesChannelOver, FallsChannelOver, HearsChannelOver, LosesAssociation, OpensChannelOver, PollsStreamEvent, PollsStreamEvents, SendsKeptPackets, TakesStreamAnswer, TakesStreamEvent, TellsStreams, channel_over}
 use Rattle.rtc_peer_polling.specs.Walk.{AnswersMet, PollsPeer, PollsPeerFrom, SendsDatagrams, StartsOverWhenDue, TellsArrivals, TellsConnection, VisitsParts, WaitsIf}
-use Rattle.rtc_peer_laws.specs.RowsChanged.{Polled, RowsAnswered, RowsPolled}
+use Rattle.rtc_peer_laws.specs.RowsChanged.{Polled, RowsAnswered, RowsPolled, SameRows}
 use Rattle.rtc_peer_laws.proofs.ChangedRows.{closed_row}
+use Rattle.rtc_peer_laws.proofs.EnsuredRows.{ensured_given, ensured_rows}
 use Rattle.rtc_peer_laws.proofs.PolledRows.{one_polled, polled_on, polled_same}
+use Rattle.rtc_peer_laws.proofs.StreamsJoin.{given_on, same_given}
 use Rattle.rtc_peer_laws.proofs.ActedConnection.{connection_acts}
 use Rattle.rtc_peer_laws.proofs.ActedVisits.{visits_act}
 use Rattle.rtc_peer_laws.proofs.VisitActs.{QuietDid, quiet_again, quiet_nothing}
 use Rattle.rtc_run_laws.proofs.SilentStages.{IsSilent, arrivals_silent, clash, connection_silent, datagrams_silent, else_silent, first_silent, is_channel_event, is_channel_met, over_silent}
 
 module _ {I D S M E X T W N : Type 0} (m : Meanings I D S M E X T W N) where
-  -- what a poll did first: acts of the association, and changes of channels and of the entries of their streams
+  -- what a poll did first: acts of the association, and changes of channels and of the entries of their streams; the rows of channels are unchanged
   pub record Before (p b : PolledPeer I D S M N) : Type 0 where
     pub acts : List AssociationAct
     pub went : Moved m.association p.core.sctp.association acts b.core.sctp.association
     pub rows : RowsPolled m.association p.core.channels p.core.sctp b.core.channels b.core.sctp
+    pub kept : b.core.channels.rows ≡ p.core.channels.rows
+    pub given : p.core.channels.given ≤ b.core.channels.given
 
   -- that, and the poll of the streams that ends it
   pub record LastPoll (p : PolledPeer I D S M N) (r : Met E) (q : PolledPeer I D S M N) : Type 0 where
@@ -50,12 +54,24 @@ module _ {I D S M E X T W N : Type 0} (m : Meanings I D S M E X T W N) where
     pub taken : TakesStreamEvent m told (with_sctp streams between) r q
 
   before_quiet : (p b : PolledPeer I D S M N) → QuietDid m p b → Before p b
-  before_quiet p b d = record { acts = d.did.acts.association; went = d.did.went.association; rows = d.streams.changed }
+  before_quiet p b d = record {
+    acts = d.did.acts.association;
+    went = d.did.went.association;
+    rows = d.streams.changed;
+    kept = d.rows;
+    given = d.streams.given;
+  }
 
   before_none : (p b : PolledPeer I D S M N) → b ≡ p → Before p b
   before_none p b is =
       subst (λ (x : PolledPeer I D S M N). Before p x) (sym is)
-      (record { acts = []; went = refl; rows = polled_same m.association p.core.channels p.core.sctp p.core.channels p.core.sctp refl refl })
+      (record {
+        acts = [];
+        went = refl;
+        rows = polled_same m.association p.core.channels p.core.sctp p.core.channels p.core.sctp refl refl;
+        kept = refl;
+        given = same_given p.core.channels.given p.core.channels.given refl;
+      })
 
   before_on : (p b q : PolledPeer I D S M N) → Before p b → Before b q → Before p q
   before_on p b q h k = record {
@@ -64,6 +80,8 @@ module _ {I D S M E X T W N : Type 0} (m : Meanings I D S M E X T W N) where
         moved-append m.association p.core.sctp.association b.core.sctp.association q.core.sctp.association h.acts k.acts h.went k.went;
     rows =
         polled_on m.association p.core.channels p.core.sctp b.core.channels b.core.sctp q.core.channels q.core.sctp h.rows k.rows;
+    kept = k.kept ∙ h.kept;
+    given = given_on p.core.channels.given b.core.channels.given q.core.channels.given h.given k.given;
   }
 
   -- a stage that meets such an event
@@ -76,8 +94,9 @@ module _ {I D S M E X T W N : Type 0} (m : Meanings I D S M E X T W N) where
     -- the streams were polled, and this became of the channels
     polled_before : (answer : Result (Option SctpEvent) AllocError) (streams : SctpStreams S) (p n q : PolledPeer I D S M N)
         → PollsStreams m.association p.core.sctp answer streams → q ≡ n → n.core.sctp ≡ streams
-        → RowsAnswered answer p.core.channels n.core.channels → Before p q
-    polled_before answer streams p n q polled is same rows =
+        → RowsAnswered answer p.core.channels n.core.channels → n.core.channels.rows ≡ p.core.channels.rows
+        → p.core.channels.given ≤ n.core.channels.given → Before p q
+    polled_before answer streams p n q polled is same rows kept given =
         subst (λ (x : PolledPeer I D S M N). Before p x) (sym is)
         (let did = poll_did m.association laws.association p.core.sctp answer streams polled in
         record {
@@ -87,7 +106,16 @@ module _ {I D S M E X T W N : Type 0} (m : Meanings I D S M E X T W N) where
               one_polled m.association p.core.channels p.core.sctp n.core.channels n.core.sctp
               (Polled answer streams polled rows (ap (λ (x : SctpStreams S). x.association) same) (ap (λ (x : SctpStreams S). x.entries) same)
               (ap (λ (x : SctpStreams S). x.state) same) (ap (λ (x : SctpStreams S). x.client) same)) tt;
+          kept = kept;
+          given = given;
         })
+
+    -- and nothing became of them but that streams may be held no more
+    idle_before : (answer : Result (Option SctpEvent) AllocError) (streams : SctpStreams S) (p n q : PolledPeer I D S M N)
+        → PollsStreams m.association p.core.sctp answer streams → q ≡ n → n.core.sctp ≡ streams
+        → RowsAnswered answer p.core.channels n.core.channels → SameRows p.core.channels n.core.channels → Before p q
+    idle_before answer streams p n q polled is same rows kept =
+        polled_before answer streams p n q polled is same rows kept.0 (same_given p.core.channels.given n.core.channels.given kept.1)
 
     no_nothing : {E : Type 0} → ◌≡◌ {A = Met E} Again Nothing → ⊥
     no_nothing h = cc
@@ -105,28 +133,29 @@ module _ {I D S M E X T W N : Type 0} (m : Meanings I D S M E X T W N) where
     opens_again stream label streams p q polled h =
         polled_before (Ok (Some (event.Open stream label))) streams p
         (with_channels (channel_ensured stream p.core.channels) (with_sctp streams p)) q polled h.1 refl refl
+        (ensured_rows stream p.core.channels h.0) (ensured_given stream p.core.channels)
 
     closes_again : (found : Option ℕ) (stream : ℕ) (pending : Bool) (streams : SctpStreams S) (p q : PolledPeer I D S M N)
         → channel_over stream p.core.channels ≡ found → PollsStreams m.association p.core.sctp (Ok (Some (event.Close stream pending))) streams
         → ClosesChannelOver {I = I} {D = D} {S = S} {M = M} {E = E} {N = N} found pending (with_sctp streams p) Again q → Before p q
     closes_again (Some id) stream pending streams p q is polled h = absurd (no_event _ h.0)
     closes_again None stream pending streams p q is polled h =
-        polled_before (Ok (Some (event.Close stream pending))) streams p (with_sctp streams p) q polled h.1 refl
-        (closed_row (channel_over stream p.core.channels) None pending p.core.channels p.core.channels is (refl, refl))
+        idle_before (Ok (Some (event.Close stream pending))) streams p (with_sctp streams p) q polled h.1 refl
+        (closed_row (channel_over stream p.core.channels) None pending p.core.channels p.core.channels is (refl, refl)) (refl, refl)
 
     hears_again : (found : Option ℕ) (stream : ℕ) (binary : Bool) (bytes : List ℕ) (streams : SctpStreams S) (p q : PolledPeer I D S M N)
         → PollsStreams m.association p.core.sctp (Ok (Some (event.Data stream binary bytes))) streams
         → HearsChannelOver {I = I} {D = D} {S = S} {M = M} {E = E} {N = N} found binary bytes (with_sctp streams p) Again q → Before p q
     hears_again (Some id) stream binary bytes streams p q polled h = absurd (no_event _ h.0)
     hears_again None stream binary bytes streams p q polled h =
-        polled_before (Ok (Some (event.Data stream binary bytes))) streams p (with_sctp streams p) q polled h.1 refl (refl, refl)
+        idle_before (Ok (Some (event.Data stream binary bytes))) streams p (with_sctp streams p) q polled h.1 refl (refl, refl) (refl, refl)
 
     falls_again : (found : Option ℕ) (stream : ℕ) (streams : SctpStreams S) (p q : PolledPeer I D S M N)
         → PollsStreams m.association p.core.sctp (Ok (Some (event.BufferedAmountLow stream))) streams
         → FallsChannelOver {I = I} {D = D} {S = S} {M = M} {E = E} {N = N} found (with_sctp streams p) Again q → Before p q
     falls_again (Some id) stream streams p q polled h = absurd (no_event _ h.0)
     falls_again None stream streams p q polled h =
-        polled_before (Ok (Some (event.BufferedAmountLow stream))) streams p (with_sctp streams p) q polled h.1 refl (refl, refl)
+        idle_before (Ok (Some (event.BufferedAmountLow stream))) streams p (with_sctp streams p) q polled h.1 refl (refl, refl) (refl, refl)
 
     lost_again : (p q : PolledPeer I D S M N) → LosesAssociation m p Again q → ⊥
     unfolding LosesAssociation
@@ -139,8 +168,8 @@ module _ {I D S M E X T W N : Type 0} (m : Meanings I D S M E X T W N) where
     event_again (event.Close stream pending) streams p q polled h =
         closes_again (channel_over stream p.core.channels) stream pending streams p q refl polled h
     event_again (event.StreamResetComplete stream) streams p q polled h =
-        polled_before (Ok (Some (event.StreamResetComplete stream))) streams p
-        (with_channels (reset_completed stream p.core.channels) (with_sctp streams p)) q polled h.1 refl (refl, refl)
+        idle_before (Ok (Some (event.StreamResetComplete stream))) streams p
+        (with_channels (reset_completed stream p.core.channels) (with_sctp streams p)) q polled h.1 refl (refl, refl) (refl, refl)
     event_again (event.Data stream binary bytes) streams p q polled h =
         hears_again (channel_over stream p.core.channels) stream binary bytes streams p q polled h
     event_again (event.BufferedAmountLow stream) streams p q polled h =

@@ -9,11 +9,12 @@ use Rattle.rtc_peer_transport.specs.declared.polled_peer.PolledPeer.{PolledPeer}
 use Rattle.rtc_peer_transport.specs.ChannelCalls.{open_stream_under}
 use Rattle.rtc_peer_transport.specs.Closing.{ClosesPeer}
 use Rattle.rtc_peer_polling.specs.Inputs.{HandlesInput}
-use Rattle.rtc_peer_laws.specs.Weight.{HasNoThreshold, load, weight}
+use Rattle.rtc_peer_laws.specs.Weight.{HasNoThreshold, IsTimely, load, weight}
 use Rattle.rtc_peer_laws.proofs.Drains.{closed_none, load_within, output_falls, poll_unset}
-use Rattle.rtc_peer_laws.proofs.ToldCalls.{closes_told, inputs_told, left_told}
+use Rattle.rtc_peer_laws.proofs.ToldHandshakes.{polls_told}
+use Rattle.rtc_peer_laws.proofs.ToldCalls.{channel_closes_told, closes_told, inputs_told, left_told, writes_told}
 use Rattle.rtc_peer_core.specs.declared.phase.Phase.TheVariants.{Closed}
-use Rattle.rtc_peer_laws.proofs.SetsNone.{closes_set_none, inputs_set_none}
+use Rattle.rtc_peer_laws.proofs.SetsNone.{channel_closes_set_none, closes_set_none, inputs_set_none, writes_set_none}
 use Rattle.rtc_run_history.specs.declared.kept.Kept.{Kept}
 use Rattle.rtc_run_history.specs.declared.outcome.Outcome.{Outcome}
 use Rattle.rtc_run_history.specs.declared.outcome.Outcome.TheVariants as came
@@ -34,7 +35,7 @@ use Rattle.rtc_run_history.specs.Runs.{EntersSoundly, Reached, Went}
 use Rattle.rtc_run_history.specs.Sides.{other_side, side_of}
 use Rattle.rtc_run_history.specs.Signalled.{foreign}
 use Rattle.rtc_run_laws.specs.Drains.{AreUndriven, HasMoment, HaveMoments, IsUndriven, ShowsWithin}
-use Rattle.rtc_run_laws.proofs.UndrivenWalks.{Keeps, calls_keep, close_keeps, datagram_keeps, drain_keeps, poll_keeps, read_keeps, write_keeps}
+use Rattle.rtc_run_laws.proofs.StepWalks.{CallsKeep, calls_keep, close_keep, datagram_keep, drain_keep, poll_keep, read_keep, write_keep}
 use Rattle.rtc_run_laws.proofs.UndrivenNegotiation.{KeepsCore, answer_keeps, negotiates_keep, offer_keeps, rollback_keeps}
 
 -- the last step and those before it
@@ -43,15 +44,34 @@ moments_split [] step h = (tt, h.0)
 moments_split (x ∷ steps) step h = let rest = moments_split steps step h.1 in ((h.0, rest.0), rest.1)
 
 module _ {I D S M E X T W N : Type 0} (m : Meanings I D S M E X T W N) (laws : PartsLaws m) where
+  abbrev Keeps : PolledPeer I D S M N → PolledPeer I D S M N → Type 0
+  Keeps p q = IsUndriven m p → IsUndriven m q
+
+  -- calls beside those of negotiation
+  calls_undriven : CallsKeep m IsTimely Keeps
+  calls_undriven = record {
+    beside = record {
+      none = λ p q is k. subst (λ (x : PolledPeer I D S M N). IsUndriven m x) (sym is) k;
+      inputs = λ input is p r q h k. (inputs_set_none m laws p q input r is k.0 h, inputs_told m p q input r k.1 h);
+      writes = λ stream binary bytes p r q h k. (
+        writes_set_none m laws p q stream binary bytes r k.0 h,
+        writes_told m p q stream binary bytes r k.1 h,
+      );
+      shuts = λ id p r q h k. (channel_closes_set_none m laws p q id r k.0 h, channel_closes_told m p q id r k.1 h);
+    };
+    on = λ p b q h k x. k (h x);
+    polls = λ p answer q h k. (poll_unset m laws p q answer k.0 h, polls_told m p q answer k.1 h);
+  }
+
   -- what leaves the connection, with what it keeps of the rest
-  left : (old new : PolledPeer I D S M N) → new.transport ≡ old.transport → KeepsCore m laws old.core new.core → Keeps m laws old new
+  left : (old new : PolledPeer I D S M N) → new.transport ≡ old.transport → KeepsCore m laws old.core new.core → Keeps old new
   left old new same kept k = (kept.0 k.0, left_told m old new same kept.1 k.1)
 
   -- ---- each step, an arm each
 
   acts_keep : (stun : List ℕ → Bool) (other own : Addr) (step : Step) (old : PolledPeer I D S M N) (sdps : List Kept) (packets : List SentPacket)
       (outcome : Outcome E) (table : Option Table) (new : PolledPeer I D S M N) (sdps' : List Kept) (packets' : List SentPacket) → HasMoment step
-      → Acts m stun other own step old sdps packets outcome table new sdps' packets' → Keeps m laws old new
+      → Acts m stun other own step old sdps packets outcome table new sdps' packets' → Keeps old new
   acts_keep stun other own (Negotiate at ops apply) old sdps packets outcome table new sdps' packets' is h =
       left old new h.1.connection (negotiates_keep m laws at ops apply old.core sdps outcome table new.core sdps' h.0)
   acts_keep stun other own (AcceptOffer at offer) old sdps packets outcome table new sdps' packets' is h =
@@ -59,19 +79,20 @@ module _ {I D S M E X T W N : Type 0} (m : Meanings I D S M E X T W N) (laws : P
   acts_keep stun other own (AcceptAnswer at token answer) old sdps packets outcome table new sdps' packets' is h =
       left old new h.1.connection (answer_keeps m laws token (held_token sdps at token) (kept_remote_sdp false sdps at answer) old.core sdps outcome table new.core sdps' h.0)
   acts_keep stun other own (Time at now) old sdps packets outcome table new sdps' packets' is h =
-      calls_keep m laws (HandlesInput m (given.Timeout now)) (λ p r q x k. (inputs_set_none m laws p q (given.Timeout now) r is k.0 x, inputs_told m p q (given.Timeout now) r k.1 x)) old outcome table new h.0
+      calls_keep m Keeps calls_undriven.beside (HandlesInput m (given.Timeout now))
+      (λ p r q x. calls_undriven.beside.inputs (given.Timeout now) is p r q x) old outcome table new h.0
   acts_keep stun other own (Datagram at packet now) old sdps packets outcome table new sdps' packets' is h =
-      datagram_keeps m laws stun (remote_packet packets at packet) now is old outcome table new h.0
+      datagram_keep m Keeps calls_undriven.beside stun (remote_packet packets at packet) now (λ datagram. is) old outcome table new h.0
   acts_keep stun other own (Poll at) old sdps packets outcome table new sdps' packets' is h =
-      poll_keeps m laws at old packets outcome table new packets' h.0
+      poll_keep m Keeps calls_undriven at old packets outcome table new packets' h.0
   acts_keep stun other own (Drain at) old sdps packets outcome table new sdps' packets' is h =
-      drain_keeps m laws at old packets outcome table new packets' h.0
+      drain_keep m Keeps calls_undriven at old packets outcome table new packets' h.0
   acts_keep stun other own (Write at channel binary bytes) old sdps packets outcome table new sdps' packets' is h =
-      write_keeps m laws (open_stream_under channel old) binary bytes old outcome table new h.0
+      write_keep m Keeps calls_undriven.beside (open_stream_under channel old) binary bytes old outcome table new h.0
   acts_keep stun other own (CloseChannel at channel) old sdps packets outcome table new sdps' packets' is h =
-      close_keeps m laws (open_stream_under channel old) channel old outcome table new h.0
+      close_keep m Keeps calls_undriven.beside (open_stream_under channel old) channel old outcome table new h.0
   acts_keep stun other own (Close at) old sdps packets outcome table new sdps' packets' is h =
-      calls_keep m laws (ClosesPeer m) (λ p r q x k. (closes_set_none m laws p q r k.0 x, closes_told m p q r k.1 x)) old outcome table new h.0
+      calls_keep m Keeps calls_undriven.beside (ClosesPeer m) (λ p r q x k. (closes_set_none m laws p q r k.0 x, closes_told m p q r k.1 x)) old outcome table new h.0
   acts_keep stun other own (Rollback at token) old sdps packets outcome table new sdps' packets' is h =
       left old new h.1.connection (rollback_keeps m laws token (held_token sdps at token) old.core sdps outcome table new.core sdps' h.0)
   acts_keep stun other own (ForeignOffer at text) old sdps packets outcome table new sdps' packets' is h =
@@ -79,8 +100,9 @@ module _ {I D S M E X T W N : Type 0} (m : Meanings I D S M E X T W N) (laws : P
   acts_keep stun other own (ForeignAnswer at token text) old sdps packets outcome table new sdps' packets' is h =
       left old new h.1.connection (answer_keeps m laws token (held_token sdps at token) (foreign text) old.core sdps outcome table new.core sdps' h.0)
   acts_keep stun other own (Raw at bytes now) old sdps packets outcome table new sdps' packets' is h =
-      calls_keep m laws (HandlesRead m (kind_by stun bytes) (raw_datagram other own bytes) now)
-      (λ p r q x. read_keeps m laws (kind_by stun bytes) (raw_datagram other own bytes) now is p r q x) old outcome table new h.0
+      calls_keep m Keeps calls_undriven.beside (HandlesRead m (kind_by stun bytes) (raw_datagram other own bytes) now)
+      (λ p r q x. read_keep m Keeps calls_undriven.beside (kind_by stun bytes) (raw_datagram other own bytes) now (λ datagram. is) p r q x) old outcome table
+      new h.0
 
   both_sides : (acting : Side) (pair : PairState I D S M N) → IsUndriven m (rtc_at acting pair) → IsUndriven m (rtc_at (other_side acting) pair)
       → AreUndriven m pair

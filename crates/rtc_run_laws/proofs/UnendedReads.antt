@@ -77,9 +77,6 @@ module _ {S : Type 0} (m : AssociationMeaning S) where
     again_nothing : Nothing ≡ Again → ⊥
     again_nothing h = cc
 
-    memory_nothing : Nothing ≡ OutOfMemory → ⊥
-    memory_nothing h = cc
-
     packet_quiet : (a : S) (met : Met) (b : S) → TakesPacket m a met b → is_data_met met ≡ false
     packet_quiet a Nothing b h = refl
     packet_quiet a (Output (event.Transmit packets)) b h = refl

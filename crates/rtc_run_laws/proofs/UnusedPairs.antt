@@ -17,6 +17,7 @@ use Rattle.rtc_run_laws.proofs.UnusedStreams.{IsUnused}
 use Rattle.rtc_run_laws.specs.NewPairs.{IsNewPair, IsNewPeer}
 use Rattle.rtc_run_laws.specs.PlainPairs.{PlainPair, PlainPolled, plain_over}
 use Rattle.rtc_run_laws.proofs.StepsExchange.{plain_over_laws}
+use Rattle.rtc_run_laws.proofs.NewPeers.{new_entries}
 
 module _ {N : Type 0} (draws : Draws N) where
   new_streams : (p : PlainPolled N) (h : IsNewPeer draws p.core) → p.core.sctp ≡ h.built.sctp
@@ -30,9 +31,7 @@ module _ {N : Type 0} (draws : Draws N) where
 
   new_empty : (p : PlainPolled N) → IsNewPeer draws p.core → IsUnused (plain_over draws) (plain_over_laws draws) p.core
   new_empty p h = record {
-    empty = λ unstarted.
-        ap (λ (x : SctpStreams Contents). x.entries) (new_streams p h)
-        ∙ ap (λ (x : SctpStreams Contents). x.entries) h.by_build.streams;
+    empty = λ unstarted. new_entries draws p h;
     role = λ started. absurd (true≢false (sym started ∙ new_unstarted p h));
   }
 
