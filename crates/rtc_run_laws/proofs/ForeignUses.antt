@@ -19,28 +19,24 @@ use Rattle.rtc_peer_laws.proofs.ChannelsOver.{over_rows}
 use Rattle.rtc_sctp_laws.specs.StreamMessages.{StreamMessage}
 use Rattle.rtc_run_history.specs.declared.kept.Kept.{Kept}
 use Rattle.rtc_run_history.specs.declared.outcome.Outcome.{Outcome}
-use Rattle.rtc_run_history.specs.declared.outcome.Outcome.TheVariants.{Done, Refused, NoSuch, Alloc, Polled, Wrote}
-use Rattle.rtc_run_history.specs.declared.poll_end.PollEnd.{PollEnd}
+use Rattle.rtc_run_history.specs.declared.outcome.Outcome.TheVariants.{Done, Refused, NoSuch, Alloc, Wrote}
 use Rattle.rtc_run_history.specs.declared.sent_packet.SentPacket.{SentPacket}
-use Rattle.rtc_run_history.specs.declared.shown.Shown.{Shown}
-use Rattle.rtc_run_history.specs.declared.shown.Shown.TheVariants as shows
-use Rattle.rtc_run_history.specs.declared.side.Side.{Side}
 use Rattle.rtc_run_history.specs.declared.step.Step.{Step}
 use Rattle.rtc_run_history.specs.declared.step.Step.TheVariants.{Poll, Drain}
 use Rattle.rtc_run_history.specs.declared.step.Step.TheVariants.{Write, Rollback}
 use Rattle.rtc_run_history.specs.declared.table.Table.{Table}
 use Rattle.rtc_run_history.specs.PairState.{held_token}
-use Rattle.rtc_run_history.specs.Performs.{Acts, DrainsOn, DrainsPeer, StepPollsPeer, StepRollsBack, lent}
+use Rattle.rtc_run_history.specs.Performs.{Acts, StepRollsBack, lent}
 use Rattle.rtc_run_history.specs.Sides.{side_of}
-use Rattle.rtc_run_laws.specs.ChannelUses.{ChannelUse, announced_use, loses_channel, uses_shown, uses_told, with_rolled_back}
+use Rattle.rtc_run_laws.specs.ChannelUses.{ChannelUse, announced_use, loses_channel, uses_told, with_rolled_back}
 use Rattle.rtc_run_laws.specs.OwnOpenings.{IsOfSide}
-use Rattle.rtc_run_laws.specs.PollsOfRuns.{by_drain, by_drain_step, by_poll, by_poll_step, by_polls}
 use Rattle.rtc_run_laws.specs.UsesOfRuns.{uses_acted, uses_written}
 use Rattle.rtc_run_laws.proofs.NumberedTokens.{AreChannelsSo, AreKeptSo, AreNumbersSo, IsTokenSo, held_so, new_so}
 use Rattle.rtc_run_laws.proofs.OwnNegotiation.{IsOwn}
 use Rattle.rtc_run_laws.proofs.OwnNumbers.{AreOwnOf}
 use Rattle.rtc_run_laws.proofs.RolledUses.{none_has}
 use Rattle.rtc_run_laws.proofs.UseLists.{AllUses, all_got, all_kept, all_more, all_sent}
+use Rattle.rtc_run_laws.proofs.UseWalks.{drain_step_on, poll_step_on}
 use Rattle.rtc_run_laws.proofs.UsesTold.{HasGone, InBandTold, IsOver, Lives, StandsSo, UseTold}
 
 some_is : (a b : ℕ) → Some a ≡ Some b → a ≡ b
@@ -162,47 +158,6 @@ module _ {I D S M E X T W N : Type 0} (m : Meanings I D S M E X T W N) where
         all_got (IsKeptUse f) (IsKeptUse f) message.id (message.binary, message.bytes) uses (λ x e k. k) (λ x e k. k) h
     told_kept event q uses h = h
 
-    shown_kept : (shown : Shown E) (q : PolledPeer I D S M N) (uses : List ChannelUse) → AllUses (IsKeptUse f) uses
-        → AllUses (IsKeptUse f) (uses_shown m shown q uses)
-    shown_kept (shows.Event event) q uses h = told_kept event q uses h
-    shown_kept (shows.Timeout moment reason) q uses h = h
-    shown_kept (shows.Packet number len) q uses h = h
-
-    poll_kept : (outputs : List (Shown E)) (q : PolledPeer I D S M N) (uses : List ChannelUse) → AllUses (IsKeptUse f) uses
-        → AllUses (IsKeptUse f) (by_poll m (uses_shown m) outputs q uses)
-    poll_kept [] q uses h = h
-    poll_kept (shown ∷ []) q uses h = shown_kept shown q uses h
-    poll_kept (shown ∷ next ∷ outputs) q uses h = h
-
-    polls_kept : (at : Side) (p : PolledPeer I D S M N) (packets : List SentPacket) (outputs : List (Shown E)) (end : PollEnd) (q : PolledPeer I D S M N)
-        (packets' : List SentPacket) (d : DrainsOn m at p packets outputs end q packets') (uses : List ChannelUse) → AllUses (IsKeptUse f) uses
-        → AllUses (IsKeptUse f) (by_polls m (uses_shown m) at p packets outputs end q packets' d uses)
-    polls_kept at p packets [] end q packets' d uses h = h
-    polls_kept at p packets (shows.Timeout moment reason ∷ outputs) end q packets' d uses h = h
-    polls_kept at p packets (shows.Packet number len ∷ outputs) end q packets' d uses h =
-        polls_kept at d.0 d.1 outputs end q packets' d.3 uses h
-    polls_kept at p packets (shows.Event event ∷ outputs) end q packets' d uses h =
-        polls_kept at d.0 d.1 outputs end q packets' d.3 (uses_told m event d.0 uses) (told_kept event d.0 uses h)
-
-    drain_kept : (at : Side) (p : PolledPeer I D S M N) (packets : List SentPacket) (outputs : List (Shown E)) (end : PollEnd) (q : PolledPeer I D S M N)
-        (packets' : List SentPacket) (d : DrainsPeer m at p packets outputs end q packets') (uses : List ChannelUse) → AllUses (IsKeptUse f) uses
-        → AllUses (IsKeptUse f) (by_drain m (uses_shown m) at p packets outputs end q packets' d uses)
-    drain_kept at p packets [] end q packets' d uses h = h
-    drain_kept at p packets (shown ∷ outputs) end q packets' d uses h = polls_kept at p packets (shown ∷ outputs) end q packets' d uses h
-
-    poll_step_kept : (outcome : Outcome E) (q : PolledPeer I D S M N) (uses : List ChannelUse) → AllUses (IsKeptUse f) uses
-        → AllUses (IsKeptUse f) (by_poll_step m (uses_shown m) outcome q uses)
-    poll_step_kept (Polled outputs end) q uses h = poll_kept outputs q uses h
-    poll_step_kept outcome q uses h = h
-
-    drain_step_kept : (at : Side) (old : PolledPeer I D S M N) (packets : List SentPacket) (outcome : Outcome E) (table : Option Table)
-        (new : PolledPeer I D S M N) (packets' : List SentPacket) (d : StepPollsPeer m (DrainsPeer m at old) old packets outcome table new packets')
-        (uses : List ChannelUse) → AllUses (IsKeptUse f) uses
-        → AllUses (IsKeptUse f) (by_drain_step m (uses_shown m) at old packets outcome table new packets' d uses)
-    drain_step_kept at old packets (Polled outputs end) (Some table) new packets' d uses h =
-        drain_kept at old packets outputs end new packets' d.0 uses h
-    drain_step_kept at old packets outcome table new packets' d uses h = h
-
     written_kept : (channel : ℕ) (binary : Bool) (bytes : List ℕ) (outcome : Outcome E) (uses : List ChannelUse) → AllUses (IsKeptUse f) uses
         → AllUses (IsKeptUse f) (uses_written channel binary bytes outcome uses)
     written_kept channel binary bytes (Wrote true) uses h =
@@ -239,9 +194,10 @@ module _ {I D S M E X T W N : Type 0} (m : Meanings I D S M E X T W N) where
         (both_parts (has_channel x.channel old.core.channels.rows) (not (has_channel x.channel new.core.channels.rows)) lost).0)
         none)
         k
-    acts_kept stun other own (Poll at) old sdps packets outcome table new sdps' packets' h P so uses none k = poll_step_kept outcome new uses k
+    acts_kept stun other own (Poll at) old sdps packets outcome table new sdps' packets' h P so uses none k =
+        poll_step_on m (AllUses (IsKeptUse f)) told_kept outcome new uses k
     acts_kept stun other own (Drain at) old sdps packets outcome table new sdps' packets' h P so uses none k =
-        drain_step_kept at old packets outcome table new packets' h.0 uses k
+        drain_step_on m (AllUses (IsKeptUse f)) told_kept at old packets outcome table new packets' h.0 uses k
     acts_kept stun other own step old sdps packets outcome table new sdps' packets' h P so uses none k = k
 
   -- a channel over a stream of the other side has no number of this one

@@ -14,6 +14,7 @@ use Rattle.rtc_run_laws.specs.PlainPairs.{PlainPair, plain_over}
 use Rattle.rtc_run_laws.specs.SentMessages.{sent_over}
 use Rattle.rtc_run_laws.specs.ToldMessages.{told_over}
 use Rattle.rtc_run_laws.specs.UsesOfRuns.{reached_by, uses_in_run}
+use Rattle.rtc_run_laws.proofs.KeptInBand.{run_all_got, run_prefixes}
 use Rattle.rtc_run_laws.proofs.RestedRuns.{run_delivered, run_delivered_over, run_drained}
 use Rattle.rtc_run_laws.proofs.RunsTold.{PairTold, new_pair_told, pair_first, pair_handed, pair_handed_over, pair_once, pair_only, pair_told_whole, pair_whole, pair_wholly, reached_told}
 use Rattle.rtc_run_laws.proofs.SilentRuns.{run_got, run_told, run_told_sent}
@@ -47,6 +48,10 @@ module _ {N : Type 0} (draws : Draws N) where
         drained = λ at. run_drained draws stun start new run.past pair go ran at;
         delivered = λ at. run_delivered draws stun start new run.past pair go ran at;
         delivered_over = λ at. run_delivered_over draws stun start new run.past pair go ran at;
+        prefixes = λ none banded numbers at.
+            run_prefixes draws stun start new run.past pair go ran none (subst (λ (l : List Step). AreInBandSteps l) (sym run.steps_are) banded) numbers at;
+        all_got = λ none banded numbers at.
+            run_all_got draws stun start new run.past pair go ran none (subst (λ (l : List Step). AreInBandSteps l) (sym run.steps_are) banded) numbers at;
         unsent = λ at. run_told_sent draws stun start new run.past pair go ran at;
         unannounced = λ none banded numbers at.
             run_told draws stun start new run.past pair go ran none (subst (λ (l : List Step). AreInBandSteps l) (sym run.steps_are) banded) numbers at;

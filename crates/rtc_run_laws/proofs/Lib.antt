@@ -217,11 +217,19 @@ mod FreshOpenings
 mod PolledUses
 mod RowedStreams
 mod OpeningFacts
-mod OtherPolls
 mod OwnerPolls
 mod OtherSteps
 mod OwnerSteps
+mod UseWalks
+mod UsesBack
+mod ClosedUses
+mod RolesApart
+mod NoneAnnounced
+mod OwnerSides
+mod OwnerActs
 mod OwnerRuns
+mod ForeignClosed
+mod KeptInBand
 mod OwnerSettled
 pub mod OwnNumbers
 pub mod OwnSides

@@ -1,13 +1,13 @@
 -- In a settled pair no channel that was announced over a stream, in the generation that it has, was rolled back, where no step settled one by other means
 -- than messages.
-use Rattle.std.proofs.Common.{◌≡◌, ◌∙◌, ◌⊎◌, inl, inr, ◌%◌, ◌≤◌, ◌<◌, ◌-◌, ◌^◌, ◌||◌, ◌==◌, ◌∷◌, ℕ, Bool, true, false, true≢false, List, [], Option, Some, None, refl, sym, ap, subst, arith}
-use Rattle.std.proofs.lemmas.Bool.{eqb-true, eqb-false}
+use Rattle.std.proofs.Common.{◌≡◌, ◌∙◌, ◌⊎◌, inl, inr, ◌||◌, ◌∷◌, ℕ, Bool, true, false, true≢false, List, [], Option, Some, None, refl, sym, ap, subst, arith}
+use Rattle.std.proofs.lemmas.Bool.{eqb-true}
 use Rattle.rtc_parts.specs.Draws.{Draws}
 use Rattle.rtc_plain_dtls.specs.Contents.{DtlsContents}
 use Rattle.rtc_plain_ice.specs.Contents.{IceContents}
 use Rattle.rtc_plain_media.specs.MediaContents.{MediaContents}
 use Rattle.rtc_plain_media.specs.declared.plain_media_event.PlainMediaEvent.{PlainMediaEvent}
-use Rattle.rtc_assoc_state.specs.Contents.{Contents, closed_here, generation_of, is_ending}
+use Rattle.rtc_assoc_state.specs.Contents.{Contents, generation_of, is_ending}
 use Rattle.rtc_assoc_state.specs.PlainMeaning.{plain_meaning}
 use Rattle.rtc_channels.specs.Ids.{parity_of}
 use Rattle.rtc_sctp.specs.Streams.{SctpStreams}
@@ -44,15 +44,17 @@ use Rattle.rtc_run_laws.proofs.FreshOpenings.{has_entry}
 use Rattle.rtc_run_laws.proofs.HeardOpenings.{EntryAmong, entry_among}
 use Rattle.rtc_run_laws.proofs.OpenSides.{not_closed}
 use Rattle.rtc_run_laws.proofs.OwnSides.{settled_own}
-use Rattle.rtc_run_laws.proofs.OwnerRuns.{HeldAt, SafeAt, run_held}
-use Rattle.rtc_run_laws.proofs.RoleSides.{settled_sides}
+use Rattle.rtc_run_laws.proofs.OwnerRuns.{run_held}
+use Rattle.rtc_run_laws.proofs.OwnerSides.{HeldAt, SafeAt}
+use Rattle.rtc_run_laws.proofs.RoleSides.{role_at, settled_sides}
+use Rattle.rtc_run_laws.proofs.RolesApart.{HasAtMost}
 use Rattle.rtc_run_laws.proofs.RowedStreams.{NotFull, Rowed, reads_written, use_read}
 use Rattle.rtc_run_laws.proofs.RunsTold.{StoodIn, new_pair_told, reached_told, stood_in}
 use Rattle.rtc_run_laws.proofs.SettledRuns.{heard, settled_level}
 use Rattle.rtc_run_laws.proofs.UseLists.{all_member}
 use Rattle.rtc_run_laws.proofs.UsesTold.{UsedUnlessClosed}
 
-one_side : (a b : Bool) → parity_of a ≡ parity_of b → a ≡ b
+pub one_side : (a b : Bool) → parity_of a ≡ parity_of b → a ≡ b
 one_side true true h = refl
 one_side true false h = absurd (omega (arith, h))
 one_side false true h = absurd (omega (arith, h))
@@ -71,7 +73,7 @@ module _ {N : Type 0} (draws : Draws N) (s : ℕ) where
       entries : p.core.sctp.entries ≡ []
       entries = ap (λ (x : SctpStreams Contents). x.entries) sctp ∙ ap (λ (x : SctpStreams Contents). x.entries) h.by_build.streams
 
-  first_rowed : (pair : PlainPair N) → IsNewPair draws pair → (at : Side) → Rowed draws s (rtc_at at pair)
+  pub first_rowed : (pair : PlainPair N) → IsNewPair draws pair → (at : Side) → Rowed draws s (rtc_at at pair)
   first_rowed pair h Left = new_rowed pair.left h.left
   first_rowed pair h Right = new_rowed pair.right h.right
 
@@ -200,10 +202,8 @@ module _ {N : Type 0} (draws : Draws N) (stun : List ℕ → Bool) (start : Plai
   owner_none at s own = λ x mine of generation.
       by
       (run_held draws stun start new none s (generation_of (rtc_at at pair).core.sctp.association s) at (rtc_at at pair).core.sctp.client
-      (rtc_at (other_side at) pair).core.sctp.client foreign past pair go ran steps
-      (record { lives = λ closed. not_closed draws (rtc_at at pair) (settled.peers at).alive closed; side = λ e. refl })
-      (record { lives = λ closed. not_closed draws (rtc_at (other_side at) pair) (settled.peers (other_side at)).alive closed; side = λ e. refl })
-      (free_at s at) (free_at s (other_side at)) (first_rowed draws s start new (other_side at))).0
+      (rtc_at (other_side at) pair).core.sctp.client foreign past pair go ran steps (role at) (role (other_side at)) (λ y. free_at s y)
+      (first_rowed draws s start new (other_side at))).0
       x mine of generation
     where
       foreign : IsOfSide (rtc_at (other_side at) pair).core.sctp.client s → ⊥
@@ -211,18 +211,25 @@ module _ {N : Type 0} (draws : Draws N) (stun : List ℕ → Bool) (start : Plai
           settled_sides draws stun start past pair go ran new settled at
           (one_side (rtc_at (other_side at) pair).core.sctp.client (rtc_at at pair).core.sctp.client (sym theirs ∙ own))
 
+      some_is : (a b : Bool) → Some a ≡ Some b → a ≡ b
+      some_is a b e = cc
+
+      role : (x : Side) → HasAtMost (rtc_at x pair).core.sctp.client (rtc_at x pair)
+      role x = λ k is. some_is k (rtc_at x pair).core.sctp.client (sym is ∙ role_at draws stun start past pair go ran new x (settled.peers x))
+
       back : (x : Side) → HasUseOver s (Some (generation_of (rtc_at x pair).core.sctp.association s)) (uses x)
           → HasUseOver s (Some (generation_of (rtc_at x pair).core.sctp.association s)) (uses (other_side (other_side x)))
       back Left k = k
       back Right k = k
 
-      by : HeldAt draws stun start new none s (generation_of (rtc_at at pair).core.sctp.association s) at pair.sdps (rtc_at at pair) (uses at)
-          (uses (other_side at)) → NoneRolledBack s (uses at) (rtc_at at pair)
+      by : HeldAt s (generation_of (rtc_at at pair).core.sctp.association s) at pair.sdps (rtc_at at pair) (uses at) (uses (other_side at))
+          (sent_over (plain_over draws) stun start at past pair ran s (generation_of (rtc_at at pair).core.sctp.association s))
+          → NoneRolledBack s (uses at) (rtc_at at pair)
       by (inl safe) = λ x mine of generation.
-          (all_member
-          (SafeAt draws stun start new none s (generation_of (rtc_at at pair).core.sctp.association s) at pair.sdps (rtc_at at pair)) (uses at) x safe mine
+          (all_member (SafeAt s (generation_of (rtc_at at pair).core.sctp.association s) at pair.sdps (rtc_at at pair)) (uses at) x safe.1 mine
           (all_member IsInBandUse (uses at) x (run_in_band draws stun start new none past pair go ran steps at) mine) of generation).0
-      by (inr bad) =
+      by (inr (inl over)) = absurd (not_closed draws (rtc_at at pair) (settled.peers at).alive over.0)
+      by (inr (inr bad)) =
           absurd
           (bad.1
           (announced_too at s (generation_of (rtc_at at pair).core.sctp.association s)

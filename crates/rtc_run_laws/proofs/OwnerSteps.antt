@@ -1,11 +1,10 @@
--- Steps of the side of a stream keep it that no channel is rolled back which it announced, or that it alone announced one over a generation; and so do the
--- steps of the other side.
-use Rattle.std.proofs.Common.{◌≡◌, ◌∙◌, ◌⊎◌, inl, inr, ◌<◌, ◌++◌, ◌∷◌, ◌==◌, if◌then◌else◌, not, ◌&&◌, ℕ, Bool, true, false, true≢false, List, [], Option, Some, refl, sym, ap, subst, arith}
+-- Steps of the side of a stream keep it that no channel is rolled back which it announced, or that it alone announced one over a generation.
+use Rattle.std.proofs.Common.{◌≡◌, ◌∙◌, ◌⊎◌, inl, inr, ◌<◌, ◌++◌, ◌∷◌, not, ◌&&◌, ℕ, Bool, true, false, true≢false, List, [], Option, Some, refl, sym, ap, subst, arith}
 use Rattle.rtc_wire.specs.declared.addr.Addr.{Addr}
 use Rattle.rtc_parts.specs.Draws.{Draws}
 use Rattle.rtc_plain_media.specs.declared.plain_media_event.PlainMediaEvent.{PlainMediaEvent}
 use Rattle.rtc_assoc_state.specs.PlainMeaning.{plain_meaning}
-use Rattle.rtc_channels.specs.Channels.{AreBelow, Channel, Channels, has_channel}
+use Rattle.rtc_channels.specs.Channels.{AreBelow, Channels, has_channel}
 use Rattle.rtc_peer_core.specs.declared.phase.Phase.TheVariants.{Closed}
 use Rattle.rtc_peer_laws.specs.PeerActs.{PeerActs}
 use Rattle.rtc_peer_laws.specs.RowsChanged.{RowsChanged}
@@ -21,21 +20,20 @@ use Rattle.rtc_run_history.specs.Native.{is_native}
 use Rattle.rtc_run_history.specs.PairState.{held_token}
 use Rattle.rtc_run_history.specs.Performs.{Acts}
 use Rattle.rtc_run_history.specs.Sides.{same_side, side_of}
-use Rattle.rtc_run_laws.specs.ChannelUses.{ChannelUse, loses_channel, with_rolled_back, with_sent_message}
+use Rattle.rtc_run_laws.specs.ChannelUses.{ChannelUse, loses_channel}
 use Rattle.rtc_run_laws.specs.InBandSteps.{IsInBandStep}
-use Rattle.rtc_run_laws.specs.OwnOpenings.{IsOfSide}
 use Rattle.rtc_run_laws.specs.PlainPairs.{PlainPolled, plain_over}
 use Rattle.rtc_run_laws.specs.ToldMessages.{MessagesTold}
 use Rattle.rtc_run_laws.specs.UsesOfRuns.{uses_acted, uses_written}
-use Rattle.rtc_run_laws.proofs.AnnouncedStreams.{HasUseOver, IsUseOver, over_rolled, over_sent}
+use Rattle.rtc_run_laws.proofs.AnnouncedStreams.{HasUseOver, over_rolled}
+use Rattle.rtc_run_laws.proofs.ClosedUses.{written_over}
 use Rattle.rtc_run_laws.proofs.ForeignUses.{lost_so, rollback_cancels}
 use Rattle.rtc_run_laws.proofs.NumberedTokens.{AreKeptSo, held_so, kept_map}
 use Rattle.rtc_run_laws.proofs.OwnNegotiation.{IsOwn}
 use Rattle.rtc_run_laws.proofs.OwnTokens.{acts_tokens}
-use Rattle.rtc_run_laws.proofs.OtherPolls.{other_polled}
 use Rattle.rtc_run_laws.proofs.OwnerPolls.{IsSafe, OwnerKeeps, owner_polled}
 use Rattle.rtc_run_laws.proofs.PolledUses.{IsGood, Lives, drain_step_go, poll_step_go}
-use Rattle.rtc_run_laws.proofs.RowedStreams.{NotFull, Rowed}
+use Rattle.rtc_run_laws.proofs.RowedStreams.{NotFull}
 use Rattle.rtc_run_laws.proofs.StandingSides.{Sent, SideStood, Stood}
 use Rattle.rtc_run_laws.proofs.StepRows.{RowsCancelled, StepChanges, changes_given, rollback_rows}
 use Rattle.rtc_run_laws.proofs.StepsExchange.{plain_over_laws}
@@ -50,36 +48,6 @@ not_true : (b : Bool) → not b ≡ true → b ≡ false
 not_true true h = absurd (true≢false (sym h))
 not_true false h = refl
 
-over_sent_back : (s : ℕ) (own : Option ℕ) (c : ℕ) (message : Bool × List ℕ) (uses : List ChannelUse) → HasUseOver s own (with_sent_message c message uses)
-    → HasUseOver s own uses
-over_sent_back s own c message [] h = h
-over_sent_back s own c message (x ∷ uses) (inr h) = inr (over_sent_back s own c message uses h)
-over_sent_back s own c message (x ∷ uses) (inl h) = inl (by (x.channel == c) h)
-  where
-    by : (b : Bool) → IsUseOver s own (if b then record x { sent = x.sent ++ message ∷ [] } else x) → IsUseOver s own x
-    by true k = k
-    by false k = k
-
-over_rolled_back : (s : ℕ) (own : Option ℕ) (before after : List Channel) (uses : List ChannelUse) → HasUseOver s own (with_rolled_back before after uses)
-    → HasUseOver s own uses
-over_rolled_back s own before after [] h = h
-over_rolled_back s own before after (x ∷ uses) (inr h) = inr (over_rolled_back s own before after uses h)
-over_rolled_back s own before after (x ∷ uses) (inl h) = inl (by (loses_channel x.channel before after) h)
-  where
-    by : (b : Bool) → IsUseOver s own (if b then record x { rolled_back = true } else x) → IsUseOver s own x
-    by true k = k
-    by false k = k
-
-written_back : (s : ℕ) (own : Option ℕ) (channel : ℕ) (binary : Bool) (bytes : List ℕ) (outcome : Outcome PlainMediaEvent) (uses : List ChannelUse)
-    → HasUseOver s own (uses_written channel binary bytes outcome uses) → HasUseOver s own uses
-written_back s own channel binary bytes (Wrote true) uses h = over_sent_back s own channel (binary, bytes) uses h
-written_back s own channel binary bytes outcome uses h = h
-
-written_over : (s : ℕ) (own : Option ℕ) (channel : ℕ) (binary : Bool) (bytes : List ℕ) (outcome : Outcome PlainMediaEvent) (uses : List ChannelUse)
-    → HasUseOver s own uses → HasUseOver s own (uses_written channel binary bytes outcome uses)
-written_over s own channel binary bytes (Wrote true) uses h = over_sent s own channel (binary, bytes) uses h
-written_over s own channel binary bytes outcome uses h = h
-
 written_all : (P Q : ChannelUse → Type 0) (channel : ℕ) (binary : Bool) (bytes : List ℕ) (outcome : Outcome PlainMediaEvent) (uses : List ChannelUse)
     → ((x : ChannelUse) → P x → Q x) → ((x : ChannelUse) → Q x → Q (record x { sent = x.sent ++ (binary, bytes) ∷ [] })) → AllUses P uses
     → AllUses Q (uses_written channel binary bytes outcome uses)
@@ -88,34 +56,6 @@ written_all P Q channel binary bytes (Wrote true) uses f k h =
 written_all P Q channel binary bytes outcome uses f k h = all_kept P Q uses f h
 
 module _ {N : Type 0} (draws : Draws N) (s g : ℕ) (b : PeerActs) (other : PlainPolled N) (sent : Sent) (c : Bool) where
-  -- ---- the other side acts
-
-  pub none_acted : (foreign : IsOfSide c s → ⊥) (vs : List ChannelUse) (bad : HasUseOver s (Some g) vs) (rest : SideStood draws b vs other)
-      (stun : List ℕ → Bool) (far own : Addr) (step : Step) (old : PlainPolled N) (sdps : List Kept) (packets : List SentPacket)
-      (outcome : Outcome PlainMediaEvent) (table : Option Table) (new : PlainPolled N) (sdps' : List Kept) (packets' : List SentPacket)
-      (h : Acts (plain_over draws) stun far own step old sdps packets outcome table new sdps' packets')
-      → Lives draws (side_of step) b other sent c new → IsGood draws (side_of step) b other sent c old → (uses : List ChannelUse) (told : MessagesTold)
-      → Stood draws (side_of step) packets b other uses sent told old → NotFull draws s new → Rowed draws s old → (HasUseOver s (Some g) uses → ⊥)
-      → HasUseOver s (Some g) (uses_acted (plain_over draws) stun far own step old sdps packets outcome table new sdps' packets' h uses) → ⊥
-  none_acted foreign vs bad rest stun far own (Write at channel binary bytes) old sdps packets outcome table new sdps' packets' h lives good uses told stood free rowed none over =
-      none (written_back s (Some g) channel binary bytes outcome uses over)
-  none_acted foreign vs bad rest stun far own (Rollback at token) old sdps packets outcome table new sdps' packets' h lives good uses told stood free rowed none over =
-      none (over_rolled_back s (Some g) old.core.channels.rows new.core.channels.rows uses over)
-  none_acted foreign vs bad rest stun far own (Poll at) old sdps packets outcome table new sdps' packets' h lives good uses told stood free rowed none over =
-      (poll_step_go draws at b other sent c (λ p l. NotFull draws s p → Rowed draws s p × (HasUseOver s (Some g) l → ⊥))
-      (other_polled draws s g at b other sent c foreign vs bad rest) old packets outcome table new packets' uses told h.0 lives good stood
-      (λ f. (rowed, none)) free).1
-      over
-  none_acted foreign vs bad rest stun far own (Drain at) old sdps packets outcome table new sdps' packets' h lives good uses told stood free rowed none over =
-      (drain_step_go draws at b other sent c (λ p l. NotFull draws s p → Rowed draws s p × (HasUseOver s (Some g) l → ⊥))
-      (other_polled draws s g at b other sent c foreign vs bad rest) old packets outcome table new packets' uses told h.0 lives good stood
-      (λ f. (rowed, none)) free).1
-      over
-  none_acted foreign vs bad rest stun far own step old sdps packets outcome table new sdps' packets' h lives good uses told stood free rowed none over =
-      none over
-
-  -- ---- the side of the stream acts
-
   abbrev pub Held : (at : Side) (sdps : List Kept) (p : PlainPolled N) (uses vs : List ChannelUse) → Type 0
   Held at sdps p uses vs =
       AllUses (IsSafe draws s g at b other sent c sdps p) uses ⊎ (HasUseOver s (Some g) uses × (HasUseOver s (Some g) vs → ⊥))

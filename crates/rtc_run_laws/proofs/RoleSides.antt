@@ -114,7 +114,7 @@ module _ {N : Type 0} (draws : Draws N) (stun : List ℕ → Bool) (start : Plai
       by (inl closed) = absurd (not_closed draws (rtc_at at pair) settled.alive closed)
       by (inr known) = known
 
-  role_at : (at : Side) → IsSettledPeer (rtc_at at pair) → (rtc_at at pair).core.dtls.active ≡ Some (rtc_at at pair).core.sctp.client
+  pub role_at : (at : Side) → IsSettledPeer (rtc_at at pair) → (rtc_at at pair).core.dtls.active ≡ Some (rtc_at at pair).core.sctp.client
   role_at at settled =
       run_role (plain_over draws) (plain_over_laws draws) stun start past pair go ran (new_unused draws start new) new_role at
       (λ closed. not_closed draws (rtc_at at pair) settled.alive closed)

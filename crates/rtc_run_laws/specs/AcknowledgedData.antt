@@ -16,10 +16,14 @@ use Rattle.rtc_run_history.specs.declared.side.Side.{Side}
 use Rattle.rtc_run_history.specs.declared.step.Step.{Step}
 use Rattle.rtc_run_history.specs.PairState.{rtc_at}
 use Rattle.rtc_run_history.specs.Runs.{Runs}
+use Rattle.rtc_run_history.specs.Sides.{other_side}
 use Rattle.rtc_run_laws.specs.ChannelUses.{ChannelUse}
 use Rattle.rtc_run_laws.specs.Delivered.{AreDelivering, AreDeliveringKept}
+use Rattle.rtc_run_laws.specs.InBandSteps.{AreInBandSteps}
 use Rattle.rtc_run_laws.specs.PlainPairs.{PlainPair, PlainPolled, plain_over}
+use Rattle.rtc_run_laws.specs.SideDrains.{IsSideDrained}
 use Rattle.rtc_run_laws.specs.SentMessages.{sent_over}
+use Rattle.rtc_run_laws.specs.Unannounced.{HaveNumbersLeft}
 use Rattle.rtc_run_laws.specs.UsesOfRuns.{reached_by, uses_in_run}
 
 -- whether a message of an identifier carries data of a user (RFC 8831, section 6.6)
@@ -57,9 +61,8 @@ AreAcknowledged draws uses sent p =
     → bytes_buffered (plain_over draws) s p ≡ 0
     → has_unacknowledged_data s x.generation p.core.sctp.association.outbox.items ≡ false
 
--- If both sides announced a channel over the same generation and neither closed it, the reader's channel is open and was drained, that of
--- the writer was not rolled back, and the last message that was sent over it is not empty, then a buffered amount of 0 says that the reader
--- got all that was sent over it.
+-- Let both sides announce a channel over one generation that neither closed. Let the reader's channel be open and drained, and the writer's
+-- not be rolled back. If the last message that was sent over it is not empty, a buffered amount of 0 says that the reader got all of them.
 abbrev pub AreDeliveredByAmount : {N : Type 0} → Draws N → (drained : Type 0) → (readers : List ChannelUse) → PlainPolled N
     → (writers : List ChannelUse) → PlainPolled N → Type 0
 AreDeliveredByAmount draws drained readers p writers q =
@@ -85,11 +88,41 @@ AreDeliveredOverByAmount draws drained readers p writers q sent =
     → bytes_buffered (plain_over draws) h.writer.stream q ≡ 0
     → x.got ≡ sent h.reader.stream x.generation
 
--- A side's own data is acknowledged so at both sides behind a run by these steps with these replies.
-abbrev pub AcknowledgesData : {N : Type 0} (draws : Draws N) (stun : List ℕ → Bool) (start : PlainPair N) (steps : List Step)
-    (replies : List (Reply PlainMediaEvent)) (pair : PlainPair N) → Runs (plain_over draws) stun start steps replies pair → Type 0
-AcknowledgesData draws stun start steps replies pair run =
-    (at : Side)
-    → AreAcknowledged draws (uses_in_run (plain_over draws) stun start steps replies pair run at)
-    (sent_over (plain_over draws) stun start at run.past pair (reached_by (plain_over draws) stun start run.past pair run.went))
-    (rtc_at at pair)
+-- The same of what was sent over the channel of the writer.
+abbrev pub AreAllByAmount : {N : Type 0} → Draws N → (drained : Type 0) → (readers : List ChannelUse) → PlainPolled N
+    → (writers : List ChannelUse) → PlainPolled N → Type 0
+AreAllByAmount draws drained readers p writers q =
+    (x y : ChannelUse)
+    → Member x readers
+    → Member y writers
+    → drained
+    → (h : AreDelivering x p y q)
+    → ends_with_bytes y.sent ≡ true
+    → bytes_buffered (plain_over draws) h.writer.stream q ≡ 0
+    → x.got ≡ y.sent
+
+-- What a buffered amount of 0 says at both sides behind a run by these steps with these replies: that the side's own data is acknowledged,
+-- and that the other side got all of it. The last asks that no step added a channel that is negotiated out-of-band, that the pair kept no
+-- session description before, and that channel numbers are left.
+pub record AcknowledgesData {N : Type 0} (draws : Draws N) (stun : List ℕ → Bool) (start : PlainPair N) (steps : List Step)
+    (replies : List (Reply PlainMediaEvent)) (pair : PlainPair N) (run : Runs (plain_over draws) stun start steps replies pair)
+    : Type 0 where
+  pub acknowledged : (at : Side)
+      → AreAcknowledged draws (uses_in_run (plain_over draws) stun start steps replies pair run at)
+      (sent_over (plain_over draws) stun start at run.past pair (reached_by (plain_over draws) stun start run.past pair run.went))
+      (rtc_at at pair)
+  pub delivered : (at : Side)
+      → AreDeliveredByAmount draws (IsSideDrained at run.past)
+      (uses_in_run (plain_over draws) stun start steps replies pair run at) (rtc_at at pair)
+      (uses_in_run (plain_over draws) stun start steps replies pair run (other_side at)) (rtc_at (other_side at) pair)
+  pub delivered_over : (at : Side)
+      → AreDeliveredOverByAmount draws (IsSideDrained at run.past)
+      (uses_in_run (plain_over draws) stun start steps replies pair run at) (rtc_at at pair)
+      (uses_in_run (plain_over draws) stun start steps replies pair run (other_side at)) (rtc_at (other_side at) pair)
+      (sent_over (plain_over draws) stun start (other_side at) run.past pair
+      (reached_by (plain_over draws) stun start run.past pair run.went))
+  pub all_got : start.sdps ≡ [] → AreInBandSteps steps
+      → HaveNumbersLeft pair → (at : Side)
+      → AreAllByAmount draws (IsSideDrained at run.past)
+      (uses_in_run (plain_over draws) stun start steps replies pair run at) (rtc_at at pair)
+      (uses_in_run (plain_over draws) stun start steps replies pair run (other_side at)) (rtc_at (other_side at) pair)

@@ -55,3 +55,15 @@ AreAllDeliveredOver drained readers p writers q sent =
     → (h : AreDelivering x p y q)
     → has_unacknowledged h.writer.stream q.core.sctp.association.outbox.items ≡ false
     → x.got ≡ sent h.reader.stream x.generation
+
+-- The same of what was sent over the channel of the writer.
+abbrev pub AreAllGot : {N : Type 0} → (drained : Type 0) → (readers : List ChannelUse) → PlainPolled N → (writers : List ChannelUse)
+    → PlainPolled N → Type 0
+AreAllGot drained readers p writers q =
+    (x y : ChannelUse)
+    → Member x readers
+    → Member y writers
+    → drained
+    → (h : AreDelivering x p y q)
+    → has_unacknowledged h.writer.stream q.core.sctp.association.outbox.items ≡ false
+    → x.got ≡ y.sent

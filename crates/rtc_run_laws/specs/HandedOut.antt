@@ -15,7 +15,7 @@ use Rattle.rtc_run_history.specs.Sides.{other_side}
 use Rattle.rtc_run_laws.specs.PlainPairs.{PlainPair, PlainPolled, plain_over}
 use Rattle.rtc_run_laws.specs.AnnouncedOnce.{AreAnnouncedOnce}
 use Rattle.rtc_run_laws.specs.ChannelUses.{ChannelUse}
-use Rattle.rtc_run_laws.specs.Delivered.{AreAllDelivered, AreAllDeliveredOver}
+use Rattle.rtc_run_laws.specs.Delivered.{AreAllDelivered, AreAllDeliveredOver, AreAllGot}
 use Rattle.rtc_run_laws.specs.InBandSteps.{AreInBandSteps}
 use Rattle.rtc_run_laws.specs.OpenUses.{AreJoinedUses}
 use Rattle.rtc_run_laws.specs.SideDrains.{IsSideDrained}
@@ -33,6 +33,18 @@ IsHandedOut x y =
 -- So it is for each channel that one side announced and each that the other one did.
 abbrev pub AreHandedOut : (readers writers : List ChannelUse) → Type 0
 AreHandedOut readers writers = (x y : ChannelUse) → Member x readers → Member y writers → IsHandedOut x y
+
+-- If two channels were opened in-band over one generation of one stream, what one got is a prefix of what was sent over the other.
+abbrev pub ArePrefixes : (readers writers : List ChannelUse) → Type 0
+ArePrefixes readers writers =
+    (x y : ChannelUse)
+    → Member x readers
+    → Member y writers
+    → x.in_band ≡ true
+    → y.in_band ≡ true
+    → x.stream ≡ y.stream
+    → x.generation ≡ y.generation
+    → IsPrefix x.got y.sent
 
 -- Whether or not a channel was rolled back: what the one got is a prefix of all that the side of the other ever sent to the generation.
 abbrev pub AreHandedOver : (readers writers : List ChannelUse) → (sent : ℕ → ℕ → List (Bool × List ℕ)) → Type 0
@@ -121,12 +133,11 @@ AreWhollyHandedOut draws readers p writers q =
     → has_unread p.core.sctp.association h.reader.stream x.generation ≡ false
     → x.got ≡ y.sent
 
--- What channels that were opened in-band hand out in a run by these steps with these replies. Each is announced once, and so is a
--- generation of a stream, to which its side sent nothing before. Nothing is reported of a channel in another generation. What one side got
--- over its channel is a prefix of what the other side sent to the generation, and of what it sent over its own unless that was rolled back,
--- and all of it once that was delivered; it got nothing if the other side announced no channel over that generation. Nothing is reported
--- of a generation to which the other side sent nothing; nor, if no step added a channel that is negotiated out-of-band, of one over which
--- it announced no channel.
+-- What in-band channels hand out in a run by these steps with these replies. Each is announced once, and so is a generation (`once`). What
+-- one side received is a prefix of what the other side sent to the generation (`over`), and of what it sent over its own channel
+-- (`prefixes`), if no step added a channel that is negotiated out-of-band, the pair kept no session description before, and channel numbers
+-- are left; else unless that channel was rolled back (`handed`). It is all of it once delivered (`all_got`, `delivered`, `delivered_over`).
+-- While channel numbers are left, a channel received nothing if the other side announced none over its generation (`silent`).
 pub record HandsOut {N : Type 0} (draws : Draws N) (stun : List ℕ → Bool) (start : PlainPair N) (steps : List Step)
     (replies : List (Reply PlainMediaEvent)) (pair : PlainPair N) (run : Runs (plain_over draws) stun start steps replies pair)
     : Type 0 where
@@ -169,6 +180,15 @@ pub record HandsOut {N : Type 0} (draws : Draws N) (stun : List ℕ → Bool) (s
       (uses_in_run (plain_over draws) stun start steps replies pair run (other_side at)) (rtc_at (other_side at) pair)
       (sent_over (plain_over draws) stun start (other_side at) run.past pair
       (reached_by (plain_over draws) stun start run.past pair run.went))
+  pub prefixes : start.sdps ≡ [] → AreInBandSteps steps
+      → HaveNumbersLeft pair → (at : Side)
+      → ArePrefixes (uses_in_run (plain_over draws) stun start steps replies pair run at)
+      (uses_in_run (plain_over draws) stun start steps replies pair run (other_side at))
+  pub all_got : start.sdps ≡ [] → AreInBandSteps steps
+      → HaveNumbersLeft pair → (at : Side)
+      → AreAllGot (IsSideDrained at run.past)
+      (uses_in_run (plain_over draws) stun start steps replies pair run at) (rtc_at at pair)
+      (uses_in_run (plain_over draws) stun start steps replies pair run (other_side at)) (rtc_at (other_side at) pair)
   pub unsent : (at : Side)
       → AreToldOfSent
       (sent_over (plain_over draws) stun start (other_side at) run.past pair

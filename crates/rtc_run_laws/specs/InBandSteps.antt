@@ -1,11 +1,11 @@
--- Steps that settle no channel by other means than messages.
+-- Steps that add no channel that is negotiated out-of-band.
 use Rattle.std.specs.Prelude.{◌≡◌, List, [], ◌∷◌, None}
 use Rattle.rtc_run_history.specs.declared.op.Op.{Op}
 use Rattle.rtc_run_history.specs.declared.op.Op.TheVariants.{AddChannel}
 use Rattle.rtc_run_history.specs.declared.step.Step.{Step}
 use Rattle.rtc_run_history.specs.declared.step.Step.TheVariants.{Negotiate}
 
--- no channel that is added has a stream that both ends settled by other means
+-- no channel that is added is negotiated out-of-band
 abbrev pub AreInBandOps : List Op → Type 0
 AreInBandOps [] = Unit {0}
 AreInBandOps (AddChannel config ∷ ops) = (config.negotiated ≡ None) × AreInBandOps ops

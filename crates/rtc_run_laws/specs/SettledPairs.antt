@@ -56,12 +56,12 @@ pub record IsSettledPair {E N : Type 0} (past : List (Entry E)) (pair : PlainPai
   pub peers : (at : Side) → IsSettledPeer (rtc_at at pair)
   pub resting : (at : Side) → IsResting at past
 
--- a stream was not settled by other means than messages
+-- no entry of the stream was negotiated out-of-band
 abbrev pub IsInBandStream : (stream : ℕ) → List StreamEntry → Type 0
 IsInBandStream stream [] = Unit {0}
 IsInBandStream stream (entry ∷ entries) = (entry.id ≡ stream → is_out_of_band entry ≡ false) × IsInBandStream stream entries
 
--- neither side settled a stream by other means than messages
+-- neither side has an entry of the stream that was
 pub record AreInBandStreams {N : Type 0} (stream : ℕ) (p q : PlainPolled N) : Type 0 where
   pub here : IsInBandStream stream p.core.sctp.entries
   pub there : IsInBandStream stream q.core.sctp.entries
@@ -100,8 +100,8 @@ pub record IsOpenAtBoth {N : Type 0} (draws : Draws N) (channel : ℕ) (uses : L
   pub got : own.got ≡ other.sent
   pub sent : other.got ≡ own.sent
 
--- So it is for each channel that is open at the one side, over a stream that neither side settled by other means than messages, and over
--- which neither rolled a channel back.
+-- So it is for each channel that is open at the one side, over a stream that neither side negotiated out-of-band, and over which neither
+-- rolled a channel back.
 abbrev pub AreOpenAtBoth : {N : Type 0} → Draws N → (uses : List ChannelUse) → PlainPolled N → (others : List ChannelUse) → PlainPolled N
     → Type 0
 AreOpenAtBoth draws uses p others q =
@@ -165,7 +165,7 @@ AreConfirmedSettled draws confirmed uses p others q =
     → AreKeptUses stream uses p others q
     → IsOpenAtBoth draws channel uses p others q ⊎ (IsRefusedAlone stream p q ⊎ AreBothOpening stream p q)
 
--- the stream of no channel of either side was settled by other means than messages
+-- no channel over the stream was negotiated out-of-band, at either side
 pub record AreInBandChannels {N : Type 0} (stream : ℕ) (p q : PlainPolled N) : Type 0 where
   pub here : IsInBandChannel stream p.core.channels.rows
   pub there : IsInBandChannel stream q.core.channels.rows
@@ -182,7 +182,7 @@ AreOwnOpenings p =
 abbrev pub AreOnSides : {N : Type 0} → PlainPolled N → PlainPolled N → Type 0
 AreOnSides p q = q.core.sctp.client ≡ p.core.sctp.client → ⊥
 
--- no stream is opened from both sides, unless a channel was settled for it by other means
+-- no stream is opened from both sides, unless a channel over it was negotiated out-of-band
 abbrev pub OpenNoneBoth : {N : Type 0} → PlainPolled N → PlainPolled N → Type 0
 OpenNoneBoth p q =
     (stream : ℕ)
@@ -221,11 +221,10 @@ AreAllConfirmedOpen draws confirmed uses p others q =
     → stream_under channel p.core.channels ≡ Some stream
     → IsOpenAtBoth draws channel uses p others q
 
--- A run by these steps with these replies leaves it so at both sides, if it left the pair settled. Of channels that were confirmed it
--- speaks if nothing is due for those of the side; they are open if besides no opening is in flight at either side, and if the last timeouts
--- of both are late enough. One side is the client and the other one the server; each opening is over a stream of its own side, so that both
--- never open one, and no opening waits for its acknowledgement. If no step added a channel that was negotiated out-of-band, and the pair
--- kept no session description before, no stream was negotiated so.
+-- What holds of both sides if a run by these steps with these replies left the pair settled. A channel that is open at one side is open at
+-- both (`opened`). So is a confirmed one, if nothing is due for the channels of its side (`due_none`). These ask that no channel over the
+-- stream was negotiated out-of-band or rolled back; `all_in_band` asks only that no step added a channel that is negotiated out-of-band,
+-- and that the pair kept no session description before. `refused`, `confirmed` and `later` are about streams for which one was.
 pub record SettlesOpen {N : Type 0} (draws : Draws N) (stun : List ℕ → Bool) (start : PlainPair N) (steps : List Step)
     (replies : List (Reply PlainMediaEvent)) (pair : PlainPair N) (run : Runs (plain_over draws) stun start steps replies pair)
     : Type 0 where
@@ -236,25 +235,6 @@ pub record SettlesOpen {N : Type 0} (draws : Draws N) (stun : List ℕ → Bool)
   pub answered : IsSettledPair run.past pair → (at : Side) → AreAnswered (rtc_at at pair) (rtc_at (other_side at) pair)
   pub idle : IsSettledPair run.past pair → (at : Side) → HasNothingDue at run.past pair
       → channels_wake plain_meaning (rtc_at at pair).core.channels (rtc_at at pair).core.sctp ≡ None
-  pub refused : IsSettledPair run.past pair → (at : Side)
-      → channels_wake plain_meaning (rtc_at at pair).core.channels (rtc_at at pair).core.sctp ≡ None
-      → AreConfirmedSettled draws
-      (λ channel. WasConfirmed (plain_over draws) stun start at channel run.past pair
-      (reached_by (plain_over draws) stun start run.past pair run.went))
-      (uses_in_run (plain_over draws) stun start steps replies pair run at) (rtc_at at pair)
-      (uses_in_run (plain_over draws) stun start steps replies pair run (other_side at)) (rtc_at (other_side at) pair)
-  pub confirmed : IsSettledPair run.past pair → IsStillPair pair → (at : Side)
-      → AreConfirmedOpen draws
-      (λ channel. WasConfirmed (plain_over draws) stun start at channel run.past pair
-      (reached_by (plain_over draws) stun start run.past pair run.went))
-      (uses_in_run (plain_over draws) stun start steps replies pair run at) (rtc_at at pair)
-      (uses_in_run (plain_over draws) stun start steps replies pair run (other_side at)) (rtc_at (other_side at) pair)
-  pub later : IsSettledPair run.past pair → ((at : Side) → HasNothingSoon at run.past pair) → (at : Side)
-      → AreConfirmedOpen draws
-      (λ channel. WasConfirmed (plain_over draws) stun start at channel run.past pair
-      (reached_by (plain_over draws) stun start run.past pair run.went))
-      (uses_in_run (plain_over draws) stun start steps replies pair run at) (rtc_at at pair)
-      (uses_in_run (plain_over draws) stun start steps replies pair run (other_side at)) (rtc_at (other_side at) pair)
   pub own : IsSettledPair run.past pair → (at : Side) → AreOwnOpenings (rtc_at at pair)
   pub sides : IsSettledPair run.past pair → (at : Side) → AreOnSides (rtc_at at pair) (rtc_at (other_side at) pair)
   pub parted : IsSettledPair run.past pair → (at : Side) → OpenNoneBoth (rtc_at at pair) (rtc_at (other_side at) pair)
@@ -277,6 +257,25 @@ pub record SettlesOpen {N : Type 0} (draws : Draws N) (stun : List ℕ → Bool)
       × AreInBandChannels stream (rtc_at at pair) (rtc_at (other_side at) pair)
   pub all_in_band : start.sdps ≡ [] → AreInBandSteps steps → IsSettledPair run.past pair → (at : Side) → HasNothingDue at run.past pair
       → AreAllConfirmedOpen draws
+      (λ channel. WasConfirmed (plain_over draws) stun start at channel run.past pair
+      (reached_by (plain_over draws) stun start run.past pair run.went))
+      (uses_in_run (plain_over draws) stun start steps replies pair run at) (rtc_at at pair)
+      (uses_in_run (plain_over draws) stun start steps replies pair run (other_side at)) (rtc_at (other_side at) pair)
+  pub refused : IsSettledPair run.past pair → (at : Side)
+      → channels_wake plain_meaning (rtc_at at pair).core.channels (rtc_at at pair).core.sctp ≡ None
+      → AreConfirmedSettled draws
+      (λ channel. WasConfirmed (plain_over draws) stun start at channel run.past pair
+      (reached_by (plain_over draws) stun start run.past pair run.went))
+      (uses_in_run (plain_over draws) stun start steps replies pair run at) (rtc_at at pair)
+      (uses_in_run (plain_over draws) stun start steps replies pair run (other_side at)) (rtc_at (other_side at) pair)
+  pub confirmed : IsSettledPair run.past pair → IsStillPair pair → (at : Side)
+      → AreConfirmedOpen draws
+      (λ channel. WasConfirmed (plain_over draws) stun start at channel run.past pair
+      (reached_by (plain_over draws) stun start run.past pair run.went))
+      (uses_in_run (plain_over draws) stun start steps replies pair run at) (rtc_at at pair)
+      (uses_in_run (plain_over draws) stun start steps replies pair run (other_side at)) (rtc_at (other_side at) pair)
+  pub later : IsSettledPair run.past pair → ((at : Side) → HasNothingSoon at run.past pair) → (at : Side)
+      → AreConfirmedOpen draws
       (λ channel. WasConfirmed (plain_over draws) stun start at channel run.past pair
       (reached_by (plain_over draws) stun start run.past pair run.went))
       (uses_in_run (plain_over draws) stun start steps replies pair run at) (rtc_at at pair)

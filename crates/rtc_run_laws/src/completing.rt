@@ -13,9 +13,9 @@ ghost use Rattle.rtc_run_laws.specs.StreamCompletions.{AreBeginning, all_had_mem
 use rtc_parts::Association;
 
 /// Of any calls in turn on streams, from their beginning on: if a poll reports that a stream is open, its Close is
-/// reported before the completed reset of its generation. The completed resets of a stream end its generations in
-/// order, from 0 on. This holds of a stream whose entry keeps the generation, and so of one that was opened in-band, in
-/// the generation that it has when it is reported as open, if no poll before ran out of memory.
+/// reported before the completed reset of its generation. The completed resets of a stream are counted as the ends of
+/// its generations, from 0 on. This holds of a stream whose entry keeps the generation, and so of one that was opened
+/// in-band, in the generation that it has when it is reported as open, if no poll before ran out of memory.
 pub fn open_streams_close_before_completion<S: Association>()
     ensures order { (p q r t : SctpStreams S) (id g : ℕ) (label : List ℕ) (before later : List (List SctpEvent))
         → AreBeginning S.association p → CallsInTurn S.association before p q

@@ -40,16 +40,11 @@ use rtc_parts::Ids;
 /// client, and odd if it is the server, unless a channel was negotiated out-of-band for the stream. So no such stream is
 /// opened from both, and no opening of one waits for its acknowledgement.
 ///
-/// If a channel was negotiated out-of-band for a stream, but no entry of the stream was, a confirmed channel over the
-/// stream is open at both sides so, or it is in one of two other cases. The opening of its stream is refused for now, as
-/// the stream is there already, and has been for less than ten seconds, while it is not open at the other side either.
-/// Or both sides opened the stream: the opening from here waits for its acknowledgement, and the one from there is
-/// refused so. Neither occurs if neither the associations with their streams nor the channels over them want a moment,
-/// nor if both last timeouts are later than each moment that the peers took, and than half a second after the last one
-/// that their streams took.
+/// These say nothing of a stream for which a channel was negotiated out-of-band, but by `refused`, `confirmed` and `later`,
+/// nor of one over which a side rolled back a channel that it had announced, in the generation that the stream has. With
+/// in-band channels alone (`all_in_band`) no confirmed channel is such an exception.
 ///
-/// Of open and of confirmed channels this says nothing if a side rolled back a channel that it had announced over the
-/// stream, in the generation that the stream has. No step brings in a text or bytes of anybody.
+/// No step brings in a text or bytes of anybody.
 pub fn settled_pairs_have_open_channels<N: Ids>()
     ensures level { (stun : List ℕ → Bool) (start pair : PlainPair N) (past : List (Entry PlainMediaEvent)) → IsNewPair N.ids start
         → are_native (steps_of past) ≡ true

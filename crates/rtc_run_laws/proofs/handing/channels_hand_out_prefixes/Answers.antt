@@ -3,6 +3,7 @@ use Rattle.rtc_run_laws.specs.SentMessages.{sent_over}
 use Rattle.rtc_run_laws.specs.ToldMessages.{told_over}
 use Rattle.rtc_run_laws.specs.UsesOfRuns.{uses_of}
 use Rattle.rtc_run_laws.proofs.HandsRuns.{run_hands_out}
+use Rattle.rtc_run_laws.proofs.KeptInBand.{run_all_got, run_prefixes}
 use Rattle.rtc_run_laws.proofs.RestedRuns.{run_delivered, run_delivered_over, run_drained}
 use Rattle.rtc_run_laws.proofs.RunsTold.{new_pair_told, pair_first, pair_handed, pair_handed_over, pair_once, pair_only, pair_told_whole, pair_whole, pair_wholly, reached_told}
 use Rattle.rtc_run_laws.proofs.handing.channels_hand_out_prefixes.Goals as goal
@@ -73,6 +74,14 @@ returns-clause-delivered g c = λ stun start pair past new go ran at. run_delive
 pub returns-clause-delivered_over : goal.returns-clause-delivered_over
 returns-clause-delivered_over g c = λ stun start pair past new go ran at.
     run_delivered_over g.N.Ids.ids stun start new past pair go ran at
+
+pub returns-clause-prefixes : goal.returns-clause-prefixes
+returns-clause-prefixes g c = λ stun start pair past new go none ran steps numbers at.
+    run_prefixes g.N.Ids.ids stun start new past pair go ran none steps numbers at
+
+pub returns-clause-all_got : goal.returns-clause-all_got
+returns-clause-all_got g c = λ stun start pair past new go none ran steps numbers at.
+    run_all_got g.N.Ids.ids stun start new past pair go ran none steps numbers at
 
 pub returns-clause-ran : goal.returns-clause-ran
 returns-clause-ran g c = λ stun start pair steps replies new go run. run_hands_out g.N.Ids.ids stun start pair steps replies new go run
