@@ -40,3 +40,9 @@ pub got_there : {A : Type 0} (xs : List A) (i : ℕ) (d : A) → i < length xs �
 got_there [] i d below = absurd (omega (arith, below))
 got_there (a ∷ xs) zero d below = refl
 got_there (a ∷ xs) (suc i) d below = got_there xs i d (omega (arith, below))
+
+-- what is at a place before the end
+pub some_at : {A : Type 0} (xs : List A) (k : ℕ) → k < length xs → (x : A) × (slice_get xs k ≡ Some x)
+some_at [] k inside = absurd (omega (arith, inside))
+some_at (x ∷ xs) zero inside = (x, refl)
+some_at (x ∷ xs) (suc k) inside = some_at xs k (omega (arith, inside))

@@ -1,7 +1,10 @@
 mod Addressed
 mod SentQueues
 mod HeardMembers
+mod LinedRuns
+mod SentRuns
 mod RoomMoves
+mod RoomCounts
 mod RoomWithin
 mod RoomSoFar
 mod SentSoFar

@@ -13,6 +13,7 @@ use Rattle.rtc_room_laws.specs.Hearing.{members_behind}
 use Rattle.rtc_room_laws.specs.Members.{MemberState}
 use Rattle.rtc_room_laws.specs.RoomSizes.{HaveRoom}
 use Rattle.rtc_room_laws.specs.RoomSteps.{PerformsAt, PerformsHere}
+use Rattle.rtc_room_hub.proofs.HeardMembers.{some_at}
 use Rattle.rtc_room_hub.proofs.RoomSoFar.{room_of}
 
 -- there is room at each place
@@ -20,12 +21,6 @@ pub room_at : (size k : ℕ) (pairs : List PlainPairState) (d : PlainPairState) 
 room_at size k [] d h inside = absurd (omega (arith, inside))
 room_at size zero (first ∷ pairs) d h inside = h.0
 room_at size (suc k) (first ∷ pairs) d h inside = room_at size k pairs d h.1 (omega (arith, inside))
-
--- what is at a place before the end
-pub some_at : {A : Type 0} (xs : List A) (k : ℕ) → k < length xs → (x : A) × (slice_get xs k ≡ Some x)
-some_at [] k inside = absurd (omega (arith, inside))
-some_at (x ∷ xs) zero inside = (x, refl)
-some_at (x ∷ xs) (suc k) inside = some_at xs k (omega (arith, inside))
 
 -- what was written at a place is read there
 pub read_written : {A : Type 0} (xs : List A) (k : ℕ) (x d : A) → k < length xs → get_or (slice_set xs k x) k d ≡ x

@@ -20,7 +20,7 @@ use Rattle.rtc_room_hub.specs.SentItems.{SendsItem, SentUpTo, sent_in_outcome}
 use Rattle.rtc_room_laws.specs.declared.item.Item.{Item}
 use Rattle.rtc_room_hub.specs.declared.sent.Sent.{Sent}
 use Rattle.rtc_room_hub.specs.declared.sent.Sent.TheVariants.{Taken, Waits, Refused as WasRefused}
-use Rattle.rtc_room_hub.proofs.RoomMoves.{taken_size}
+use Rattle.rtc_room_hub.proofs.SentRuns.{taken_size}
 
 -- ---- outcomes of writes
 

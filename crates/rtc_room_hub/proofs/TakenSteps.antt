@@ -21,8 +21,7 @@ use Rattle.rtc_room_laws.specs.declared.room_reply.RoomReply.{RoomReply}
 use Rattle.rtc_room_laws.specs.declared.room_reply.RoomReply.TheVariants as replied
 use Rattle.rtc_room_laws.specs.declared.room_step.RoomStep.{RoomStep}
 use Rattle.rtc_room_laws.specs.declared.room_step.RoomStep.TheVariants.{Join, Leave, Perform, Arrive, Forward}
-use Rattle.rtc_room_hub.proofs.HeardMembers.{got_there, place_inside}
-use Rattle.rtc_room_hub.proofs.PerformedHere.{some_at}
+use Rattle.rtc_room_hub.proofs.HeardMembers.{got_there, place_inside, some_at}
 use Rattle.rtc_room_hub.proofs.RoomSoFar.{room_of}
 use Rattle.rtc_room_hub.proofs.SentQueues.{SomeForwards}
 

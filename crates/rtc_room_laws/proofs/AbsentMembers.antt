@@ -146,9 +146,6 @@ absent_told j (Arrive k packet now) (replied.Performed reply) old new none =
     empty_if (k == j) (messages_told j (slice_get old.members j) (slice_get new.pairs j) reply) (messages_none j (slice_get old.members j) new reply none)
 absent_told j step reply old new none = refl
 
-none_first : (y : Option MemberState) → are_of_one_room None y ≡ false
-none_first y = refl
-
 none_second : (x : Option MemberState) → are_of_one_room x None ≡ false
 none_second None = refl
 none_second (Some a) = refl

@@ -1,5 +1,5 @@
 -- That the hub hands on what it hears, in each run of a room.
-use Rattle.std.proofs.Common.{◌≡◌, ◌≢◌, ◌⊎◌, ◌∙◌, ◌++◌, inl, inr, ℕ, true, false, List, [], ◌∷◌, Option, Some, None, refl, sym, ap, subst, append-nil, append_assoc}
+use Rattle.std.proofs.Common.{◌≡◌, ◌≢◌, ◌⊎◌, ◌∙◌, ◌++◌, inl, inr, ℕ, true, false, List, [], ◌∷◌, Option, Some, None, refl, sym, ap, subst, append-nil}
 use Rattle.std.specs.Prelude.{slice_get}
 use Rattle.std.specs.declared.alloc.Global.{Global}
 use Rattle.rtc_parts.specs.Among.{Member}
@@ -10,19 +10,18 @@ use Rattle.rtc_assoc_state.specs.Outbox.{has_unacknowledged}
 use Rattle.rtc_run_history.specs.Native.{are_native}
 use Rattle.rtc_run_history.specs.Past.{Entry, steps_of}
 use Rattle.rtc_run_history.specs.Runs.{Reached}
-use Rattle.rtc_run_history.specs.declared.side.Side.{Side}
 use Rattle.rtc_run_history.specs.declared.side.Side.TheVariants.{Left, Right}
 use Rattle.rtc_run_laws.specs.ChannelUses.{ChannelUse}
-use Rattle.rtc_run_laws.specs.Delivered.{AreDelivering}
-use Rattle.rtc_run_laws.specs.InBandSteps.{AreInBandSteps}
+use Rattle.rtc_run_laws.specs.InBandSteps.{AreInBandStepsAt}
 use Rattle.rtc_run_laws.specs.NewPairs.{IsNewPair}
 use Rattle.rtc_run_laws.specs.SentMessages.{sent_over}
 use Rattle.rtc_run_laws.specs.SideDrains.{IsSideDrained}
 use Rattle.rtc_run_laws.specs.ToldMessages.{told_over}
 use Rattle.rtc_run_laws.specs.Unannounced.{HaveNumbersLeft, IsAnnouncedOver}
 use Rattle.rtc_run_laws.specs.UsesOfRuns.{reached_by, uses_of}
-use Rattle.rtc_run_laws.proofs.BandedUses.{IsInBandUse, run_in_band}
+use Rattle.rtc_run_laws.proofs.BandedUses.{IsInBandUse}
 use Rattle.rtc_run_laws.proofs.GotStretches.{GotStretch, pair_stretch}
+use Rattle.rtc_run_laws.proofs.OwnBandRuns.{run_own_in_band}
 use Rattle.rtc_run_laws.proofs.RestedRuns.{run_delivered_over}
 use Rattle.rtc_run_laws.proofs.RunsTold.{PairTold, new_pair_told, pair_handed_over, pair_whole, reached_told}
 use Rattle.rtc_run_laws.proofs.SilentRuns.{run_got}
@@ -30,20 +29,23 @@ use Rattle.rtc_run_laws.proofs.UseLists.{all_member, prefix_through}
 use Rattle.rtc_run_laws.proofs.UsesTold.{InBandTold, use_opened}
 use Rattle.rtc_run.specs.ProgramPair.{PlainPairState, counting, plain_parts}
 use Rattle.rtc_room_laws.specs.Members.{MemberState}
-use Rattle.rtc_room_laws.specs.RoomRuns.{MemberRan, RoomRuns, RoomWent, performed_of}
+use Rattle.rtc_room_laws.specs.RoomRuns.{MemberRan, RoomRuns, RoomWent, line_along, performed_of}
 use Rattle.rtc_room_laws.specs.RoomSteps.{RoomEntry, RoomState}
 use Rattle.rtc_room_laws.specs.declared.room_reply.RoomReply.{RoomReply}
 use Rattle.rtc_room_laws.specs.declared.room_step.RoomStep.{RoomStep}
-use Rattle.rtc_room_laws.specs.RoomHandsOn.{AreLineEndsOf, GetsOf, IsHeardOf, IsHubEndOf, IsStretch, RoomHandsOn, first_use, heard_for, sent_at, uses_at}
+use Rattle.rtc_room_laws.specs.RoomHandsOn.{AreLineEndsOf, GetsOf, IsHeardOf, IsHubEndOf, IsStretch, KeepsLine, RoomHandsOn, first_use, heard_for, sent_at, uses_at}
 use Rattle.rtc_room_laws.specs.ItemMessages.{LineMessage, messages_from}
 use Rattle.rtc_room_laws.proofs.DueItems.{IsDue}
 use Rattle.rtc_room_laws.proofs.FirstUses.{first_blank, first_found, first_member}
 use Rattle.rtc_room_laws.proofs.HeardStretches.{room_stretch, two_rooms}
 use Rattle.rtc_room_laws.proofs.ItemTexts.{messages_by, messages_from-append}
+use Rattle.rtc_room_laws.proofs.LastingMembers.{room_last}
+use Rattle.rtc_room_laws.proofs.LineBands.{line_banded}
 use Rattle.rtc_room_laws.proofs.LineMoves.{Stands}
 use Rattle.rtc_room_laws.proofs.NativeMembers.{numbered_is_new, own_native, room_own}
 use Rattle.rtc_room_laws.proofs.RolledLines.{sent_over_is}
 use Rattle.rtc_room_laws.proofs.RoomsStand.{heard_of, room_due, room_line}
+use Rattle.rtc_room_laws.proofs.Stretches.{last_none, stretch_none, stretch_through}
 use Rattle.rtc_room_laws.proofs.TakenMessages.{taken_messages}
 use Rattle.rtc_room_laws.proofs.Talks.{blank, blanks_of}
 
@@ -62,41 +64,14 @@ prefix_none (x ∷ xs) ys h none = absurd (no_cons x (xs ++ h.rest) (h.is ∙ no
     no_cons : {A : Type 0} (y : A) (l : List A) → y ∷ l ≡ [] → ⊥
     no_cons y l e = cc
 
--- a stretch of the end of a list that is a stretch of another one
-stretch_through : (part all got sent before : List LineMessage) → IsStretch part all → got ≡ before ++ all → GotStretch got sent → IsStretch part sent
-stretch_through part all got sent before h is k = record {
-  before = k.before ++ (before ++ h.before);
-  behind = h.behind ++ k.behind;
-  is =
-      k.is
-      ∙ ap (λ (l : List LineMessage). k.before ++ (l ++ k.behind)) (is ∙ ap (λ (l : List LineMessage). before ++ l) h.is)
-      ∙ ap (λ (l : List LineMessage). k.before ++ l)
-      (append_assoc before (h.before ++ (part ++ h.behind)) k.behind
-      ∙ ap (λ (l : List LineMessage). before ++ l)
-      (append_assoc h.before (part ++ h.behind) k.behind ∙ ap (λ (l : List LineMessage). h.before ++ l) (append_assoc part h.behind k.behind))
-      ∙ sym (append_assoc before h.before (part ++ (h.behind ++ k.behind))))
-      ∙ sym (append_assoc k.before (before ++ h.before) (part ++ (h.behind ++ k.behind)));
-}
-
-first_none : (xs ys : List LineMessage) → xs ++ ys ≡ [] → xs ≡ []
-first_none [] ys h = refl
-first_none (x ∷ xs) ys h = absurd (let e : ◌≡◌ {A = List LineMessage} (x ∷ (xs ++ ys)) [] = h in cc)
-
-last_none : (xs ys : List LineMessage) → xs ++ ys ≡ [] → ys ≡ []
-last_none [] ys h = h
-last_none (x ∷ xs) ys h = absurd (let e : ◌≡◌ {A = List LineMessage} (x ∷ (xs ++ ys)) [] = h in cc)
-
--- a stretch of nothing
-stretch_none : (part whole : List LineMessage) → IsStretch part whole → whole ≡ [] → part ≡ []
-stretch_none part whole h none = first_none part h.behind (last_none h.before (part ++ h.behind) (sym h.is ∙ none))
-
 some_is : {A : Type 0} (x y : A) → Some x ≡ Some y → x ≡ y
 some_is x y e = cc
 
 -- ---- the line of a member, in the run of its pair
 
 module _ (alloc : Global) (past : List RoomEntry) (room : RoomState) (went : RoomWent alloc past room) (k : ℕ) (member : MemberState)
-    (there : slice_get room.members k ≡ Some member) (pair : PlainPairState) (ran : MemberRan alloc k past pair) where
+    (there : slice_get room.members k ≡ Some member) (pair : PlainPairState) (ran : MemberRan alloc k past pair)
+    (along : member.line ≡ line_along ran.start (performed_of k past) pair ran.went) where
   abbrev pub own : List (Entry PlainMediaEvent)
   own = performed_of k past
 
@@ -114,14 +89,6 @@ module _ (alloc : Global) (past : List RoomEntry) (room : RoomState) (went : Roo
 
   new : IsNewPair counting ran.start
   new = numbered_is_new alloc k ran.start ran.made.numbered
-
-  -- a channel that was announced was opened in-band, if no step of the pair added another one
-  in_band : (at : Side) (z : ChannelUse) → Member z (uses_at alloc k past pair ran at) → AreInBandSteps (steps_of own) ⊎ (z.in_band ≡ true)
-      → z.in_band ≡ true
-  in_band at z there (inl steps) =
-      all_member IsInBandUse (uses_at alloc k past pair ran at) z
-      (run_in_band counting is_ice_message ran.start new ran.made.numbered.sdps own pair native reached steps at) there
-  in_band at z there (inr band) = band
 
   -- without a line nothing was heard
   pub none_heard : member.line ≡ None → heard_of alloc k past room went ≡ []
@@ -146,7 +113,8 @@ module _ (alloc : Global) (past : List RoomEntry) (room : RoomState) (went : Roo
     x_there = first_member hub.channel (uses_at alloc k past pair ran Left) x hub.first
 
     x_band : x.in_band ≡ true
-    x_band = in_band Left x x_there hub.in_band
+    x_band =
+        line_banded ran.start new hub.channel own pair native (room_last alloc k past room went) ran.went (sym along ∙ hub.line_is) x hub.first
 
     -- what was taken is all that was sent to its stream
     pub over_taken : (stream : ℕ) → x.stream ≡ Some stream
@@ -185,8 +153,15 @@ module _ (alloc : Global) (past : List RoomEntry) (room : RoomState) (went : Roo
         run_got counting is_ice_message ran.start new own pair native reached numbers Left x x_there x_band stream of
 
   module _ (x y : ChannelUse) (line : AreLineEndsOf alloc k past pair ran member.line x y) where
+    -- the member's end was opened in-band, if no step of its own peer added another channel
+    in_band : AreInBandStepsAt Right (steps_of own) ⊎ (y.in_band ≡ true) → y.in_band ≡ true
+    in_band (inl steps) =
+        all_member IsInBandUse (uses_at alloc k past pair ran Right) y
+        (run_own_in_band counting is_ice_message ran.start new ran.made.numbered.sdps Right own pair native reached steps) line.other
+    in_band (inr band) = band
+
     y_band : y.in_band ≡ true
-    y_band = in_band Right y line.other line.other_in_band
+    y_band = in_band line.other_in_band
 
     -- what the member got is a prefix of what was taken
     pub got_prefix : IsPrefix y.got (taken_messages own)
@@ -202,13 +177,22 @@ module _ (alloc : Global) (past : List RoomEntry) (room : RoomState) (went : Roo
         over
 
     -- and all of it once all was delivered
-    pub got_all : IsSideDrained Right own → (h : AreDelivering y pair.right x pair.left)
+    pub got_all : IsSideDrained Right own → (h : KeepsLine y pair.right x pair.left)
         → has_unacknowledged h.writer.stream pair.left.core.sctp.association.outbox.items ≡ false → y.got ≡ taken_messages own
-    got_all drained delivering acknowledged =
-        run_delivered_over counting is_ice_message ran.start new own pair native reached Right y x line.other (x_there x line.hub_end) drained delivering
+    got_all drained keeps acknowledged =
+        run_delivered_over counting is_ice_message ran.start new own pair native reached Right y x line.other (x_there x line.hub_end) drained
+        (record {
+          reader_in_band = y_band;
+          writer_in_band = x_band x line.hub_end;
+          reader = keeps.reader;
+          there = keeps.there;
+          writer = keeps.writer;
+          stream_is = line.stream_is;
+          generation_is = line.generation_is;
+        })
         acknowledged
-        ∙ ap (sent_over plain_parts is_ice_message ran.start Left own pair reached delivering.reader.stream) line.generation_is
-        ∙ over_taken x line.hub_end delivering.reader.stream (sym line.stream_is ∙ delivering.reader.of)
+        ∙ ap (sent_over plain_parts is_ice_message ran.start Left own pair reached keeps.reader.stream) line.generation_is
+        ∙ over_taken x line.hub_end keeps.reader.stream (sym line.stream_is ∙ keeps.reader.of)
 
     -- what the member wrote is what was sent over its end, unless that was rolled back
     pub wrote_over : y.rolled_back ≡ false → (stream : ℕ) → x.stream ≡ Some stream → sent_at alloc k past pair ran Right stream x.generation ≡ y.sent
@@ -222,14 +206,14 @@ module _ (alloc : Global) (past : List RoomEntry) (room : RoomState) (went : Roo
 
 module _ (alloc : Global) (past : List RoomEntry) (room : RoomState) (went : RoomWent alloc past room) where
   gets_of : (s m : ℕ) → s ≢ m → (listener : MemberState) → slice_get room.members m ≡ Some listener → (pair : PlainPairState) (ran : MemberRan alloc m past pair)
-      → GetsOf alloc past room went s m listener pair ran
-  gets_of s m apart listener there pair ran = record {
+      → listener.line ≡ line_along ran.start (performed_of m past) pair ran.went → GetsOf alloc past room went s m listener pair ran
+  gets_of s m apart listener there pair ran along = record {
     prefix = λ x y line. prefix x y line;
     apart = λ sender sender_there rooms x y line.
         prefix_none (messages_from s y.got) (heard_for alloc s m past room went) (prefix x y line)
         (two_rooms alloc s m past room went sender listener sender_there there rooms);
     all = λ here in_room none x y line drained delivering acknowledged.
-        ap (messages_from s) (got_all alloc past room went m listener there pair ran x y line drained delivering acknowledged)
+        ap (messages_from s) (got_all alloc past room went m listener there pair ran along x y line drained delivering acknowledged)
         ∙ sym
         (due.whole in_room here
         ∙ ap (λ l. messages_from s (taken_messages (performed_of m past)) ++ messages_by s l) none
@@ -243,21 +227,21 @@ module _ (alloc : Global) (past : List RoomEntry) (room : RoomState) (went : Roo
           → IsPrefix (messages_from s y.got) (heard_for alloc s m past room went)
       prefix x y line =
           prefix_through (messages_from s y.got) (messages_from s (taken_messages (performed_of m past))) (heard_for alloc s m past room went)
-          (from_prefix s y.got (taken_messages (performed_of m past)) (got_prefix alloc past room went m listener there pair ran x y line)) due.prefix
+          (from_prefix s y.got (taken_messages (performed_of m past)) (got_prefix alloc past room went m listener there pair ran along x y line)) due.prefix
 
   heard_of_is : (s m : ℕ) (speaker : MemberState) → slice_get room.members s ≡ Some speaker → (pair : PlainPairState) (ran : MemberRan alloc s past pair)
-      → IsHeardOf alloc past room went s m speaker pair ran
-  heard_of_is s m speaker there pair ran = record {
-    none = λ line. unheard (none_heard alloc past room went s speaker there pair ran line);
-    found = λ channel line. line_found alloc past room went s speaker there pair ran channel line;
+      → speaker.line ≡ line_along ran.start (performed_of s past) pair ran.went → IsHeardOf alloc past room went s m speaker pair ran
+  heard_of_is s m speaker there pair ran along = record {
+    none = λ line. unheard (none_heard alloc past room went s speaker there pair ran along line);
+    found = λ channel line. line_found alloc past room went s speaker there pair ran along channel line;
     stretch = λ x hub.
-        let stream = has_stream alloc past room went s speaker there pair ran x hub in
+        let stream = has_stream alloc past room went s speaker there pair ran along x hub in
         record { stream = stream.0; stream_is = stream.1; stretch = stretch x hub stream.0 stream.1 };
-    silent = λ numbers x hub stream of. silent x hub (got_announced alloc past room went s speaker there pair ran x hub numbers stream of);
+    silent = λ numbers x hub stream of. silent x hub (got_announced alloc past room went s speaker there pair ran along x hub numbers stream of);
     over = λ x y line left.
-        let stream = has_stream alloc past room went s speaker there pair ran x line.hub_end in
+        let stream = has_stream alloc past room went s speaker there pair ran along x line.hub_end in
         subst (λ (l : List LineMessage). IsStretch (heard_for alloc s m past room went) l)
-        (wrote_over alloc past room went s speaker there pair ran x y line left stream.0 stream.1) (stretch x line.hub_end stream.0 stream.1);
+        (wrote_over alloc past room went s speaker there pair ran along x y line left stream.0 stream.1) (stretch x line.hub_end stream.0 stream.1);
   }
     where
       heard : IsStretch (heard_for alloc s m past room went) (heard_of alloc s past room went)
@@ -269,13 +253,13 @@ module _ (alloc : Global) (past : List RoomEntry) (room : RoomState) (went : Roo
       stretch : (x : ChannelUse) → IsHubEndOf alloc s past pair ran speaker.line x → (stream : ℕ) → x.stream ≡ Some stream
           → IsStretch (heard_for alloc s m past room went) (sent_at alloc s past pair ran Right stream x.generation)
       stretch x hub stream of =
-          let got = got_heard alloc past room went s speaker there pair ran x hub in
+          let got = got_heard alloc past room went s speaker there pair ran along x hub in
           stretch_through (heard_for alloc s m past room went) (heard_of alloc s past room went) x.got (sent_at alloc s past pair ran Right stream x.generation) got.0
-          heard got.1 (got_stretch alloc past room went s speaker there pair ran x hub stream of)
+          heard got.1 (got_stretch alloc past room went s speaker there pair ran along x hub stream of)
 
       silent : {A : Type 0} (x : ChannelUse) → IsHubEndOf alloc s past pair ran speaker.line x → (x.got ≡ []) ⊎ A → (heard_for alloc s m past room went ≡ []) ⊎ A
       silent x hub (inl none) =
-          let got = got_heard alloc past room went s speaker there pair ran x hub in
+          let got = got_heard alloc past room went s speaker there pair ran along x hub in
           inl (unheard (last_none got.0 (heard_of alloc s past room went) (sym got.1 ∙ none)))
       silent x hub (inr announced) = inr announced
 
@@ -283,7 +267,9 @@ pub hands_on : (alloc : Global) (steps : List RoomStep) (replies : List RoomRepl
     → RoomHandsOn alloc steps replies pairs run
 hands_on alloc steps replies pairs run = record {
   gets = λ s m apart listener listener_there pair there.
-      gets_of alloc run.past run.room run.went s m apart listener listener_there pair (run.members m pair there);
+      gets_of alloc run.past run.room run.went s m apart listener listener_there pair (run.members m pair there)
+      (run.lines m pair there listener listener_there);
   heard = λ s m apart speaker speaker_there pair there.
-      heard_of_is alloc run.past run.room run.went s m speaker speaker_there pair (run.members s pair there);
+      heard_of_is alloc run.past run.room run.went s m speaker speaker_there pair (run.members s pair there)
+      (run.lines s pair there speaker speaker_there);
 }

@@ -17,5 +17,8 @@ pub mod HeardStretches
 pub mod NativeMembers
 pub mod FirstUses
 pub mod RolledLines
+pub mod Stretches
+pub mod LastingMembers
+pub mod LineBands
 pub mod HandsOnLaw
 mod RoomFacts

@@ -138,7 +138,7 @@ after_line j k (Refused error) speaker p members member member' few here there t
 after_line j k NoSuch speaker p members member member' few here there there' = same_line j k speaker members member member' here there there'
 after_line j k Alloc speaker p members member member' few here there there' = same_line j k speaker members member member' here there there'
 
-behind_line : (j k : ℕ) (side : Side) (outcome : Outcome PlainMediaEvent) (speaker : MemberState) (p : PlainPolled ℕ) (members : List MemberState) (member member' : MemberState)
+pub behind_line : (j k : ℕ) (side : Side) (outcome : Outcome PlainMediaEvent) (speaker : MemberState) (p : PlainPolled ℕ) (members : List MemberState) (member member' : MemberState)
     → j < 256 → slice_get members j ≡ Some speaker → slice_get members k ≡ Some member → slice_get (members_behind side outcome j speaker p members) k ≡ Some member'
     → LineBehind j k outcome speaker p (same_side side Left) member member'
 behind_line j k Left outcome speaker p members member member' few here there there' = after_line j k outcome speaker p members member member' few here there there'

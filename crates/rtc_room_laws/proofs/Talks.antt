@@ -78,10 +78,6 @@ abbrev pub talks_on : List (Entry PlainMediaEvent) → List ChannelUse → List 
 talks_on [] talks = talks
 talks_on (entry ∷ performed) talks = talks_entered entry (talks_on performed talks)
 
-pub talks_on-append : (more past : List (Entry PlainMediaEvent)) (talks : List ChannelUse) → talks_on (more ++ past) talks ≡ talks_on more (talks_on past talks)
-talks_on-append [] past talks = refl
-talks_on-append (entry ∷ more) past talks = ap (talks_entered entry) (talks_on-append more past talks)
-
 -- ---- they are those of the peers
 
 blank_if : (b : Bool) (x y : ChannelUse) → blank x ≡ blank y → blank (if b then x else y) ≡ blank y

@@ -28,10 +28,6 @@ abbrev pub new_member : (number room : ℕ) → MemberState
 new_member number room =
     record { number = number; room = room; has_left = false; is_put_out = false; line = None; queue = [] }
 
--- what waited is dropped
-abbrev pub without_queue : MemberState → MemberState
-without_queue member = record member { queue = [] }
-
 abbrev pub gone_member : MemberState → MemberState
 gone_member member = record member { has_left = true; queue = [] }
 

@@ -8,6 +8,7 @@ use Rattle.rtc_plain_ice.specs.Messages.{is_ice_message}
 use Rattle.rtc_plain_media.specs.declared.plain_media_event.PlainMediaEvent.{PlainMediaEvent}
 use Rattle.rtc_assoc.specs.Unread.{IsPrefix}
 use Rattle.rtc_assoc_state.specs.Outbox.{has_unacknowledged}
+use Rattle.rtc_peer_transport.specs.ChannelCalls.{open_stream_under}
 use Rattle.rtc_run_history.specs.Past.{steps_of}
 use Rattle.rtc_run_history.specs.Sides.{same_side, side_of}
 use Rattle.rtc_run_history.specs.declared.reply.Reply.{Reply}
@@ -15,8 +16,9 @@ use Rattle.rtc_run_history.specs.declared.side.Side.{Side}
 use Rattle.rtc_run_history.specs.declared.side.Side.TheVariants.{Left, Right}
 use Rattle.rtc_run_history.specs.declared.step.Step.{Step}
 use Rattle.rtc_run_laws.specs.ChannelUses.{ChannelUse}
-use Rattle.rtc_run_laws.specs.Delivered.{AreDelivering}
-use Rattle.rtc_run_laws.specs.InBandSteps.{AreInBandSteps}
+use Rattle.rtc_run_laws.specs.Delivered.{KeepsStream}
+use Rattle.rtc_run_laws.specs.InBandSteps.{AreInBandStepsAt}
+use Rattle.rtc_run_laws.specs.PlainPairs.{PlainPolled}
 use Rattle.rtc_run_laws.specs.SentMessages.{sent_over}
 use Rattle.rtc_run_laws.specs.SideDrains.{IsSideDrained}
 use Rattle.rtc_run_laws.specs.Unannounced.{HaveNumbersLeft, IsAnnouncedOver}
@@ -73,19 +75,18 @@ abbrev pub first_use : (channel : ℕ) → List ChannelUse → Option ChannelUse
 first_use channel [] = None
 first_use channel (x ∷ uses) = if x.channel == channel then Some x else first_use channel uses
 
--- The hub's end of a member's line: the channel that the hub found, as its peer announced it. It was opened in-band, as is each channel if
--- no step of the pair added one that is negotiated out-of-band.
-pub record IsHubEnd (line : Option ℕ) (steps : List Step) (hub : List ChannelUse) (x : ChannelUse) : Type 0 where
+-- The hub's end of a member's line: the channel that the hub found, as its peer announced it.
+pub record IsHubEnd (line : Option ℕ) (hub : List ChannelUse) (x : ChannelUse) : Type 0 where
   pub channel : ℕ
   pub line_is : line ≡ Some channel
   pub first : first_use channel hub ≡ Some x
-  pub in_band : AreInBandSteps steps ⊎ (x.in_band ≡ true)
 
--- Its two ends: the hub's, and the channel of the same stream and generation that the member's own peer announced, opened in-band too.
+-- Its two ends: the hub's, and the channel of the same stream and generation that the member's own peer announced. That was opened in-band
+-- too, as is each channel if no step of this peer added one that is negotiated out-of-band.
 pub record AreLineEnds (line : Option ℕ) (steps : List Step) (hub member : List ChannelUse) (x y : ChannelUse) : Type 0 where
-  pub hub_end : IsHubEnd line steps hub x
+  pub hub_end : IsHubEnd line hub x
   pub other : Member y member
-  pub other_in_band : AreInBandSteps steps ⊎ (y.in_band ≡ true)
+  pub other_in_band : AreInBandStepsAt Right steps ⊎ (y.in_band ≡ true)
   pub stream_is : y.stream ≡ x.stream
   pub generation_is : y.generation ≡ x.generation
 
@@ -106,12 +107,18 @@ sent_at alloc k past pair ran at =
 -- the hub's end of a member's line, and both ends, in the run of its pair
 abbrev pub IsHubEndOf : (alloc : Global) (k : ℕ) (past : List RoomEntry) (pair : PlainPairState) → MemberRan alloc k past pair
     → Option ℕ → (x : ChannelUse) → Type 0
-IsHubEndOf alloc k past pair ran line x = IsHubEnd line (steps_of (performed_of k past)) (uses_at alloc k past pair ran Left) x
+IsHubEndOf alloc k past pair ran line x = IsHubEnd line (uses_at alloc k past pair ran Left) x
 
 abbrev pub AreLineEndsOf : (alloc : Global) (k : ℕ) (past : List RoomEntry) (pair : PlainPairState) → MemberRan alloc k past pair
     → Option ℕ → (x y : ChannelUse) → Type 0
 AreLineEndsOf alloc k past pair ran line x y =
     AreLineEnds line (steps_of (performed_of k past)) (uses_at alloc k past pair ran Left) (uses_at alloc k past pair ran Right) x y
+
+-- both peers have the stream of a line still, and neither closed it; the member's end is open
+pub record KeepsLine (y : ChannelUse) (q : PlainPolled ℕ) (x : ChannelUse) (p : PlainPolled ℕ) : Type 0 where
+  pub reader : KeepsStream y q
+  pub there : open_stream_under y.channel q ≡ Some reader.stream
+  pub writer : KeepsStream x p
 
 -- a contiguous stretch of a list
 pub record IsStretch {A : Type 0} (part whole : List A) : Type 0 where
@@ -129,8 +136,8 @@ pub record IsHeardOver (heard : List LineMessage) (x : ChannelUse) (written : (s
 
 module _ (alloc : Global) (past : List RoomEntry) (room : RoomState) (went : RoomWent alloc past room) where
   -- What a member got of another one over its line is a prefix of what the hub heard of that one for it, and nothing if their rooms differ.
-  -- It got all of that if it has not left and was not put out, nothing waits for it, neither end of its line was closed, its own end is
-  -- open, the hub's end has no unacknowledged item of the stream, and the member's peer was drained.
+  -- A member received all that was heard, if: it has not left and was not put out; its queue is empty; neither end of its line was closed,
+  -- and its own is open; the hub has no unacknowledged item of the line; a poll of its own peer returned a timeout since its last input.
   pub record GetsOf (s m : ℕ) (listener : MemberState) (pair : PlainPairState) (ran : MemberRan alloc m past pair) : Type 0 where
     pub prefix : (x y : ChannelUse) → AreLineEndsOf alloc m past pair ran listener.line x y
         → IsPrefix (messages_from s y.got) (heard_for alloc s m past room went)
@@ -138,7 +145,7 @@ module _ (alloc : Global) (past : List RoomEntry) (room : RoomState) (went : Roo
         → AreLineEndsOf alloc m past pair ran listener.line x y → messages_from s y.got ≡ []
     pub all : listener.has_left ≡ false → listener.is_put_out ≡ false → listener.queue ≡ [] → (x y : ChannelUse)
         → AreLineEndsOf alloc m past pair ran listener.line x y → IsSideDrained Right (performed_of m past)
-        → (h : AreDelivering y pair.right x pair.left)
+        → (h : KeepsLine y pair.right x pair.left)
         → has_unacknowledged h.writer.stream pair.left.core.sctp.association.outbox.items ≡ false
         → messages_from s y.got ≡ heard_for alloc s m past room went
 

@@ -1,11 +1,16 @@
 -- Runs of rooms, and what they performed on the pair of each member.
-use Rattle.std.specs.Prelude.{◌≡◌, ◌==◌, if◌then◌else◌, ℕ, Bool, false, List, [], ◌∷◌, ◌++◌, Some, slice_get}
+use Rattle.std.specs.Prelude.{◌≡◌, ◌==◌, if◌then◌else◌, ℕ, Bool, false, List, [], ◌∷◌, ◌++◌, Option, Some, None}
+use Rattle.std.specs.Prelude.{slice_get}
 use Rattle.std.specs.declared.alloc.Global.{Global}
 use Rattle.rtc_plain_ice.specs.Messages.{is_ice_message}
 use Rattle.rtc_plain_media.specs.declared.plain_media_event.PlainMediaEvent.{PlainMediaEvent}
 use Rattle.rtc_run_history.specs.Past.{Entry}
 use Rattle.rtc_run_history.specs.Runs.{EntersSoundly, Went}
+use Rattle.rtc_run_history.specs.Sides.{same_side, side_of}
+use Rattle.rtc_run_history.specs.declared.side.Side.TheVariants.{Left}
 use Rattle.rtc_run.specs.ProgramPair.{PlainPairState, plain_parts}
+use Rattle.rtc_room_laws.specs.Hearing.{line_behind, outcome_outputs}
+use Rattle.rtc_room_laws.specs.Members.{MemberState}
 use Rattle.rtc_room_laws.specs.RoomSteps.{IsNewPairOf, RoomEntry, RoomState, TakesStep, empty_room}
 use Rattle.rtc_room_laws.specs.declared.room_reply.RoomReply.{RoomReply}
 use Rattle.rtc_room_laws.specs.declared.room_step.RoomStep.{RoomStep}
@@ -45,7 +50,18 @@ pub record MemberRan (alloc : Global) (k : ℕ) (past : List RoomEntry) (pair : 
   pub made : IsNewPairOf alloc k start
   pub went : Went (EntersSoundly plain_parts is_ice_message start) (λ fresh. fresh ≡ start) (performed_of k past) pair
 
--- A run by these steps, with these replies, which left these pairs.
+-- The line of a member behind a step of its pair, which left the pair so, and behind all its steps: by what the left peer announced, and
+-- by the configs of channels as each step left them.
+abbrev pub line_entered : Entry PlainMediaEvent → PlainPairState → Option ℕ → Option ℕ
+line_entered entry pair line =
+    if same_side (side_of entry.step) Left then line_behind pair.left line (outcome_outputs entry.outcome) else line
+
+abbrev pub line_along : (start : PlainPairState) (past : List (Entry PlainMediaEvent)) (pair : PlainPairState)
+    → Went (EntersSoundly plain_parts is_ice_message start) (λ fresh. fresh ≡ start) past pair → Option ℕ
+line_along start [] pair went = None
+line_along start (entry ∷ past) pair went = line_entered entry pair (line_along start past went.0 went.1)
+
+-- A run by these steps, with these replies, which left these pairs. The line of a member is that behind the steps of its pair.
 pub record RoomRuns (alloc : Global) (steps : List RoomStep) (replies : List RoomReply) (pairs : List PlainPairState) : Type 0 where
   pub past : List RoomEntry
   pub steps_are : room_steps past ≡ steps
@@ -54,3 +70,6 @@ pub record RoomRuns (alloc : Global) (steps : List RoomStep) (replies : List Roo
   pub went : RoomWent alloc past room
   pub pairs_are : room.pairs ≡ pairs
   pub members : (k : ℕ) (pair : PlainPairState) → slice_get pairs k ≡ Some pair → MemberRan alloc k past pair
+  pub lines : (k : ℕ) (pair : PlainPairState) (there : slice_get pairs k ≡ Some pair) (member : MemberState)
+      → slice_get room.members k ≡ Some member
+      → member.line ≡ line_along (members k pair there).start (performed_of k past) pair (members k pair there).went

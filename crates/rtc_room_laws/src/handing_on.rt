@@ -12,8 +12,9 @@ ghost use Rattle.rtc_room_laws.specs.RoomHandsOn.{RoomHandsOn};
 /// - What the one received of the other over its line is a prefix of what the hub heard of that one while both were in one room.
 /// - What the hub heard is a contiguous stretch of what that one wrote to the stream of its line.
 /// - Nothing is received of a member of another room.
-/// - A member that has not left and was not put out received all that was heard, if nothing waits for it, neither end of its line was
-///   closed, its own end is open, the hub has no unacknowledged item of the line, and its own peer was drained.
+/// - A member received all that was heard, if: it has not left and was not put out; its queue is empty; neither end of its line was
+///   closed, and its own is open; the hub has no unacknowledged item of the line; a poll of its own peer returned a timeout since its
+///   last input.
 pub fn rooms_hand_on()
     ensures { (alloc : Global) (steps : List RoomStep) (replies : List RoomReply) (pairs : List PlainPairState)
         (run : RoomRuns alloc steps replies pairs) → RoomHandsOn alloc steps replies pairs run }

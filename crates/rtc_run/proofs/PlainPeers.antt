@@ -97,15 +97,6 @@ pub record Makes (alloc : Global) (settings : PeerSettings) (cert : List ℕ) (f
   pub added : plain_ice.local_added built.ice (host_at addr) (Ok true) p.ice
   pub rest : p ≡ record built { ice = p.ice }
 
-pub program_peer : (alloc : Global) (settings : PeerSettings) (cert : List ℕ) (first : ℕ) (addr : Addr) (config : PeerConfig) (built p : PlainPeer)
-    → Makes alloc settings cert first addr config built p → IsProgramPeer alloc settings cert first addr p
-program_peer alloc settings cert first addr config built p h = record {
-  built = built;
-  by_build = subst (λ (c : PeerConfig). IsBuilt alloc c first built) h.config_is h.builds;
-  by_address = h.added;
-  rest = h.rest;
-}
-
 pub program_fresh : (alloc : Global) (settings : PeerSettings) (cert : List ℕ) (first : ℕ) (addr : Addr) (config : PeerConfig) (built p : PlainPeer)
     → Makes alloc settings cert first addr config built p → IsJustBuilt (stance_of plain_parts p)
 program_fresh alloc settings cert first addr config built p h =

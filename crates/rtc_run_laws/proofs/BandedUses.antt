@@ -147,7 +147,7 @@ module _ {I D S M E X T W N : Type 0} (m : Meanings I D S M E X T W N) (laws : P
 
   -- ---- each step, of a peer that is so
 
-  acted_band : (stun : List ℕ → Bool) (other own : Addr) (step : Step) (old : PolledPeer I D S M N) (sdps : List Kept) (packets : List SentPacket)
+  pub acted_band : (stun : List ℕ → Bool) (other own : Addr) (step : Step) (old : PolledPeer I D S M N) (sdps : List Kept) (packets : List SentPacket)
       (outcome : Outcome E) (table : Option Table) (new : PolledPeer I D S M N) (sdps' : List Kept) (packets' : List SentPacket)
       (a : Acts m stun other own step old sdps packets outcome table new sdps' packets') (uses : List ChannelUse) → SideBanded m old
       → AllUses IsInBandUse uses

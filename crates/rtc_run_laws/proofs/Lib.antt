@@ -333,3 +333,13 @@ mod ToldEntries
 mod ToldEvents
 mod SidesInOne
 mod ToldInOne
+mod OutOpenings
+mod OutRows
+mod OutEntries
+pub mod FirstBands
+mod OutUses
+pub mod AnnouncedBands
+pub mod OutRuns
+pub mod SoundSteps
+mod OwnBands
+pub mod OwnBandRuns

@@ -17,7 +17,7 @@ use Rattle.rtc_run_laws.proofs.OwnSides.{settled_own, settled_parted, settled_wa
 use Rattle.rtc_run_laws.proofs.RoleSides.{settled_sides}
 use Rattle.rtc_run_laws.proofs.ConfirmedPairs.{settled_due_none, settled_wants_none}
 use Rattle.rtc_run_laws.proofs.BandedRuns.{settled_in_band}
-use Rattle.rtc_run_laws.proofs.SettledInBand.{settled_all}
+use Rattle.rtc_run_laws.proofs.SettledInBand.{settled_all, settled_all_open}
 
 module _ {N : Type 0} (draws : Draws N) where
   pub run_settles_open : (stun : List ℕ → Bool) (start pair : PlainPair N) (steps : List Step) (replies : List (Reply PlainMediaEvent))
@@ -51,6 +51,9 @@ module _ {N : Type 0} (draws : Draws N) where
         in_band = λ none steps settled at s.
             settled_in_band draws stun start run.past pair go ran new none
             (subst (λ (l : List Step). AreInBandSteps l) (sym run.steps_are) steps) settled at s;
+        open_in_band = λ none steps settled at.
+            settled_all_open draws stun start run.past pair go ran new none
+            (subst (λ (l : List Step). AreInBandSteps l) (sym run.steps_are) steps) settled at;
         all_in_band = λ none steps settled at later.
             settled_all draws stun start run.past pair go ran new none
             (subst (λ (l : List Step). AreInBandSteps l) (sym run.steps_are) steps) settled at later;

@@ -142,7 +142,7 @@ module _ {S : Type 0} (m : AssociationMeaning S) where
   awaiting_id true config p e q e' h = marked_id e e' h.2
   awaiting_id false config p e q e' h = takes_id config p e q e' h
 
-  over_id : (st : StreamEntryState) (config : ChannelConfig) (p : S) (e : StreamEntry) (q : S) (e' : StreamEntry) → OpensOver m st config p e (Ok tt) q e'
+  pub over_id : (st : StreamEntryState) (config : ChannelConfig) (p : S) (e : StreamEntry) (q : S) (e' : StreamEntry) → OpensOver m st config p e (Ok tt) q e'
       → e'.id ≡ e.id
   over_id AwaitConfig config p e q e' h = awaiting_id (is_some e.config) config p e q e' h
   over_id AwaitOpen config p e q e' h = marked_id e e' h.2
@@ -271,7 +271,7 @@ module _ {S : Type 0} (m : AssociationMeaning S) where
   threshold_kept n (Some place) p q h =
       let e' : StreamEntry = record h.0 { threshold = threshold_set n h.0.threshold } in
       kept_on p.entries (slice_set p.entries place e') q.entries
-      (kept_set p.entries place h.0 e' h.1 (record { id_is = refl; stands = λ k. k; shut = λ k. k; banded = λ k. k; opening = λ k. k }))
+      (kept_set p.entries place h.0 e' h.1 (record { id_is = refl; stands = λ k. k; shut = λ k. k; band_is = refl; opening = λ k. k }))
       (kept_is (slice_set p.entries place e') q.entries (ap (λ (y : SctpStreams S). y.entries) h.2))
 
   pub threshold_state : (n : ℕ) (place : Option ℕ) (p q : SctpStreams S) → SetsThreshold S n place p q → q.state ≡ p.state

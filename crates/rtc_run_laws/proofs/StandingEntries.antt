@@ -19,6 +19,13 @@ use Rattle.rtc_run_laws.proofs.StandingVisits.{IsStanding}
 abbrev pub HasStanding : (stream : ℕ) → List StreamEntry → Type 0
 HasStanding s es = HasEntryOf IsStanding s es
 
+-- a stream that was settled by other means than messages has one
+abbrev pub IsOutStanding : StreamEntry → Type 0
+IsOutStanding e = IsStanding e × (is_out_of_band e ≡ true)
+
+abbrev pub HasOutStanding : (stream : ℕ) → List StreamEntry → Type 0
+HasOutStanding s es = HasEntryOf IsOutStanding s es
+
 -- no entry is closed
 abbrev pub NoneClosed : List StreamEntry → Type 0
 NoneClosed [] = Unit {0}
@@ -32,6 +39,7 @@ AreBanded (e ∷ es) = (is_out_of_band e ≡ false) × AreBanded es
 -- entries that go on so: none is opened from here that was not before, and they stay in order
 pub record Kept (es es' : List StreamEntry) : Type 0 where
   pub stands : (s : ℕ) → HasStanding s es → HasStanding s es'
+  pub outs : (s : ℕ) → HasOutStanding s es → HasOutStanding s es'
   pub shut : NoneClosed es → NoneClosed es'
   pub banded : AreBanded es → AreBanded es'
   pub openings : (s : ℕ) → HasOpening s es' → HasOpening s es
@@ -40,6 +48,7 @@ pub record Kept (es es' : List StreamEntry) : Type 0 where
 pub kept_is : (es es' : List StreamEntry) → es' ≡ es → Kept es es'
 kept_is es es' is = record {
   stands = λ s h. subst (λ (l : List StreamEntry). HasStanding s l) (sym is) h;
+  outs = λ s h. subst (λ (l : List StreamEntry). HasOutStanding s l) (sym is) h;
   shut = λ h. subst (λ (l : List StreamEntry). NoneClosed l) (sym is) h;
   banded = λ h. subst (λ (l : List StreamEntry). AreBanded l) (sym is) h;
   openings = λ s h. subst (λ (l : List StreamEntry). HasOpening s l) is h;
@@ -49,6 +58,7 @@ kept_is es es' is = record {
 pub kept_on : (es fs gs : List StreamEntry) → Kept es fs → Kept fs gs → Kept es gs
 kept_on es fs gs h k = record {
   stands = λ s x. k.stands s (h.stands s x);
+  outs = λ s x. k.outs s (h.outs s x);
   shut = λ x. k.shut (h.shut x);
   banded = λ x. k.banded (h.banded x);
   openings = λ s x. h.openings s (k.openings s x);
@@ -63,18 +73,18 @@ pub record EntryKept (e e' : StreamEntry) : Type 0 where
   pub id_is : e'.id ≡ e.id
   pub stands : IsStanding e → IsStanding e'
   pub shut : (e.state ≡ Closed → ⊥) → e'.state ≡ Closed → ⊥
-  pub banded : is_out_of_band e ≡ false → is_out_of_band e' ≡ false
+  pub band_is : is_out_of_band e' ≡ is_out_of_band e
   pub opening : IsOpeningState e'.state → IsOpeningState e.state
 
-stands_set : (s : ℕ) (es : List StreamEntry) (i : ℕ) (e e' : StreamEntry) → slice_get es i ≡ Some e → EntryKept e e' → HasStanding s es
-    → HasStanding s (slice_set es i e')
-stands_set s [] i e e' at k h = absurd h
-stands_set s (x ∷ xs) zero e e' at k (inl h) =
-    let same = sym (same_Some x e at) in
-    inl (k.id_is ∙ (ap (λ (y : StreamEntry). y.id) same ∙ h.0), k.stands (subst (λ (y : StreamEntry). IsStanding y) (sym same) h.1))
-stands_set s (x ∷ xs) zero e e' at k (inr h) = inr h
-stands_set s (x ∷ xs) (suc i) e e' at k (inl h) = inl h
-stands_set s (x ∷ xs) (suc i) e e' at k (inr h) = inr (stands_set s xs i e e' at k h)
+pub has_set : (P : StreamEntry → Type 0) (s : ℕ) (es : List StreamEntry) (i : ℕ) (e e' : StreamEntry) → slice_get es i ≡ Some e → e'.id ≡ e.id → (P e → P e')
+    → HasEntryOf P s es → HasEntryOf P s (slice_set es i e')
+has_set P s [] i e e' at id keeps h = absurd h
+has_set P s (x ∷ xs) zero e e' at id keeps (inl h) =
+    let same = same_Some x e at in
+    inl (id ∙ (ap (λ (y : StreamEntry). y.id) (sym same) ∙ h.0), keeps (subst P same h.1))
+has_set P s (x ∷ xs) zero e e' at id keeps (inr h) = inr h
+has_set P s (x ∷ xs) (suc i) e e' at id keeps (inl h) = inl h
+has_set P s (x ∷ xs) (suc i) e e' at id keeps (inr h) = inr (has_set P s xs i e e' at id keeps h)
 
 shut_set : (es : List StreamEntry) (i : ℕ) (e e' : StreamEntry) → slice_get es i ≡ Some e → EntryKept e e' → NoneClosed es
     → NoneClosed (slice_set es i e')
@@ -85,7 +95,7 @@ shut_set (x ∷ xs) (suc i) e e' at k h = (h.0, shut_set xs i e e' at k h.1)
 banded_set : (es : List StreamEntry) (i : ℕ) (e e' : StreamEntry) → slice_get es i ≡ Some e → EntryKept e e' → AreBanded es
     → AreBanded (slice_set es i e')
 banded_set [] i e e' at k h = absurd (no_entry e at)
-banded_set (x ∷ xs) zero e e' at k h = (k.banded (subst (λ (y : StreamEntry). is_out_of_band y ≡ false) (same_Some x e at) h.0), h.1)
+banded_set (x ∷ xs) zero e e' at k h = (k.band_is ∙ subst (λ (y : StreamEntry). is_out_of_band y ≡ false) (same_Some x e at) h.0, h.1)
 banded_set (x ∷ xs) (suc i) e e' at k h = (h.0, banded_set xs i e e' at k h.1)
 
 openings_set : (s : ℕ) (es : List StreamEntry) (i : ℕ) (e e' : StreamEntry) → slice_get es i ≡ Some e → EntryKept e e'
@@ -100,7 +110,8 @@ openings_set s (x ∷ xs) (suc i) e e' at k (inr h) = inr (openings_set s xs i e
 
 pub kept_set : (es : List StreamEntry) (i : ℕ) (e e' : StreamEntry) → slice_get es i ≡ Some e → EntryKept e e' → Kept es (slice_set es i e')
 kept_set es i e e' at k = record {
-  stands = λ s h. stands_set s es i e e' at k h;
+  stands = λ s h. has_set IsStanding s es i e e' at k.id_is k.stands h;
+  outs = λ s h. has_set IsOutStanding s es i e e' at k.id_is (λ x. (k.stands x.0, k.band_is ∙ x.1)) h;
   shut = λ h. shut_set es i e e' at k h;
   banded = λ h. banded_set es i e e' at k h;
   openings = λ s h. openings_set s es i e e' at k h;
@@ -108,10 +119,11 @@ kept_set es i e e' at k = record {
 }
 
 -- one is put in
-stands_between : (s : ℕ) (xs : List StreamEntry) (e : StreamEntry) (ys : List StreamEntry) → HasStanding s (xs ++ ys) → HasStanding s (xs ++ e ∷ ys)
-stands_between s [] e ys h = inr h
-stands_between s (x ∷ xs) e ys (inl h) = inl h
-stands_between s (x ∷ xs) e ys (inr h) = inr (stands_between s xs e ys h)
+has_between : (P : StreamEntry → Type 0) (s : ℕ) (xs : List StreamEntry) (e : StreamEntry) (ys : List StreamEntry) → HasEntryOf P s (xs ++ ys)
+    → HasEntryOf P s (xs ++ e ∷ ys)
+has_between P s [] e ys h = inr h
+has_between P s (x ∷ xs) e ys (inl h) = inl h
+has_between P s (x ∷ xs) e ys (inr h) = inr (has_between P s xs e ys h)
 
 shut_between : (xs : List StreamEntry) (e : StreamEntry) (ys : List StreamEntry) → (e.state ≡ Closed → ⊥) → NoneClosed (xs ++ ys)
     → NoneClosed (xs ++ e ∷ ys)
@@ -123,9 +135,12 @@ banded_between : (xs : List StreamEntry) (e : StreamEntry) (ys : List StreamEntr
 banded_between [] e ys f h = (f, h)
 banded_between (x ∷ xs) e ys f h = (h.0, banded_between xs e ys f h.1)
 
+pub has_insert : (P : StreamEntry → Type 0) (s : ℕ) (es : List StreamEntry) (i : ℕ) (e : StreamEntry) → HasEntryOf P s es → HasEntryOf P s (insert es i e)
+has_insert P s es i e h =
+    has_between P s (take i es) e (drop i es) (subst (λ (l : List StreamEntry). HasEntryOf P s l) (sym (take-append-drop i es)) h)
+
 pub stands_insert : (s : ℕ) (es : List StreamEntry) (i : ℕ) (e : StreamEntry) → HasStanding s es → HasStanding s (insert es i e)
-stands_insert s es i e h =
-    stands_between s (take i es) e (drop i es) (subst (λ (l : List StreamEntry). HasStanding s l) (sym (take-append-drop i es)) h)
+stands_insert s es i e h = has_insert IsStanding s es i e h
 
 pub shut_insert : (es : List StreamEntry) (i : ℕ) (e : StreamEntry) → (e.state ≡ Closed → ⊥) → NoneClosed es → NoneClosed (insert es i e)
 shut_insert es i e f h =
@@ -174,16 +189,17 @@ is_not_closed AwaitDcepAck h k = let clash : AwaitDcepAck ≡ Closed = k in cc
 is_not_closed Open h k = let clash : Open ≡ Closed = k in cc
 is_not_closed Closed h k = let clash : false ≡ true = h in cc
 
-stands_unclosed : (s : ℕ) (es : List StreamEntry) → HasStanding s es → HasStanding s (unclosed es)
-stands_unclosed s [] h = absurd h
-stands_unclosed s (x ∷ xs) (inl h) = by (not (is_closed_state x.state)) (not_closed x.state h.1.0)
+has_unclosed : (P : StreamEntry → Type 0) → ((e : StreamEntry) → P e → e.state ≡ Closed → ⊥) → (s : ℕ) (es : List StreamEntry) → HasEntryOf P s es
+    → HasEntryOf P s (unclosed es)
+has_unclosed P live s [] h = absurd h
+has_unclosed P live s (x ∷ xs) (inl h) = by (not (is_closed_state x.state)) (not_closed x.state (live x h.1))
   where
-    by : (b : Bool) → b ≡ true → HasStanding s (cond b (x ∷ unclosed xs) (unclosed xs))
+    by : (b : Bool) → b ≡ true → HasEntryOf P s (cond b (x ∷ unclosed xs) (unclosed xs))
     by true e = inl h
     by false e = let clash : false ≡ true = e in cc
-stands_unclosed s (x ∷ xs) (inr h) = by (not (is_closed_state x.state)) (stands_unclosed s xs h)
+has_unclosed P live s (x ∷ xs) (inr h) = by (not (is_closed_state x.state)) (has_unclosed P live s xs h)
   where
-    by : (b : Bool) → HasStanding s (unclosed xs) → HasStanding s (cond b (x ∷ unclosed xs) (unclosed xs))
+    by : (b : Bool) → HasEntryOf P s (unclosed xs) → HasEntryOf P s (cond b (x ∷ unclosed xs) (unclosed xs))
     by true k = inr k
     by false k = k
 
@@ -214,7 +230,8 @@ openings_unclosed s (x ∷ xs) h = by (not (is_closed_state x.state)) h (opening
 
 pub kept_unclosed : (es : List StreamEntry) → Kept es (unclosed es)
 kept_unclosed es = record {
-  stands = λ s h. stands_unclosed s es h;
+  stands = λ s h. has_unclosed IsStanding (λ e k. k.0) s es h;
+  outs = λ s h. has_unclosed IsOutStanding (λ e k. k.0.0) s es h;
   shut = λ h. shut_unclosed es;
   banded = λ h. banded_unclosed es h;
   openings = λ s h. openings_unclosed s es h;
@@ -234,6 +251,7 @@ kept_expected : (place : Option ℕ) (id : ℕ) (es : List StreamEntry) → entr
 kept_expected (Some place) id es at = kept_is es es refl
 kept_expected None id es at = record {
   stands = λ s h. stands_insert s es (new_place id es) (new_entry id AwaitConfig None) h;
+  outs = λ s h. has_insert IsOutStanding s es (new_place id es) (new_entry id AwaitConfig None) h;
   shut = λ h. shut_insert es (new_place id es) (new_entry id AwaitConfig None) (λ c. config_closed c) h;
   banded = λ h. banded_insert es (new_place id es) (new_entry id AwaitConfig None) refl h;
   openings = λ s h. by s (openings_insert s es (new_place id es) (new_entry id AwaitConfig None) h);
@@ -245,10 +263,10 @@ kept_expected None id es at = record {
     by s (inr h) = absurd (config_not h.1)
 
 pub marked_kept : (e : StreamEntry) → EntryKept e (record e { marked = true })
-marked_kept e = record { id_is = refl; stands = λ h. (h.0, λ c. refl); shut = λ h. h; banded = λ h. h; opening = λ h. h }
+marked_kept e = record { id_is = refl; stands = λ h. (h.0, λ c. refl); shut = λ h. h; band_is = refl; opening = λ h. h }
 
 finished_kept : (b : Bool) (e : StreamEntry) → EntryKept e (if b then e else record e { marked = true })
-finished_kept true e = record { id_is = refl; stands = λ h. h; shut = λ h. h; banded = λ h. h; opening = λ h. h }
+finished_kept true e = record { id_is = refl; stands = λ h. h; shut = λ h. h; band_is = refl; opening = λ h. h }
 finished_kept false e = marked_kept e
 
 kept_finished : (place : Option ℕ) (es es' : List StreamEntry) → FinishesAt place es es' → Kept es es'

@@ -1,5 +1,5 @@
 -- The rest of a visit: an entry past its opening is attended, and a message that opens its channel is taken up.
-use Rattle.std.proofs.Common.{◌≡◌, inl, ℕ, Bool, true, false, List, Option, Some, None, refl, ap}
+use Rattle.std.proofs.Common.{◌≡◌, ◌∙◌, inl, ℕ, Bool, true, false, List, Option, Some, None, refl, ap}
 use Rattle.std.specs.Prelude.{is_some}
 use Rattle.rtc_wire.specs.declared.channel_config.ChannelConfig.{ChannelConfig}
 use Rattle.rtc_parts.specs.declared.ppi.Ppi.{Ppi}
@@ -27,17 +27,17 @@ use Rattle.rtc_sctp_entries.specs.Visits.{TakenUpBy, TakesUp, TakenAs, TakesDcep
 use Rattle.rtc_run_laws.proofs.StandingVisits.{Goes, IsAs, IsSilent, as_is, by_turn, closes, marks, opens, opens_entry, resting, starves, takes_ack}
 
 -- the config that an open message gives is of no other means
-given_banded : (own : Option ChannelConfig) (config : ChannelConfig) → is_some config.negotiated ≡ false
-    → is_some (config_or_fresh own).negotiated ≡ false → is_some (config_or_fresh (given_config own config)).negotiated ≡ false
-given_banded None config h k = h
-given_banded (Some own) config h k = k
+given_band : (own : Option ChannelConfig) (config : ChannelConfig) → is_some config.negotiated ≡ false
+    → is_some (config_or_fresh (given_config own config)).negotiated ≡ is_some (config_or_fresh own).negotiated
+given_band None config h = h
+given_band (Some own) config h = refl
 
 module _ {S : Type 0} (m : AssociationMeaning S) (e : StreamEntry) where
   -- an open message
   acknowledged_by : (answer : Asked) (label : List ℕ) (t : Turn S) (met : Met) (t' : Turn S) → IsAs e t.entry → AcknowledgedBy m answer label t met t'
       → Goes met e t'.entry
   acknowledged_by did.Done label t met t' k h =
-      by_turn m e (Output (event.Open t.entry.id label)) _ met t' h.0 h.1 (opens m e label _ k.id_is refl k.banded)
+      by_turn m e (Output (event.Open t.entry.id label)) _ met t' h.0 h.1 (opens m e label _ k.id_is refl k.band_is)
   acknowledged_by did.Refused label t met t' k h = closes m e t met t' k h
   acknowledged_by did.OutOfMemory label t met t' k h = starves m e t met t' k h
 
@@ -61,8 +61,7 @@ module _ {S : Type 0} (m : AssociationMeaning S) (e : StreamEntry) where
         id_is = k.id_is;
         state_is = k.state_is;
         marked_is = k.marked_is;
-        banded = λ x.
-            given_banded t.entry.config config (ap (λ (c : ChannelConfig). is_some c.negotiated) reads.2) (k.banded x);
+        band_is = given_band t.entry.config config (ap (λ (c : ChannelConfig). is_some c.negotiated) reads.2) ∙ k.band_is;
       }) h
   taken_as bytes read.Malformed t met t' k reads h = marks m e t met t' k h
   taken_as bytes read.OutOfMemory t met t' k reads h = starves m e t met t' k h
@@ -100,7 +99,7 @@ module _ {S : Type 0} (m : AssociationMeaning S) (e : StreamEntry) where
   configured n t met t' k is same =
       by_turn m e Again _ met t' is same
       (as_is m e Again (record t.entry { threshold = Configured n }) (record { opens = λ s told. told; closes = λ s told. told })
-      (record { id_is = k.id_is; state_is = k.state_is; marked_is = k.marked_is; banded = k.banded }))
+      (record { id_is = k.id_is; state_is = k.state_is; marked_is = k.marked_is; band_is = k.band_is }))
 
   handed : (answer : Asked) (n : ℕ) (t : Turn S) (met : Met) (t' : Turn S) → IsAs e t.entry → HandedBy m answer n t met t' → Goes met e t'.entry
   handed did.Done n t met t' k h = configured n t met t' k h.0 h.1
@@ -133,4 +132,4 @@ module _ {S : Type 0} (m : AssociationMeaning S) where
   pub visit_goes : (now : ℕ) (t : Turn S) (met : Met) (t' : Turn S) → Visits m now t met t' → Goes met t.entry t'.entry
   visit_goes now t met t' h =
       visits_in m t.entry t.entry.state now t met t'
-      (record { id_is = refl; state_is = refl; marked_is = refl; banded = λ x. x }) refl h
+      (record { id_is = refl; state_is = refl; marked_is = refl; band_is = refl }) refl h

@@ -12,11 +12,12 @@ use Rattle.rtc_sctp_laws.specs.StreamUses.{TellsStreamOpen}
 use Rattle.rtc_run_laws.specs.OwnOpenings.{HasEntryOf, HasOpening, IsOpeningState}
 use Rattle.rtc_run_laws.proofs.StandingVisits.{IsStanding, TellsStreamClosed, Goes, closed_not}
 use Rattle.rtc_run_laws.proofs.StandingReadings.{visit_goes}
-use Rattle.rtc_run_laws.proofs.StandingEntries.{HasStanding, AreBanded}
+use Rattle.rtc_run_laws.proofs.StandingEntries.{AreBanded, HasOutStanding, HasStanding, IsOutStanding}
 
 -- What is told to be open, or closed, is of a stream among them; what is told to be closed is not opened from here then.
 pub record TourGoes (met : Met) (es es' : List StreamEntry) : Type 0 where
   pub stands : (s : ℕ) → HasStanding s es → HasStanding s es' ⊎ TellsStreamClosed met s
+  pub outs : (s : ℕ) → HasOutStanding s es → HasOutStanding s es' ⊎ TellsStreamClosed met s
   pub banded : AreBanded es → AreBanded es'
   pub openings : (s : ℕ) → HasOpening s es' → HasOpening s es
   pub tells_open : (s : ℕ) → TellsStreamOpen met s → HasStanding s es'
@@ -24,7 +25,7 @@ pub record TourGoes (met : Met) (es es' : List StreamEntry) : Type 0 where
   pub shut : (s low : ℕ) → TellsStreamClosed met s → AscendFrom low es → HasOpening s es' → ⊥
 
 -- no entry is of a stream with a lower number than each
-least_entry : (P : StreamEntry → Type 0) (s low : ℕ) (es : List StreamEntry) → AscendFrom low es → HasEntryOf P s es → low ≤ s
+pub least_entry : (P : StreamEntry → Type 0) (s low : ℕ) (es : List StreamEntry) → AscendFrom low es → HasEntryOf P s es → low ≤ s
 least_entry P s low [] h k = absurd k
 least_entry P s low (e ∷ es) h (inl k) = omega (arith, h.0, k.0)
 least_entry P s low (e ∷ es) h (inr k) = let up = least_entry P s (e.id + 1) es h.1 k in omega (arith, h.0, up)
@@ -34,11 +35,20 @@ open_stands : (s : ℕ) (e : StreamEntry) → (e.id ≡ s) × (e.state ≡ Open)
 open_stands s e h =
     (h.0, ((λ c. let clash : Open ≡ Closed = sym h.1 ∙ c in cc), λ c. absurd (let clash : Open ≡ AwaitConfig = sym h.1 ∙ c in cc)))
 
+-- one that was settled by other means stays so
+out_goes : (met : Met) (e e' : StreamEntry) → Goes met e e' → IsOutStanding e → IsOutStanding e' ⊎ TellsStreamClosed met e.id
+out_goes met e e' k h = by (k.stands h.0)
+  where
+    by : IsStanding e' ⊎ TellsStreamClosed met e.id → IsOutStanding e' ⊎ TellsStreamClosed met e.id
+    by (inl stands) = inl (stands, k.band_is ∙ h.1)
+    by (inr told) = inr told
+
 -- the first gives something
 stopped : (met : Met) (e e' : StreamEntry) (es : List StreamEntry) → Goes met e e' → TourGoes met (e ∷ es) (e' ∷ es)
 stopped met e e' es k = record {
-  stands = by;
-  banded = λ h. (k.banded h.0, h.1);
+  stands = λ s h. by IsStanding k.stands s h;
+  outs = λ s h. by IsOutStanding (out_goes met e e' k) s h;
+  banded = λ h. (k.band_is ∙ h.0, h.1);
   openings = λ s h. opened s h;
   tells_open = λ s told. inl (open_stands s e' (k.tells_open s told));
   tells_closed = λ s told. inl (sym k.id_is ∙ (k.tells_closed s told).0, tt);
@@ -54,19 +64,21 @@ stopped met e e' es k = record {
     none s low told h (inr opening) =
         let up = least_entry (λ x. IsOpeningState x.state) s (e.id + 1) es h.1 opening in omega (arith, up, k.id_is, told.0)
 
-    first : (s : ℕ) → e.id ≡ s → IsStanding e' ⊎ TellsStreamClosed met e.id → HasStanding s (e' ∷ es) ⊎ TellsStreamClosed met s
-    first s same (inl h) = inl (inl (k.id_is ∙ same, h))
-    first s same (inr told) = inr (subst (λ (n : ℕ). TellsStreamClosed met n) same told)
+    first : (P : StreamEntry → Type 0) (s : ℕ) → e.id ≡ s → P e' ⊎ TellsStreamClosed met e.id → HasEntryOf P s (e' ∷ es) ⊎ TellsStreamClosed met s
+    first P s same (inl h) = inl (inl (k.id_is ∙ same, h))
+    first P s same (inr told) = inr (subst (λ (n : ℕ). TellsStreamClosed met n) same told)
 
-    by : (s : ℕ) → HasStanding s (e ∷ es) → HasStanding s (e' ∷ es) ⊎ TellsStreamClosed met s
-    by s (inl h) = first s h.0 (k.stands h.1)
-    by s (inr h) = inl (inr h)
+    by : (P : StreamEntry → Type 0) → (P e → P e' ⊎ TellsStreamClosed met e.id) → (s : ℕ) → HasEntryOf P s (e ∷ es)
+        → HasEntryOf P s (e' ∷ es) ⊎ TellsStreamClosed met s
+    by P goes s (inl h) = first P s h.0 (goes h.1)
+    by P goes s (inr h) = inl (inr h)
 
 -- it gives nothing, and the others are visited
 went_on : (met : Met) (e e' : StreamEntry) (es tail : List StreamEntry) → Goes Nothing e e' → TourGoes met es tail → TourGoes met (e ∷ es) (e' ∷ tail)
 went_on met e e' es tail k rest = record {
-  stands = by;
-  banded = λ h. (k.banded h.0, rest.banded h.1);
+  stands = λ s h. by IsStanding k.stands rest.stands s h;
+  outs = λ s h. by IsOutStanding (out_goes Nothing e e' k) rest.outs s h;
+  banded = λ h. (k.band_is ∙ h.0, rest.banded h.1);
   openings = λ s h. opened s h;
   tells_open = λ s told. inr (rest.tells_open s told);
   tells_closed = λ s told. inr (rest.tells_closed s told);
@@ -82,17 +94,19 @@ went_on met e e' es tail k rest = record {
         let up = least_entry (λ x. Unit {0}) s (e.id + 1) es h.1 (rest.tells_closed s told) in omega (arith, up, k.id_is, opening.0)
     none s low told h (inr opening) = rest.shut s (e.id + 1) told h.1 opening
 
-    first : (s : ℕ) → e.id ≡ s → IsStanding e' ⊎ TellsStreamClosed Nothing e.id → HasStanding s (e' ∷ tail) ⊎ TellsStreamClosed met s
-    first s same (inl h) = inl (inl (k.id_is ∙ same, h))
-    first s same (inr told) = absurd told
+    first : (P : StreamEntry → Type 0) (s : ℕ) → e.id ≡ s → P e' ⊎ TellsStreamClosed Nothing e.id → HasEntryOf P s (e' ∷ tail) ⊎ TellsStreamClosed met s
+    first P s same (inl h) = inl (inl (k.id_is ∙ same, h))
+    first P s same (inr told) = absurd told
 
-    others : (s : ℕ) → HasStanding s tail ⊎ TellsStreamClosed met s → HasStanding s (e' ∷ tail) ⊎ TellsStreamClosed met s
-    others s (inl h) = inl (inr h)
-    others s (inr told) = inr told
+    others : (P : StreamEntry → Type 0) (s : ℕ) → HasEntryOf P s tail ⊎ TellsStreamClosed met s → HasEntryOf P s (e' ∷ tail) ⊎ TellsStreamClosed met s
+    others P s (inl h) = inl (inr h)
+    others P s (inr told) = inr told
 
-    by : (s : ℕ) → HasStanding s (e ∷ es) → HasStanding s (e' ∷ tail) ⊎ TellsStreamClosed met s
-    by s (inl h) = first s h.0 (k.stands h.1)
-    by s (inr h) = others s (rest.stands s h)
+    by : (P : StreamEntry → Type 0) → (P e → P e' ⊎ TellsStreamClosed Nothing e.id)
+        → ((s : ℕ) → HasEntryOf P s es → HasEntryOf P s tail ⊎ TellsStreamClosed met s) → (s : ℕ) → HasEntryOf P s (e ∷ es)
+        → HasEntryOf P s (e' ∷ tail) ⊎ TellsStreamClosed met s
+    by P goes others_go s (inl h) = first P s h.0 (goes h.1)
+    by P goes others_go s (inr h) = others P s (others_go s h)
 
 tour_is : (r met : Met) (es fs es' : List StreamEntry) → met ≡ r → es' ≡ fs → TourGoes r es fs → TourGoes met es es'
 tour_is r met es fs es' is same h =
@@ -118,6 +132,7 @@ module _ {S : Type 0} (m : AssociationMeaning S) where
       tour_is Nothing met [] [] es' h.0 h.3
       (record {
         stands = λ s x. absurd x;
+        outs = λ s x. absurd x;
         banded = λ x. tt;
         openings = λ s x. absurd x;
         tells_open = λ s told. absurd told;

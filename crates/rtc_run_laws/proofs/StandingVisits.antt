@@ -1,5 +1,5 @@
--- An entry whose opening is begun stays so by a visit, unless this tells that its stream is closed; and no visit settles a stream by other
--- means than messages.
+-- An entry whose opening is begun stays so by a visit, unless this tells that its stream is closed; and no visit changes whether a stream
+-- was settled by other means than messages.
 use Rattle.std.proofs.Common.{◌≡◌, ◌⊎◌, inl, inr, ℕ, Bool, true, false, List, Option, Some, None, refl, sym, subst, ◌∙◌}
 use Rattle.rtc_parts.specs.AssociationMeaning.{AssociationMeaning}
 use Rattle.rtc_sctp_entries.specs.declared.asked.Asked.{Asked}
@@ -37,7 +37,7 @@ pub record IsSilent (met : Met) : Type 0 where
 pub record Goes (met : Met) (e e' : StreamEntry) : Type 0 where
   pub id_is : e'.id ≡ e.id
   pub stands : IsStanding e → IsStanding e' ⊎ TellsStreamClosed met e.id
-  pub banded : is_out_of_band e ≡ false → is_out_of_band e' ≡ false
+  pub band_is : is_out_of_band e' ≡ is_out_of_band e
   pub opening : IsOpeningState e'.state → IsOpeningState e.state
   pub tells_open : (s : ℕ) → TellsStreamOpen met s → (e'.id ≡ s) × (e'.state ≡ Open)
   pub tells_closed : (s : ℕ) → TellsStreamClosed met s → (e'.id ≡ s) × (e'.state ≡ Closed)
@@ -47,7 +47,7 @@ pub record IsAs (e f : StreamEntry) : Type 0 where
   pub id_is : f.id ≡ e.id
   pub state_is : f.state ≡ e.state
   pub marked_is : f.marked ≡ e.marked
-  pub banded : is_out_of_band e ≡ false → is_out_of_band f ≡ false
+  pub band_is : is_out_of_band f ≡ is_out_of_band e
 
 pub as_standing : (e f : StreamEntry) → IsAs e f → IsStanding e → IsStanding f
 as_standing e f k h = ((λ c. h.0 (sym k.state_is ∙ c)), λ c. k.marked_is ∙ h.1 (sym k.state_is ∙ c))
@@ -95,7 +95,7 @@ module _ {S : Type 0} (m : AssociationMeaning S) (e : StreamEntry) where
   as_is r f silent k = record {
     id_is = k.id_is;
     stands = λ h. inl (as_standing e f k h);
-    banded = k.banded;
+    band_is = k.band_is;
     opening = λ h. same_opening e.state f.state k.state_is h;
     tells_open = λ s told. absurd (silent.opens s told);
     tells_closed = λ s told. absurd (silent.closes s told);
@@ -108,7 +108,7 @@ module _ {S : Type 0} (m : AssociationMeaning S) (e : StreamEntry) where
       (record {
         id_is = k.id_is;
         stands = λ x. inl (marked_standing e f k x);
-        banded = k.banded;
+        band_is = k.band_is;
         opening = λ h. same_opening e.state f.state k.state_is h;
         tells_open = λ s told. absurd told;
         tells_closed = λ s told. absurd told;
@@ -125,7 +125,7 @@ module _ {S : Type 0} (m : AssociationMeaning S) (e : StreamEntry) where
   tells_close f resets k = record {
     id_is = k.id_is;
     stands = λ x. inr k.id_is;
-    banded = k.banded;
+    band_is = k.band_is;
     opening = λ h. absurd (closed_not Closed refl h);
     tells_open = λ s told. absurd told;
     tells_closed = λ s told. (told, refl);
@@ -141,12 +141,12 @@ module _ {S : Type 0} (m : AssociationMeaning S) (e : StreamEntry) where
   closes t met t' k (Ended answer q asks h) = closed_by answer (record t { association = q }) met t' k h
 
   -- it is open
-  pub opens : (label : List ℕ) (f : StreamEntry) → f.id ≡ e.id → f.state ≡ Open → (is_out_of_band e ≡ false → is_out_of_band f ≡ false)
+  pub opens : (label : List ℕ) (f : StreamEntry) → f.id ≡ e.id → f.state ≡ Open → is_out_of_band f ≡ is_out_of_band e
       → Goes (Output (event.Open f.id label)) e f
-  opens label f id state banded = record {
+  opens label f id state band = record {
     id_is = id;
     stands = λ x. inl ((λ c. open_closed (sym state ∙ c)), λ c. absurd (open_config (sym state ∙ c)));
-    banded = banded;
+    band_is = band;
     opening = λ h. absurd (open_not f.state state h);
     tells_open = λ s told. (told, state);
     tells_closed = λ s told. absurd told;
@@ -158,7 +158,7 @@ module _ {S : Type 0} (m : AssociationMeaning S) (e : StreamEntry) where
   settles f (Output told) f' k h =
       subst (λ (o : SctpEvent). Goes (Output o) e f') (sym h.0)
       (subst (λ (y : StreamEntry). Goes (Output (event.Open f.id (config_or_fresh f.config).label)) e y) (sym h.1)
-      (opens (config_or_fresh f.config).label (record f { state = Open }) k.id_is refl k.banded))
+      (opens (config_or_fresh f.config).label (record f { state = Open }) k.id_is refl k.band_is))
   settles f OutOfMemory f' k h = subst (λ (y : StreamEntry). Goes OutOfMemory e y) (sym h) (as_is OutOfMemory f starving k)
 
   pub takes_ack : (bytes : List ℕ) (f : StreamEntry) (met : Met) (f' : StreamEntry) → IsAs e f → TakesAck bytes f met f' → Goes met e f'
@@ -175,7 +175,7 @@ module _ {S : Type 0} (m : AssociationMeaning S) (e : StreamEntry) where
       (record {
         id_is = k.id_is;
         stands = λ x. inl ((λ c. ack_closed c), λ c. absurd (ack_config c));
-        banded = k.banded;
+        band_is = k.band_is;
         opening = λ h. o;
         tells_open = λ s told. absurd told;
         tells_closed = λ s told. absurd told;
@@ -218,7 +218,7 @@ module _ {S : Type 0} (m : AssociationMeaning S) (e : StreamEntry) where
   retried_at now None t met t' k o h =
       by_turn Nothing _ met t' h.0 h.1
       (as_is Nothing (record t.entry { refused = Some now }) resting
-      (record { id_is = k.id_is; state_is = k.state_is; marked_is = k.marked_is; banded = k.banded }))
+      (record { id_is = k.id_is; state_is = k.state_is; marked_is = k.marked_is; band_is = k.band_is }))
   retried_at now (Some first) t met t' k o h = retried_if (is_opening_over first now) t met t' k o h
 
   adopted_if : (b : Bool) (now : ℕ) (t : Turn S) (met : Met) (t' : Turn S) → IsAs e t.entry → IsOpeningState e.state

@@ -5,6 +5,7 @@ use Rattle.rtc_parts.specs.declared.assoc_event.AssocEvent.{AssocEvent}
 use Rattle.rtc_parts.specs.declared.assoc_event.AssocEvent.TheVariants as assoc
 use Rattle.rtc_parts.specs.AssociationMeaning.{AssociationMeaning}
 use Rattle.rtc_parts.specs.AssociationLaws.{AssociationLaws}
+use Rattle.rtc_sctp_entries.specs.declared.stream_entry.StreamEntry.{StreamEntry}
 use Rattle.rtc_sctp_entries.specs.declared.sctp_event.SctpEvent.{SctpEvent}
 use Rattle.rtc_sctp_entries.specs.declared.sctp_event.SctpEvent.TheVariants as event
 use Rattle.rtc_sctp_entries.specs.declared.met.Met.{Met}
@@ -17,9 +18,9 @@ use Rattle.rtc_sctp.proofs.OrderKept.{tour_ascend}
 use Rattle.rtc_sctp_laws.specs.StreamMessages.{met_of}
 use Rattle.rtc_sctp_laws.specs.StreamUses.{TellsStreamOpen}
 use Rattle.rtc_sctp_laws.proofs.PollActs.{met_by}
-use Rattle.rtc_run_laws.specs.OwnOpenings.{HasOpening}
-use Rattle.rtc_run_laws.proofs.StandingVisits.{IsSilent, TellsStreamClosed, resting, starving}
-use Rattle.rtc_run_laws.proofs.StandingEntries.{HasStanding, NoneClosed, AreBanded, Kept, kept_is, kept_after, kept_unclosed}
+use Rattle.rtc_run_laws.specs.OwnOpenings.{HasEntryOf, HasOpening}
+use Rattle.rtc_run_laws.proofs.StandingVisits.{IsSilent, IsStanding, TellsStreamClosed, resting, starving}
+use Rattle.rtc_run_laws.proofs.StandingEntries.{HasOutStanding, HasStanding, IsOutStanding, NoneClosed, AreBanded, Kept, kept_is, kept_after, kept_unclosed}
 use Rattle.rtc_run_laws.proofs.StandingTours.{tour_goes}
 
 -- no entry is closed before the association is begun
@@ -28,6 +29,7 @@ IsShutBefore p = p.state ≡ Uninited → NoneClosed p.entries
 
 pub record StreamsGo {S : Type 0} (met : Met) (p q : SctpStreams S) : Type 0 where
   pub stands : (s : ℕ) → HasStanding s p.entries → HasStanding s q.entries ⊎ TellsStreamClosed met s
+  pub outs : (s : ℕ) → HasOutStanding s p.entries → HasOutStanding s q.entries ⊎ TellsStreamClosed met s
   pub before : IsShutBefore p → IsShutBefore q
   pub banded : AreBanded p.entries → AreBanded q.entries
   pub openings : (s : ℕ) → HasOpening s q.entries → HasOpening s p.entries
@@ -40,6 +42,7 @@ pub go_kept : {S : Type 0} (met : Met) (p q : SctpStreams S) → IsSilent met �
     → q.client ≡ p.client → StreamsGo met p q
 go_kept met p q silent k back side = record {
   stands = λ s h. inl (k.stands s h);
+  outs = λ s h. inl (k.outs s h);
   before = λ h e. k.shut (h (back e));
   banded = k.banded;
   openings = k.openings;
@@ -58,7 +61,8 @@ go_same {S} met p n q silent is entries state side =
 pub go_on : {S : Type 0} (own met : Met) (p b q : SctpStreams S) → ((s : ℕ) → TellsStreamClosed own s → ⊥) → StreamsGo own p b → StreamsGo met b q
     → StreamsGo met p q
 go_on own met p b q silent h k = record {
-  stands = λ s x. by s (h.stands s x);
+  stands = λ s x. by IsStanding k.stands s (h.stands s x);
+  outs = λ s x. by IsOutStanding k.outs s (h.outs s x);
   before = λ x. k.before (h.before x);
   banded = λ x. k.banded (h.banded x);
   openings = λ s x. h.openings s (k.openings s x);
@@ -68,9 +72,10 @@ go_on own met p b q silent h k = record {
   side = k.side ∙ h.side;
 }
   where
-    by : (s : ℕ) → HasStanding s b.entries ⊎ TellsStreamClosed own s → HasStanding s q.entries ⊎ TellsStreamClosed met s
-    by s (inl x) = k.stands s x
-    by s (inr told) = absurd (silent s told)
+    by : (P : StreamEntry → Type 0) → ((s : ℕ) → HasEntryOf P s b.entries → HasEntryOf P s q.entries ⊎ TellsStreamClosed met s) → (s : ℕ)
+        → HasEntryOf P s b.entries ⊎ TellsStreamClosed own s → HasEntryOf P s q.entries ⊎ TellsStreamClosed met s
+    by P goes s (inl x) = goes s x
+    by P goes s (inr told) = absurd (silent s told)
 
 -- an event
 after_begun : (e : AssocEvent) (b b' : Book) → AfterEvent e b b' → b'.state ≡ Uninited → b.state ≡ Uninited
@@ -153,6 +158,7 @@ module _ {S : Type 0} (m : AssociationMeaning S) where
       let tour = tour_goes m p.last p.entries p.association p.resets met q.association q.resets q.entries h.0 in
       record {
         stands = tour.stands;
+        outs = tour.outs;
         before = λ x e.
             absurd
             (not_before (is_established p.state) (m.started p.association) is

@@ -2,6 +2,8 @@
 use Rattle.std.specs.Prelude.{◌≡◌, List, [], ◌∷◌, None}
 use Rattle.rtc_run_history.specs.declared.op.Op.{Op}
 use Rattle.rtc_run_history.specs.declared.op.Op.TheVariants.{AddChannel}
+use Rattle.rtc_run_history.specs.Sides.{side_of}
+use Rattle.rtc_run_history.specs.declared.side.Side.{Side}
 use Rattle.rtc_run_history.specs.declared.step.Step.{Step}
 use Rattle.rtc_run_history.specs.declared.step.Step.TheVariants.{Negotiate}
 
@@ -19,3 +21,8 @@ IsInBandStep step = Unit {0}
 abbrev pub AreInBandSteps : List Step → Type 0
 AreInBandSteps [] = Unit {0}
 AreInBandSteps (step ∷ steps) = IsInBandStep step × AreInBandSteps steps
+
+-- so it is for each step of one side
+abbrev pub AreInBandStepsAt : Side → List Step → Type 0
+AreInBandStepsAt at [] = Unit {0}
+AreInBandStepsAt at (step ∷ steps) = (side_of step ≡ at → IsInBandStep step) × AreInBandStepsAt at steps

@@ -111,6 +111,12 @@ AreOpenAtBoth draws uses p others q =
     → AreKeptUses stream uses p others q
     → IsOpenAtBoth draws channel uses p others q
 
+-- each channel of one side that is open is open at both
+abbrev pub AreAllOpenAtBoth : {N : Type 0} → Draws N → (uses : List ChannelUse) → PlainPolled N → (others : List ChannelUse)
+    → PlainPolled N → Type 0
+AreAllOpenAtBoth draws uses p others q =
+    (channel stream : ℕ) → open_stream_under channel p ≡ Some stream → IsOpenAtBoth draws channel uses p others q
+
 -- the open message for a stream waits for its acknowledgement
 abbrev pub WaitsForAnswer : (stream : ℕ) → List StreamEntry → Type 0
 WaitsForAnswer stream entries = HasEntryOf (λ entry. entry.state ≡ AwaitDcepAck) stream entries
@@ -223,8 +229,9 @@ AreAllConfirmedOpen draws confirmed uses p others q =
 
 -- What holds of both sides if a run by these steps with these replies left the pair settled. A channel that is open at one side is open at
 -- both (`opened`). So is a confirmed one, if nothing is due for the channels of its side (`due_none`). These ask that no channel over the
--- stream was negotiated out-of-band or rolled back; `all_in_band` asks only that no step added a channel that is negotiated out-of-band,
--- and that the pair kept no session description before. `refused`, `confirmed` and `later` are about streams for which one was.
+-- stream was negotiated out-of-band or rolled back; `open_in_band` and `all_in_band` ask only that no step added a channel that is
+-- negotiated out-of-band, and that the pair kept no session description before. `refused`, `confirmed` and `later` are about streams for
+-- which one was.
 pub record SettlesOpen {N : Type 0} (draws : Draws N) (stun : List ℕ → Bool) (start : PlainPair N) (steps : List Step)
     (replies : List (Reply PlainMediaEvent)) (pair : PlainPair N) (run : Runs (plain_over draws) stun start steps replies pair)
     : Type 0 where
@@ -255,6 +262,9 @@ pub record SettlesOpen {N : Type 0} (draws : Draws N) (stun : List ℕ → Bool)
   pub in_band : start.sdps ≡ [] → AreInBandSteps steps → IsSettledPair run.past pair → (at : Side) (stream : ℕ)
       → AreInBandStreams stream (rtc_at at pair) (rtc_at (other_side at) pair)
       × AreInBandChannels stream (rtc_at at pair) (rtc_at (other_side at) pair)
+  pub open_in_band : start.sdps ≡ [] → AreInBandSteps steps → IsSettledPair run.past pair → (at : Side)
+      → AreAllOpenAtBoth draws (uses_in_run (plain_over draws) stun start steps replies pair run at) (rtc_at at pair)
+      (uses_in_run (plain_over draws) stun start steps replies pair run (other_side at)) (rtc_at (other_side at) pair)
   pub all_in_band : start.sdps ≡ [] → AreInBandSteps steps → IsSettledPair run.past pair → (at : Side) → HasNothingDue at run.past pair
       → AreAllConfirmedOpen draws
       (λ channel. WasConfirmed (plain_over draws) stun start at channel run.past pair

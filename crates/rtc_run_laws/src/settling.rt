@@ -15,7 +15,7 @@ ghost use Rattle.rtc_run_laws.specs.NewPairs.{IsNewPair};
 ghost use Rattle.rtc_run_laws.specs.PlainPairs.{PlainPair, plain_over};
 ghost use Rattle.rtc_run_laws.specs.ConfirmedChannels.{WasConfirmed};
 ghost use Rattle.rtc_run_laws.specs.InBandSteps.{AreInBandSteps};
-ghost use Rattle.rtc_run_laws.specs.SettledPairs.{AreAllConfirmedOpen, AreInBandChannels, AreInBandStreams};
+ghost use Rattle.rtc_run_laws.specs.SettledPairs.{AreAllConfirmedOpen, AreAllOpenAtBoth, AreInBandChannels, AreInBandStreams};
 ghost use Rattle.rtc_run_laws.specs.SettledPairs.{AreAnswered, AreConfirmedInBand, AreConfirmedOpen, AreConfirmedSettled};
 ghost use Rattle.rtc_run_laws.specs.SettledPairs.{AreOnSides, AreOpenAtBoth, AreOwnOpenings, OpenNoneBoth};
 ghost use Rattle.rtc_run_laws.specs.SettledPairs.{HasNothingDue, HasNothingSoon, IsLevelStream, IsSettledPair, SettlesOpen, WaitsNone};
@@ -42,7 +42,7 @@ use rtc_parts::Ids;
 ///
 /// These say nothing of a stream for which a channel was negotiated out-of-band, but by `refused`, `confirmed` and `later`,
 /// nor of one over which a side rolled back a channel that it had announced, in the generation that the stream has. With
-/// in-band channels alone (`all_in_band`) no confirmed channel is such an exception.
+/// in-band channels alone (`open_in_band`, `all_in_band`) there is no such exception.
 ///
 /// No step brings in a text or bytes of anybody.
 pub fn settled_pairs_have_open_channels<N: Ids>()
@@ -112,6 +112,12 @@ pub fn settled_pairs_have_open_channels<N: Ids>()
         → (at : Side) (stream : ℕ)
         → AreInBandStreams stream (rtc_at at pair) (rtc_at (other_side at) pair)
         × AreInBandChannels stream (rtc_at at pair) (rtc_at (other_side at) pair) }
+    ensures open_in_band { (stun : List ℕ → Bool) (start pair : PlainPair N) (past : List (Entry PlainMediaEvent)) → IsNewPair N.ids start
+        → are_native (steps_of past) ≡ true
+        → start.sdps ≡ [] → (ran : Reached (plain_over N.ids) stun start past pair) → AreInBandSteps (steps_of past)
+        → IsSettledPair past pair → (at : Side)
+        → AreAllOpenAtBoth N.ids (uses_of (plain_over N.ids) stun start at past pair ran) (rtc_at at pair)
+        (uses_of (plain_over N.ids) stun start (other_side at) past pair ran) (rtc_at (other_side at) pair) }
     ensures all_in_band { (stun : List ℕ → Bool) (start pair : PlainPair N) (past : List (Entry PlainMediaEvent)) → IsNewPair N.ids start
         → are_native (steps_of past) ≡ true
         → start.sdps ≡ [] → (ran : Reached (plain_over N.ids) stun start past pair) → AreInBandSteps (steps_of past)

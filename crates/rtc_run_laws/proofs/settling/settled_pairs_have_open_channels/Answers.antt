@@ -3,7 +3,7 @@ use Rattle.rtc_run_laws.proofs.RoleSides.{settled_sides}
 use Rattle.rtc_run_laws.proofs.SettlesRuns.{run_settles_open}
 use Rattle.rtc_run_laws.proofs.ConfirmedPairs.{settled_due_none, settled_wants_none}
 use Rattle.rtc_run_laws.proofs.BandedRuns.{settled_in_band}
-use Rattle.rtc_run_laws.proofs.SettledInBand.{settled_all}
+use Rattle.rtc_run_laws.proofs.SettledInBand.{settled_all, settled_all_open}
 use Rattle.rtc_run_laws.proofs.SettledRuns.{settled_answered, settled_confirmed, settled_idle, settled_later, settled_level, settled_open, settled_refused}
 use Rattle.rtc_run_laws.proofs.settling.settled_pairs_have_open_channels.Goals as goal
 
@@ -60,6 +60,10 @@ returns-clause-due_none g c = λ stun start pair past new go ran settled at late
 pub returns-clause-in_band : goal.returns-clause-in_band
 returns-clause-in_band g c = λ stun start pair past new go none ran steps settled at s.
     settled_in_band g.N.Ids.ids stun start past pair go ran new none steps settled at s
+
+pub returns-clause-open_in_band : goal.returns-clause-open_in_band
+returns-clause-open_in_band g c = λ stun start pair past new go none ran steps settled at.
+    settled_all_open g.N.Ids.ids stun start past pair go ran new none steps settled at
 
 pub returns-clause-all_in_band : goal.returns-clause-all_in_band
 returns-clause-all_in_band g c = λ stun start pair past new go none ran steps settled at later.
