@@ -1,10 +1,11 @@
 -- What a handler keeps fits together after each of its calls.
-use Rattle.std.proofs.Common.{◌≡◌, ◌+◌, ◌<◌, ◌≤◌, ◌==◌, ℕ, Bool, false, suc, zero, cond, List, [], ◌∷◌, ◌++◌, length, get_or, refl, ap, sym, ◌∙◌, arith, Option, Some, None}
+use Rattle.std.proofs.Common.{◌≡◌, ◌+◌, ◌<◌, ◌≤◌, ◌==◌, ℕ, false, suc, zero, cond, List, [], ◌∷◌, ◌++◌, length, get_or, refl, ap, sym, ◌∙◌, arith, Option, Some, None}
 use Rattle.std.specs.Prelude.{slice_set, remove, is_some, nat_lt, ◌||◌}
 use Rattle.std.specs.BTreeMap.{BTreeMap, is_at}
 use Rattle.std.specs.Map.{lookup}
 use Rattle.std.specs.Ordering.{nat_cmp}
 use Rattle.rtc_wire.specs.declared.channel_config.ChannelConfig.{ChannelConfig}
+use Rattle.rtc_wire.proofs.ChannelConfigLemmas.{both_fit}
 use Rattle.rtc_channels.specs.declared.kept.Kept.{Kept}
 use Rattle.rtc_channels.specs.declared.grants.Grant.{Grant}
 use Rattle.rtc_channels.specs.Channels.{channel_of_stream}
@@ -77,7 +78,7 @@ module _ (given : ℕ) (rows : List (ℕ × Option ℕ)) (kept : List Kept) (gra
     owners = handled.owners;
     unshared = handled.unshared;
     count = handled.count;
-    short = short_set kept place (kept_config config own) (label, protocol) handled.short;
+    short = short_set kept place (kept_config config own) (both_fit config label protocol) handled.short;
   }
 
   -- a config is taken

@@ -9,7 +9,7 @@ use Rattle.rtc_sctp.specs.Streams.{SctpStreams}
 use Rattle.rtc_sctp.specs.Calls.{streams_wake}
 use Rattle.rtc_sctp.specs.Polls.{PollsStreams}
 use Rattle.rtc_channels.specs.Channels.{Channel, Channels}
-use Rattle.rtc_channels.specs.Openings.{can_be_opened, can_open, OpensChannel, OpensAll, Following, Progresses, MeetsMoment, opens_streams, opening_wake, channels_wake}
+use Rattle.rtc_channels.specs.Openings.{can_be_opened, can_open, OpensChannel, OpensAll, Following, MeetsMoment, opens_streams, opening_wake, channels_wake}
 use Rattle.rtc_channels.specs.Narrowing.{LeavesPolls, LeavesDeadlines}
 
 or_left : (a b : Bool) → (a || b) ≡ false → a ≡ false

@@ -34,6 +34,7 @@ use Rattle.std.specs.List.{list_any}
 use Rattle.std.specs.declared.alloc.AllocError.{AllocError}
 use Rattle.std.specs.BTreeMap.{BTreeMap}
 use Rattle.rtc_wire.specs.declared.channel_config.ChannelConfig.{ChannelConfig}
+use Rattle.rtc_wire.proofs.ChannelConfigLemmas.{label_fits, protocol_fits}
 use Rattle.rtc_parts.specs.AssociationMeaning.{AssociationMeaning}
 use Rattle.rtc_ready.specs.Signals.{Signals}
 use Rattle.rtc_channels.specs.Ids.{parity_of}
@@ -252,4 +253,5 @@ module _ {S : Type 0} (m : AssociationMeaning S) (held : Channels) (p : SctpStre
 pub short_config : (kept : List Kept) (i : ℕ) (own : Kept) (config : ChannelConfig) → own ≡ get_or kept i own → i < length kept → FitOpenMessages kept → own.config ≡ Some config
     → (length config.label ≤ 65535) × (length config.protocol ≤ 65535)
 short_config kept i own config at within short has =
-    subst (λ (c : Option ChannelConfig). FitsOpenMessage c) has (subst (λ (k : Kept). FitsOpenMessage k.config) (sym at) (short_at kept i own within short))
+    let fits = subst (λ (c : Option ChannelConfig). FitsOpenMessage c) has (subst (λ (k : Kept). FitsOpenMessage k.config) (sym at) (short_at kept i own within short)) in
+    (label_fits config fits, protocol_fits config fits)

@@ -1,34 +1,9 @@
 -- The channels of a peer, in order of their numbers (RFC 8831, section 6.4).
-use Rattle.std.specs.Prelude.{
-  ◌≡◌,
-  ◌+◌,
-  ◌-◌,
-  ◌<◌,
-  ◌≤◌,
-  ◌^◌,
-  ◌==◌,
-  ◌||◌,
-  nat_lt,
-  ℕ,
-  Bool,
-  true,
-  false,
-  List,
-  [],
-  ◌∷◌,
-  ◌++◌,
-  length,
-  map,
-  if◌then◌else◌,
-  Option,
-  Some,
-  None,
-  Result,
-  Ok,
-  Err,
-}
+use Rattle.std.specs.Prelude.{◌≡◌, ◌+◌, ◌-◌, ◌<◌, ◌≤◌, ◌^◌, ◌==◌, ◌||◌, ℕ, Bool, true, false, List, [], ◌∷◌, ◌++◌, if◌then◌else◌}
+use Rattle.std.specs.Prelude.{Option, Some, None, Result, Ok, Err}
 use Rattle.std.specs.List.{list_any}
 use Rattle.rtc_wire.specs.declared.channel_config.ChannelConfig.{ChannelConfig}
+use Rattle.rtc_wire.specs.ChannelConfig.{is_overlong}
 use Rattle.rtc_channels.specs.declared.channel_error.ChannelError.{ChannelError}
 use Rattle.rtc_channels.specs.declared.channel_error.ChannelError.TheVariants.{BadChannel, Alloc}
 
@@ -72,10 +47,6 @@ is_claimed stream channels = list_any (λ channel. is_of_stream stream channel.s
 abbrev pub claims_again : Option ℕ → List Channel → Bool
 claims_again None channels = false
 claims_again (Some stream) channels = is_claimed stream channels
-
--- an open message has two bytes for the length of a label or protocol (RFC 8832, section 5.1)
-abbrev pub is_overlong : List ℕ → Bool
-is_overlong text = nat_lt 65535 (length text)
 
 -- whether no channel can be made of a config
 abbrev pub is_bad_channel : Channels → ChannelConfig → Bool

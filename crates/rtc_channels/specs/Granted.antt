@@ -1,28 +1,10 @@
 -- What a map keeps of streams: the channel that each was given to, and its holds. No public clause cites this file.
-use Rattle.std.specs.Prelude.{
-  ◌≡◌,
-  ◌+◌,
-  ◌≤◌,
-  ℕ,
-  zero,
-  suc,
-  Bool,
-  List,
-  [],
-  ◌∷◌,
-  length,
-  Option,
-  Some,
-  None,
-  is_some,
-  slice_get,
-  nat_lt,
-  ◌||◌,
-  if◌then◌else◌,
-}
+use Rattle.std.specs.Prelude.{◌≡◌, true, ◌+◌, ◌≤◌, ℕ, zero, suc, Bool, List, [], ◌∷◌, length, Option, Some}
+use Rattle.std.specs.Prelude.{None, is_some, slice_get, nat_lt, ◌||◌, if◌then◌else◌}
 use Rattle.std.specs.BTreeMap.{BTreeMap, get}
 use Rattle.std.specs.Ordering.{nat_cmp}
 use Rattle.rtc_wire.specs.declared.channel_config.ChannelConfig.{ChannelConfig}
+use Rattle.rtc_wire.specs.ChannelConfig.{fits_open_message}
 use Rattle.rtc_channels.specs.declared.grants.Grant.{Grant}
 use Rattle.rtc_channels.specs.declared.kept.Kept.{Kept}
 use Rattle.rtc_channels.specs.Channels.{channel_of_stream}
@@ -78,7 +60,7 @@ holds_of grants = holds_from (holds_at grants) 0 65536
 -- a config fits an open message
 abbrev pub FitsOpenMessage : Option ChannelConfig → Type 0
 FitsOpenMessage None = Unit {0}
-FitsOpenMessage (Some config) = (length config.label ≤ 65535) × (length config.protocol ≤ 65535)
+FitsOpenMessage (Some config) = fits_open_message config ≡ true
 
 abbrev pub FitOpenMessages : List Kept → Type 0
 FitOpenMessages [] = Unit {0}

@@ -6,7 +6,6 @@ ghost use Rattle.rtc_channels.specs.Channels.{
   confirmed,
   has_channel as HasChannel,
   is_bad_channel as IsBadChannel,
-  is_overlong as IsOverlong,
   numbered_stream,
   channel_of_stream,
   stream_of_channel,
@@ -17,17 +16,10 @@ use crate::grants::{Grants, owner_of};
 use crate::kept::{Kept, find_place, find_stream, is_claimed};
 use crate::pools::Pools;
 use crate::settled::settled_before;
-use rtc_wire::{ChannelConfig, ChannelId, DCEP_MAX_TEXT_SIZE, Text};
+use rtc_wire::{ChannelConfig, ChannelId, is_overlong};
 use std::alloc::Global;
 use std::collections::BTreeMap;
 use std::marker::Model;
-
-/// Whether a label or protocol is too long for an open message (RFC 8832, section 5.1).
-pub fn is_overlong(text: &Text) -> bool
-    ensures { result ≡ IsOverlong text.now }
-{
-    text.as_str().len() > DCEP_MAX_TEXT_SIZE
-}
 
 // The number of the next channel, by how many were given.
 pub(crate) fn next_channel(given: u64) -> ChannelId

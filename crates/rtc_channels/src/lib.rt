@@ -16,7 +16,7 @@ mod progress;
 mod settled;
 
 pub use channel_error::ChannelError;
-pub use channel_handler::{ChannelHandler, is_overlong};
+pub use channel_handler::ChannelHandler;
 pub use channel_row::ChannelRow;
 pub use free_ids::FreeIds;
 pub use narrowing::narrowed_moments_leave;

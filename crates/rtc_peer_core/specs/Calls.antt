@@ -1,32 +1,10 @@
 -- What each call of a peer that stages or applies changes does: one relation a call, of the peer before, the arguments, the result and the
 -- peer after.
-use Rattle.std.specs.Prelude.{
-  ◌≡◌,
-  ◌+◌,
-  ◌%◌,
-  ◌^◌,
-  ℕ,
-  Bool,
-  true,
-  false,
-  List,
-  [],
-  ◌∷◌,
-  ◌++◌,
-  ◌||◌,
-  codes,
-  filter,
-  not,
-  is_some,
-  Option,
-  Some,
-  None,
-  Result,
-  Ok,
-  Err,
-}
+use Rattle.std.specs.Prelude.{◌≡◌, ◌+◌, ◌%◌, ◌^◌, ℕ, Bool, true, false, List, [], ◌∷◌, ◌++◌, codes, filter, not, is_some, Option}
+use Rattle.std.specs.Prelude.{Some, None, Result, Ok, Err}
 use Rattle.std.specs.declared.alloc.AllocError.{AllocError}
 use Rattle.rtc_wire.specs.declared.channel_config.ChannelConfig.{ChannelConfig}
+use Rattle.rtc_wire.specs.ChannelConfig.{fits_open_message}
 use Rattle.rtc_sdp_values.specs.declared.direction.Direction.{Direction}
 use Rattle.rtc_sdp_values.specs.declared.direction.Direction.TheVariants.{Inactive}
 use Rattle.rtc_sdp_values.specs.declared.ice_creds.IceCreds.{IceCreds}
@@ -34,7 +12,7 @@ use Rattle.rtc_sdp_values.specs.declared.line_row.LineRow.{LineRow}
 use Rattle.rtc_sdp_values.specs.declared.media_kind.MediaKind.{MediaKind}
 use Rattle.rtc_sdp_values.specs.declared.sdp.Sdp.{Sdp}
 use Rattle.rtc_sdp_values.specs.declared.simulcast.Simulcast.{Simulcast}
-use Rattle.rtc_channels.specs.Channels.{is_overlong, is_bad_channel, with_channel, all_confirmed}
+use Rattle.rtc_channels.specs.Channels.{is_bad_channel, with_channel, all_confirmed}
 use Rattle.rtc_change.specs.declared.add_media.AddMedia.{AddMedia as Media}
 use Rattle.rtc_change.specs.declared.change.Change.{Change}
 use Rattle.rtc_change.specs.declared.change.Change.TheVariants.{AddMedia, AddChannel, Direction as SetDirection}
@@ -114,13 +92,9 @@ SetsDirection p mid dir result q = ChangesLine (directed_row dir) dir p mid resu
 abbrev pub StopsMedia : {I D S M N : Type 0} → Peer I D S M N → List ℕ → Result Bool AllocError → Peer I D S M N → Type 0
 StopsMedia p mid result q = ChangesLine stopped_row Inactive p mid result q
 
--- whether an open message has room for the label and the protocol of a channel (RFC 8832, section 5.1)
-abbrev pub fits_open : ChannelConfig → Bool
-fits_open config = not (is_overlong config.label || is_overlong config.protocol)
-
 -- the channels that changes add, but those that no open message has room for; a peer stages none of these
 abbrev pub fitting_channels : List Change → List (ℕ × ChannelConfig)
-fitting_channels changes = filter (λ channel. fits_open channel.1) (new_channels changes)
+fitting_channels changes = filter (λ channel. fits_open_message channel.1) (new_channels changes)
 
 -- the peer once channels alone were applied: they are confirmed, and the counter is raised; nothing happens if nothing is staged
 abbrev pub after_channels_alone : {I D S M N : Type 0} → List Change → Peer I D S M N → Peer I D S M N

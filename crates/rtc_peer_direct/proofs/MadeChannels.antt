@@ -4,7 +4,8 @@ use Rattle.std.specs.Prelude.{nat_lt}
 use Rattle.std.proofs.lemmas.Bool.Decides.{nat_tests}
 use Rattle.std.proofs.lemmas.List.Folds.{list_any-append}
 use Rattle.rtc_wire.specs.declared.channel_config.ChannelConfig.{ChannelConfig}
-use Rattle.rtc_channels.specs.Channels.{Channels, has_channel_id, has_channel, is_bad_channel, is_overlong, unconfirmed, with_channel}
+use Rattle.rtc_wire.specs.ChannelConfig.{is_overlong}
+use Rattle.rtc_channels.specs.Channels.{Channels, has_channel_id, has_channel, is_bad_channel, unconfirmed, with_channel}
 
 last_is_there : (b : Bool) (id : ℕ) → (b || ((id == id) || false)) ≡ true
 last_is_there true id = refl

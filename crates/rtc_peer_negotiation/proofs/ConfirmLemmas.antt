@@ -1,14 +1,14 @@
 -- Channels that are confirmed one after another.
-use Rattle.std.proofs.Common.{◌≡◌, ◌≤◌, ◌∙◌, ◌||◌, not, ℕ, Bool, true, false, List, [], ◌∷◌, ◌++◌, length, refl, ap, arith}
-use Rattle.std.specs.Prelude.{filter, nat_lt}
-use Rattle.std.proofs.lemmas.Bool.Decides.{nat_tests}
+use Rattle.std.proofs.Common.{◌≡◌, ◌∙◌, ℕ, Bool, true, false, List, [], ◌∷◌, ◌++◌, refl, ap}
+use Rattle.std.specs.Prelude.{filter}
 use Rattle.std.proofs.lemmas.List.Elements.{filter-append}
 use Rattle.rtc_wire.specs.declared.channel_config.ChannelConfig.{ChannelConfig}
+use Rattle.rtc_wire.specs.ChannelConfig.{fits_open_message}
 use Rattle.rtc_change.specs.declared.change.Change.{Change}
 use Rattle.rtc_change.specs.declared.change.Change.TheVariants.{AddMedia, AddApp, AddChannel, Direction, IceRestart}
 use Rattle.rtc_change.specs.PendingOffer.{new_channels}
-use Rattle.rtc_channels.specs.Channels.{Channel, Channels, is_overlong, has_channel_id, has_channel, confirmed, all_confirmed, rows_confirmed}
-use Rattle.rtc_peer_core.specs.Calls.{fits_open, fitting_channels}
+use Rattle.rtc_channels.specs.Channels.{Channel, Channels, has_channel_id, has_channel, confirmed, all_confirmed, rows_confirmed}
+use Rattle.rtc_peer_core.specs.Calls.{fitting_channels}
 
 -- where a number is no row's, nothing is confirmed
 rows_missed : (id : ℕ) (config : ChannelConfig) (rows : List Channel) → has_channel id rows ≡ false → rows_confirmed id config rows ≡ rows
@@ -38,28 +38,13 @@ new_channels-append (IceRestart creds keeps ∷ first) rest = new_channels-appen
 pub confirmed_more : (first rest : List Change) (held : Channels) → all_confirmed (fitting_channels (first ++ rest)) held ≡ all_confirmed (fitting_channels rest) (all_confirmed (fitting_channels first) held)
 confirmed_more first rest held =
     ap (λ (channels : List (ℕ × ChannelConfig)). all_confirmed channels held)
-    (ap (filter (λ channel. fits_open channel.1)) (new_channels-append first rest) ∙ filter-append (λ channel. fits_open channel.1) (new_channels first) (new_channels rest))
+    (ap (filter (λ channel. fits_open_message channel.1)) (new_channels-append first rest) ∙ filter-append (λ channel. fits_open_message channel.1) (new_channels first) (new_channels rest))
     ∙ all_confirmed-append (fitting_channels first) (fitting_channels rest) held
 
 -- a channel that no open message has room for
-pub unfitting : (id : ℕ) (config : ChannelConfig) (held : Channels) → fits_open config ≡ false → all_confirmed (fitting_channels (AddChannel id config ∷ [])) held ≡ held
+pub unfitting : (id : ℕ) (config : ChannelConfig) (held : Channels) → fits_open_message config ≡ false → all_confirmed (fitting_channels (AddChannel id config ∷ [])) held ≡ held
 unfitting id config held overlong = rw overlong refl
 
 -- a channel that there is room for
-pub fitting : (id : ℕ) (config : ChannelConfig) (held : Channels) → fits_open config ≡ true → all_confirmed (fitting_channels (AddChannel id config ∷ [])) held ≡ confirmed id config held
+pub fitting : (id : ℕ) (config : ChannelConfig) (held : Channels) → fits_open_message config ≡ true → all_confirmed (fitting_channels (AddChannel id config ∷ [])) held ≡ confirmed id config held
 fitting id config held room = rw room refl
-
-no_longer : (n : ℕ) → nat_lt 65535 n ≡ false → n ≤ 65535
-no_longer n h = grind (arith, nat_tests)
-
-neither : (a b : Bool) → not (a || b) ≡ true → (a ≡ false) × (b ≡ false)
-neither true b h = absurd (let e : false ≡ true = h in cc)
-neither false true h = absurd (let e : false ≡ true = h in cc)
-neither false false h = (refl, refl)
-
--- what an open message has room for
-pub label_fits : (config : ChannelConfig) → fits_open config ≡ true → length config.label ≤ 65535
-label_fits config room = no_longer (length config.label) (neither (is_overlong config.label) (is_overlong config.protocol) room).0
-
-pub protocol_fits : (config : ChannelConfig) → fits_open config ≡ true → length config.protocol ≤ 65535
-protocol_fits config room = no_longer (length config.protocol) (neither (is_overlong config.label) (is_overlong config.protocol) room).1

@@ -2,26 +2,16 @@
 ghost use Rattle.std.specs.Prelude.{◌≡◌, ◌∷◌, []};
 ghost use Rattle.rtc_change.specs.declared.change.Change.TheVariants.{AddChannel};
 ghost use Rattle.rtc_channels.specs.Channels.{all_confirmed};
-ghost use Rattle.rtc_peer_core.specs.Calls.{fitting_channels, fits_open as FitsOpen};
+ghost use Rattle.rtc_peer_core.specs.Calls.{fitting_channels};
 
 use rtc_change::{Change, Changes};
-use rtc_channels::{ChannelHandler, is_overlong};
+use rtc_channels::ChannelHandler;
 use rtc_wire::{ChannelConfig, ChannelId};
-
-// Whether an open message has room for the label and the protocol of a channel.
-fn fits_open(config: &ChannelConfig) -> bool
-    ensures { result ≡ FitsOpen config.now }
-{
-    if is_overlong(&config.label) {
-        return false;
-    }
-    !is_overlong(&config.protocol)
-}
 
 fn confirm_channel(channels: &mut ChannelHandler, id: ChannelId, config: ChannelConfig)
     ensures { channels.new ≡ all_confirmed (fitting_channels (AddChannel id config ∷ [])) channels.old }
 {
-    if !fits_open(&config) {
+    if !config.fits_open_message() {
         return;
     }
     if !channels.has_channel(id) {

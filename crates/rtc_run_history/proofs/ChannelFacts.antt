@@ -3,14 +3,13 @@ use Rattle.std.proofs.Common.{◌≡◌, ◌<◌, ℕ, true, false, List, [], �
 use Rattle.std.specs.Prelude.{codes}
 use Rattle.std.proofs.lemmas.List.Elements.{All-nil, All-cons, All-head}
 use Rattle.rtc_wire.specs.declared.channel_config.ChannelConfig.{ChannelConfig}
-use Rattle.rtc_wire.specs.ChannelConfig.{fresh}
+use Rattle.rtc_wire.specs.ChannelConfig.{fresh, is_overlong}
 use Rattle.rtc_sdp_values.specs.declared.direction.Direction.TheVariants.{SendRecv}
 use Rattle.rtc_sdp_values.specs.declared.media_kind.MediaKind.TheVariants.{Audio}
 use Rattle.rtc_sdp_values.specs.declared.line_row.LineRow.TheVariants.{Media, App}
 use Rattle.rtc_sdp_values.specs.declared.sdp.Sdp.{Sdp}
 use Rattle.rtc_peer_rows.specs.declared.parsed_line.ParsedLine.{ParsedLine}
 use Rattle.rtc_peer_rows.specs.ParsedLines.{parsed_lines}
-use Rattle.rtc_channels.specs.Channels.{is_overlong}
 use Rattle.rtc_peer_transport.specs.declared.event.Event.TheVariants.{ChannelOpen}
 use Rattle.rtc_peer_core.specs.MadeSdp.{sdp_of_rows}
 use Rattle.rtc_run_history.specs.declared.side.Side.{Side}

@@ -3,7 +3,7 @@ use Rattle.std.specs.Prelude.{◌+◌, ◌||◌, ◌&&◌, not, ℕ, zero, suc, 
 use Rattle.std.specs.Prelude.{if◌then◌else◌, Option, Some, None, is_some, slice_get}
 use Rattle.std.specs.List.{list_any}
 use Rattle.rtc_wire.specs.declared.channel_config.ChannelConfig.{ChannelConfig}
-use Rattle.rtc_channels.specs.Channels.{is_overlong}
+use Rattle.rtc_wire.specs.ChannelConfig.{fits_open_message}
 use Rattle.rtc_sdp_values.specs.declared.line_row.LineRow.{LineRow}
 use Rattle.rtc_sdp_values.specs.declared.line_row.LineRow.TheVariants.{Media, App}
 use Rattle.rtc_peer_rows.specs.RowChanges.{directed_row, stopped_row, is_changed, changed_at}
@@ -66,7 +66,7 @@ do_stop_first ops = list_any stops_first ops
 
 -- a channel that every peer makes: its open message determines its stream, and has room for its label and protocol
 abbrev pub is_in_band : ChannelConfig → Bool
-is_in_band config = not (is_some config.negotiated) && (not (is_overlong config.label) && not (is_overlong config.protocol))
+is_in_band config = not (is_some config.negotiated) && fits_open_message config
 
 -- whether an op adds another channel than that
 abbrev pub adds_odd_channel : Op → Bool

@@ -1,5 +1,5 @@
 -- A visit that meets nothing leaves the association, the resets and the state of the entry, and past its opening the whole entry.
-use Rattle.std.proofs.Common.{◌≡◌, ℕ, Bool, true, false, List, Option, Some, None, Result, Ok, Err, inl, inr, refl, sym, ap, subst, ◌∙◌}
+use Rattle.std.proofs.Common.{◌≡◌, ℕ, Bool, true, false, List, Option, Some, None, Result, inl, inr, refl, ap, subst, ◌∙◌}
 use Rattle.rtc_parts.specs.declared.assoc_error.AssocError.{AssocError}
 use Rattle.rtc_parts.specs.declared.assoc_error.AssocError.TheVariants.{StreamExists, ResetPending}
 use Rattle.rtc_parts.specs.declared.ppi.Ppi.{Ppi}
@@ -16,7 +16,7 @@ use Rattle.rtc_sctp_entries.specs.declared.stream_entry_state.StreamEntryState.T
 use Rattle.rtc_sctp_entries.specs.declared.met.Met.TheVariants.{Nothing}
 use Rattle.rtc_sctp_entries.specs.Answers.{opening_of, heard_of}
 use Rattle.rtc_sctp_entries.specs.Entries.{is_desired}
-use Rattle.rtc_sctp_entries.specs.Visits.{Turn, is_opening_over, RetriedIf, RetriedAt, Retries, is_adopted, AdoptedIf, OpenedBy, OpensEntry, ReadBy, MayRead, IsRead, NothingUnread, AttendsBy, AttendsIf, is_entry_there, Attends, VisitsIn, Visits}
+use Rattle.rtc_sctp_entries.specs.Visits.{Turn, is_opening_over, RetriedIf, RetriedAt, is_adopted, AdoptedIf, OpenedBy, ReadBy, MayRead, IsRead, NothingUnread, AttendsBy, AttendsIf, is_entry_there, Attends, VisitsIn, Visits}
 use Rattle.rtc_sctp_entries.proofs.AnswerLemmas.{exists_is, pending_is, nothing_is}
 use Rattle.rtc_sctp_entries.proofs.MeetingEntries.{closes_meet, begins_meet, message_taken, threshold_handed}
 

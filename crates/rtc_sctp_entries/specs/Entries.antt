@@ -1,33 +1,9 @@
 -- Streams in use: what is kept of each, and the list of them in order of their numbers.
-use Rattle.std.specs.Prelude.{
-  ℕ,
-  ◌+◌,
-  ◌≤◌,
-  ◌==◌,
-  ◌&&◌,
-  nat_le,
-  not,
-  Bool,
-  true,
-  false,
-  List,
-  [],
-  ◌∷◌,
-  ◌++◌,
-  length,
-  if◌then◌else◌,
-  Option,
-  Some,
-  None,
-  is_some,
-  unwrap_or,
-  position,
-  insert,
-  nat_lt,
-}
+use Rattle.std.specs.Prelude.{ℕ, ◌+◌, ◌≤◌, ◌==◌, ◌&&◌, not, Bool, true, false, List, [], ◌∷◌, ◌++◌, length, if◌then◌else◌, Option}
+use Rattle.std.specs.Prelude.{Some, None, is_some, unwrap_or, position, insert, nat_lt}
 use Rattle.std.specs.List.{filter, list_any}
 use Rattle.rtc_wire.specs.declared.channel_config.ChannelConfig.{ChannelConfig}
-use Rattle.rtc_wire.specs.ChannelConfig.{fresh}
+use Rattle.rtc_wire.specs.ChannelConfig.{fresh, fits_open_message}
 use Rattle.rtc_sctp_entries.specs.declared.buffered_threshold_config.BufferedThresholdConfig.{BufferedThresholdConfig}
 use Rattle.rtc_sctp_entries.specs.declared.buffered_threshold_config.BufferedThresholdConfig.TheVariants.{Unconfigured, Desired, Configured}
 use Rattle.rtc_sctp_entries.specs.declared.stream_entry_state.StreamEntryState.{StreamEntryState}
@@ -51,12 +27,8 @@ abbrev pub given_config : Option ChannelConfig → ChannelConfig → Option Chan
 given_config None config = Some config
 given_config (Some own) config = Some own
 
--- whether the label and the protocol of a config fit an open message, which has two bytes for the length of each
-abbrev pub is_short_config : ChannelConfig → Bool
-is_short_config config = nat_le (length config.label) 65535 && nat_le (length config.protocol) 65535
-
 abbrev pub is_short_entry : StreamEntry → Bool
-is_short_entry entry = is_short_config (config_or_fresh entry.config)
+is_short_entry entry = fits_open_message (config_or_fresh entry.config)
 
 -- whether both ends settled the stream by other means
 abbrev pub is_out_of_band : StreamEntry → Bool

@@ -1,7 +1,6 @@
 -- What a poll does with one stream in use.
 use Rattle.std.specs.Prelude.{ℕ, ◌≡◌, ◌≢◌, ◌+◌, ◌-◌, ◌^◌, ◌&&◌, not, min, nat_le, nat_lt, Bool, true, false}
 use Rattle.std.specs.Prelude.{List, [], ◌∷◌, Option, Some, None}
-use Rattle.rtc_wire.specs.declared.channel_config.ChannelConfig.{ChannelConfig}
 use Rattle.rtc_wire.specs.ChannelConfig.{open_of, config_of}
 use Rattle.rtc_wire.specs.DcepOpen.{open_bytes, message_in, refusal_of}
 use Rattle.rtc_wire.specs.DcepAck.{IsAck}

@@ -14,9 +14,7 @@ use crate::opening::Opening;
 use crate::resets::has_reset;
 use crate::{SctpEvent, StreamEntry, StreamEntryState, part};
 use rtc_parts::{Association, Ppi};
-use rtc_wire::{
-    Bytes, ChannelConfig, DCEP_MAX_TEXT_SIZE, DcepOpen, Moment, STREAM_OPEN_TIMEOUT, Text, TryCopy,
-};
+use rtc_wire::{Bytes, ChannelConfig, DcepOpen, Moment, STREAM_OPEN_TIMEOUT, Text, TryCopy};
 use std::alloc::{AllocError, Global};
 
 /// Whether the stream was negotiated out-of-band.
@@ -43,10 +41,7 @@ fn has_short_texts(entry: &StreamEntry) -> bool
     ensures { result ≡ is_short_entry entry.now }
 {
     match &entry.config {
-        Some(config) => {
-            config.label.as_str().len() <= DCEP_MAX_TEXT_SIZE
-                && config.protocol.as_str().len() <= DCEP_MAX_TEXT_SIZE
-        }
+        Some(config) => config.fits_open_message(),
         None => true,
     }
 }

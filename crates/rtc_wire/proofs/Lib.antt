@@ -1,3 +1,4 @@
 pub mod DcepOpenLemmas
 pub mod StandardFacts
 mod ShortTextLemmas
+pub mod ChannelConfigLemmas

@@ -1,10 +1,22 @@
 //! What a channel is opened with.
 ghost use Rattle.std.specs.Prelude.{◌≡◌, ℕ, [], true, not, IfOk};
 ghost use Rattle.std.specs.Prelude.{None};
-ghost use Rattle.rtc_wire.specs.ChannelConfig.{fresh, config_of};
+ghost use Rattle.rtc_wire.specs.ChannelConfig.{
+  fresh,
+  config_of,
+  fits_open_message as FitsOpenMessage,
+  is_overlong as IsOverlong,
+};
 
-use crate::{DcepOpen, Reliability, Text, TryCopy};
+use crate::{DCEP_MAX_TEXT_SIZE, DcepOpen, Reliability, Text, TryCopy};
 use std::alloc::{AllocError, Global};
+
+/// Whether a label or protocol is too long for an open message (RFC 8832, section 5.1).
+pub fn is_overlong(text: &Text) -> bool
+    ensures { result ≡ IsOverlong text.now }
+{
+    text.as_str().len() > DCEP_MAX_TEXT_SIZE
+}
 
 /// What a data channel is opened with (RFC 8832, section 5.1; W3C WebRTC, section 6.2).
 #[derive(Debug, PartialEq, Eq, Hash, Drop)]
@@ -44,6 +56,13 @@ impl ChannelConfig {
             negotiated: None,
             protocol,
         })
+    }
+
+    /// Whether its label and its protocol fit an open message (RFC 8832, section 5.1).
+    pub fn fits_open_message(&self) -> bool
+        ensures { result ≡ FitsOpenMessage self.now }
+    {
+        !is_overlong(&self.label) && !is_overlong(&self.protocol)
     }
 }
 

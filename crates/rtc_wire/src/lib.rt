@@ -32,7 +32,7 @@ mod try_copy;
 
 pub use addr::Addr;
 pub use bytes::Bytes;
-pub use channel_config::ChannelConfig;
+pub use channel_config::{ChannelConfig, is_overlong};
 pub use channel_id::ChannelId;
 pub use constants::{
     DATAGRAM_MAX_PACKET_SIZE, DATAGRAM_MTU_TARGET, DATAGRAM_MTU_TARGET_MAX,

@@ -1,4 +1,4 @@
-use Rattle.std.proofs.Common.{◌≤◌, ◌-◌, length}
+use Rattle.std.proofs.Common.{◌-◌, length}
 use Rattle.rtc_channels.specs.Kept.{channels_of}
 use Rattle.rtc_channels.specs.Settled.{AreSettled}
 use Rattle.rtc_channels.proofs.settled.count_settled.Given as goal

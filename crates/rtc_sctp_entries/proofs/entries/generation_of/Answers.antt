@@ -1,4 +1,4 @@
-use Rattle.std.proofs.Common.{sym, ◌∙◌, arith}
+use Rattle.std.proofs.Common.{sym, arith}
 use Rattle.rtc_sctp_entries.proofs.OrderLemmas.{generation_here, generation_none, none_past, none_at}
 use Rattle.rtc_sctp_entries.proofs.entries.generation_of.Goals as goal
 
