@@ -19,7 +19,7 @@ use Rattle.rtc_assoc_state.specs.Outbox.{Outbox}
 use Rattle.rtc_assoc_state.specs.Contents.{Contents}
 use Rattle.rtc_assoc_state.specs.Says.{Queues}
 use Rattle.rtc_assoc_state.specs.Calls as call
-use Rattle.rtc_assoc_state.specs.Calls.{limited, connected, accepted, snapped, started_as, said_hello, opened, sent, first_message_of, messages_behind, next_message, taken_out, thresholded, shut_down, greeted, welcomed, acknowledged, answered, lost, item_taken, item_came, framed, half_taken, at_moment, input_taken, timed, event_given, packet_given}
+use Rattle.rtc_assoc_state.specs.Calls.{sent, first_message_of, messages_behind, next_message, taken_out}
 use Rattle.rtc_assoc_state.proofs.RaiseLemmas.{stream_of-stream}
 use Rattle.rtc_assoc_end.proofs.SaysLemmas.{queues_same}
 use Rattle.rtc_assoc.specs.Unread.{unread, IsPrefix}

@@ -12,7 +12,7 @@ use Rattle.rtc_assoc_state.specs.Packets.{frame_in}
 use Rattle.rtc_assoc_state.specs.Streams.{stream_of}
 use Rattle.rtc_assoc_state.specs.Contents.{Contents}
 use Rattle.rtc_assoc_state.specs.Calls as call
-use Rattle.rtc_assoc_state.specs.Calls.{limited, connected, accepted, snapped, started_as, said_hello, opened, sent, first_message_of, messages_behind, next_message, taken_out, thresholded, shut_down, greeted, welcomed, acknowledged, answered, lost, item_taken, item_came, framed, half_taken, at_moment, input_taken, timed, event_given, packet_given}
+use Rattle.rtc_assoc_state.specs.Calls.{limited, connected, accepted, snapped, started_as, said_hello, opened, next_message, taken_out, thresholded, shut_down, half_taken, input_taken, timed, event_given, packet_given}
 use Rattle.rtc_assoc_state.specs.PlainMeaning.{plain_meaning, Leaves, Sends, Reads, Gives, ending_cause, open_cause, write_cause, end_cause, stream_cause}
 use Rattle.rtc_assoc_state.proofs.RaiseLemmas.{stream_of-stream}
 use Rattle.rtc_assoc_state.proofs.DoesLemmas.{refused_changes_nothing, does_leaves, polls_some, transmits_some, reads_some}

@@ -9,7 +9,7 @@ use Rattle.rtc_assoc_state.proofs.ReadableLemmas.{message_stream}
 use Rattle.rtc_assoc_state.proofs.MessageLists.{not_later_self}
 use Rattle.rtc_assoc_state.proofs.PartLemmas.{bytes_so_far-with, bytes_so_far-with_other}
 use Rattle.rtc_assoc.specs.Unread.{unread, IsPrefix}
-use Rattle.rtc_assoc.proofs.MessageLemmas.{pair_tells, pair_same, message}
+use Rattle.rtc_assoc.proofs.MessageLemmas.{pair_tells, message}
 
 -- lists that begin others
 pub prefix_self : {A : Type 0} (xs : List A) → IsPrefix xs xs

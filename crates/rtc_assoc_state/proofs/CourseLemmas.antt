@@ -1,7 +1,6 @@
 -- What a threshold that is set keeps.
-use Rattle.std.proofs.Common.{ℕ, ◌≡◌, Bool, true, List, Option, Some, Result, refl}
+use Rattle.std.proofs.Common.{ℕ, ◌≡◌, true, Some, Result, refl}
 use Rattle.rtc_parts.specs.declared.assoc_error.AssocError.{AssocError}
-use Rattle.rtc_assoc_state.specs.declared.stream_row.StreamRow.{StreamRow}
 use Rattle.rtc_assoc_state.specs.Streams.{stream_of}
 use Rattle.rtc_assoc_state.specs.Contents.{Contents, is_started, generation_of, is_finished, has_stream}
 use Rattle.rtc_assoc_state.specs.Calls.{thresholded}

@@ -1,6 +1,5 @@
 -- No act but a write raises what is not acknowledged of a stream.
-use Rattle.std.proofs.Common.{ℕ, zero, suc, ◌≡◌, ◌+◌, ◌==◌, ◌&&◌, ◌≤◌, not, Bool, true, false, cond, List, [], ◌∷◌, ◌++◌, drop, Option, Some, None, length, Result, Ok, Err, refl, sym, ap, subst, ◌∙◌, arith}
-use Rattle.rtc_parts.specs.declared.ppi.Ppi.{Ppi}
+use Rattle.std.proofs.Common.{ℕ, zero, suc, ◌≡◌, ◌+◌, ◌==◌, ◌&&◌, ◌≤◌, not, Bool, true, false, cond, List, [], ◌∷◌, drop, Option, Some, None, length, refl, sym, ap, subst, arith}
 use Rattle.rtc_parts.specs.Ppi.{ppi_number}
 use Rattle.rtc_parts.specs.Why.{Timed, Shut, Other}
 use Rattle.rtc_parts.specs.AssociationActs.{AssociationAct, Started, Opened, Wrote, Ended, Given, Taken, Read, Told, Stirred, Starts, ByConnect, ByAccept, BySnap, Stirs, LimitsSet, ConnectRefused, AcceptRefused, SnapRefused, OpenRefused, WriteRefused, ReadRefused, EndRefused, ThresholdSet, ReliabilitySet, Acted, writes_to}

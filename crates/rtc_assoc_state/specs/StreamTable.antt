@@ -1,5 +1,5 @@
 -- How a table of streams keeps their rows.
-use Rattle.std.specs.Prelude.{ℕ, ◌≡◌, ◌==◌, Bool, List, Option, Some, position}
+use Rattle.std.specs.Prelude.{ℕ, ◌≡◌, ◌==◌, Bool, List, Some, position}
 use Rattle.rtc_assoc_state.specs.declared.stream_row.StreamRow.{StreamRow}
 use Rattle.rtc_assoc_state.specs.declared.places.Places.{Places}
 use Rattle.rtc_assoc_state.specs.Streams.{any_at_last_generation}

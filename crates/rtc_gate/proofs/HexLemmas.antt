@@ -1,5 +1,5 @@
 -- Digits that are read pair by pair.
-use Rattle.std.proofs.Common.{◌≡◌, ℕ, zero, suc, ◌+◌, ◌-◌, ◌<◌, ◌≤◌, ◌∙◌, List, [], ◌∷◌, ◌++◌, length, drop, get_or, Option, Some, None, refl, ap, sym, subst, arith, append_assoc}
+use Rattle.std.proofs.Common.{◌≡◌, ℕ, zero, suc, ◌+◌, ◌-◌, ◌<◌, ◌≤◌, ◌∙◌, List, [], ◌∷◌, ◌++◌, length, drop, get_or, Option, Some, None, refl, ap, sym, arith, append_assoc}
 use Rattle.rtc_gate.specs.HexWords.{lower_digit, byte_of_digits, byte_before, bytes_of_digits}
 
 -- what is read so far, in front of what is read of the rest

@@ -1,12 +1,11 @@
 -- Calls that differ in how a feed was cut leave the same gate.
-use Rattle.std.proofs.Common.{◌≡◌, ℕ, ◌==◌, ◌∙◌, Bool, true, false, List, [], ◌∷◌, ◌++◌, map, Option, Some, None, refl, ap, sym, subst, cond, arith, append_assoc, append-nil}
+use Rattle.std.proofs.Common.{◌≡◌, ℕ, ◌==◌, ◌∙◌, Bool, true, false, List, [], ◌∷◌, ◌++◌, map, Option, Some, None, refl, ap, sym, cond, arith, append_assoc, append-nil}
 use Rattle.std.proofs.lemmas.Bool.Decides.{nat_tests}
 use Rattle.std.proofs.lemmas.List.{map-append}
 use Rattle.std.specs.List.{concat}
-use Rattle.rtc_gate_calls.specs.Signal.{Signal}
 use Rattle.rtc_gate_calls.specs.Routing.{Letter, letter_of, mail_for}
 use Rattle.rtc_gate_calls.specs.GateState.{ConnectionState, GateState, Incoming, roster_entry, roster_of, connection_numbered, resumed, arriving, letters_of, after_mail, fed_connections, after_feed}
-use Rattle.rtc_gate_calls.specs.Replies.{after_call, ran_out}
+use Rattle.rtc_gate_calls.specs.Replies.{after_call}
 use Rattle.rtc_gate_calls.specs.History.{GateEvent, calls_made}
 use Rattle.rtc_gate_calls.specs.Histories.{empty_gate, gate_after, NeverRanOut, AreCutApart}
 use Rattle.rtc_gate_calls.specs.declared.gate_call.GateCall.{GateCall}

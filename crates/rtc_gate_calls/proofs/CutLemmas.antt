@@ -1,5 +1,5 @@
 -- A stream that comes in two pieces is read as one that comes in one.
-use Rattle.std.proofs.Common.{◌≡◌, ℕ, ◌+◌, ◌-◌, ◌≤◌, ◌∙◌, Bool, true, false, List, [], ◌∷◌, ◌++◌, length, drop, refl, ap, sym, cond, arith, length-append, append_assoc}
+use Rattle.std.proofs.Common.{◌≡◌, ℕ, ◌+◌, ◌≤◌, ◌∙◌, Bool, true, false, List, [], ◌++◌, length, drop, refl, ap, sym, cond, arith, length-append, append_assoc}
 use Rattle.std.proofs.Math.Seq.{drop-append_seam}
 use Rattle.rtc_gate_calls.specs.Signal.{Signal}
 use Rattle.rtc_gate_calls.specs.SignalStream.{signals_in, tail_of, is_malformed, is_malformed_front, signal_front}

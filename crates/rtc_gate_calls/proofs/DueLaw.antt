@@ -1,11 +1,11 @@
 -- What is due is delivered.
-use Rattle.std.proofs.Common.{◌≡◌, ℕ, ◌+◌, ◌≤◌, ◌∙◌, Bool, true, false, List, [], ◌∷◌, ◌++◌, map, length, Option, Some, None, refl, ap, sym, subst, cond, arith}
+use Rattle.std.proofs.Common.{◌≡◌, ℕ, Bool, true, false, List, [], ◌∷◌, length, Option, Some, None, refl, sym, subst, cond, arith}
 use Rattle.std.specs.Prelude.{Result, Ok, Err, nat_le}
 use Rattle.rtc_wire_text.specs.Tokens.{is_short_token}
 use Rattle.rtc_gate_calls.specs.Signal.{Signal}
 use Rattle.rtc_gate_calls.specs.Routing.{join_answer, admission, number_named}
 use Rattle.rtc_gate_calls.specs.GateState.{ConnectionState, GateState, Incoming, roster_of, connection_numbered, resumed, arriving, after_admission, after_leave, after_take, fed_connections, fed_answer, feed_answer, leave_answer, take_answer}
-use Rattle.rtc_gate_calls.specs.Replies.{joined_reply, left_reply, fed_reply, took_reply, reply_to, after_call, is_alloc, ran_out, gate_behind, IsReplyTo}
+use Rattle.rtc_gate_calls.specs.Replies.{joined_reply, left_reply, fed_reply, took_reply, reply_to, is_alloc, ran_out, gate_behind, IsReplyTo}
 use Rattle.rtc_gate_calls.specs.History.{GateEvent, came_in}
 use Rattle.rtc_gate_calls.specs.Histories.{gate_after, WereAnswered, DeliversDue}
 use Rattle.rtc_gate_calls.specs.declared.gate_error.GateError.{GateError}

@@ -1,24 +1,21 @@
 -- What each call adds to a past, and to what a gate owes by it.
-use Rattle.std.proofs.Common.{◌≡◌, ℕ, ◌+◌, ◌<◌, ◌≤◌, ◌==◌, ◌∙◌, Bool, true, false, List, [], ◌∷◌, ◌++◌, map, drop, Option, Some, None, refl, ap, sym, subst, cond, arith, append_assoc, append-nil}
-use Rattle.std.specs.Prelude.{slice_get, filter, not, ◌&&◌}
+use Rattle.std.proofs.Common.{◌≡◌, ℕ, ◌+◌, ◌<◌, ◌≤◌, ◌==◌, ◌∙◌, Bool, true, false, List, [], ◌∷◌, ◌++◌, map, drop, Some, refl, ap, sym, cond, arith, append_assoc, append-nil}
+use Rattle.std.specs.Prelude.{slice_get, filter, not}
 use Rattle.std.proofs.lemmas.Bool.Decides.{nat_tests}
 use Rattle.std.proofs.lemmas.List.{map-append}
-use Rattle.rtc_gate_calls.specs.Signal.{Signal, signal_bytes}
 use Rattle.rtc_gate_calls.specs.SignalStream as streams
-use Rattle.rtc_gate_calls.specs.Routing.{Letter, letter_of, addressed, is_ungrammatical, mail_for, number_named}
-use Rattle.rtc_gate_calls.specs.GateState.{ConnectionState, GateState, Incoming, started, roster_entry, roster_of, connection_numbered, resumed, arriving, incoming_behind, letters_of, after_mail, without_first, fresh_connection, fed_connections}
+use Rattle.rtc_gate_calls.specs.Routing.{Letter, mail_for}
+use Rattle.rtc_gate_calls.specs.GateState.{ConnectionState, GateState, started, roster_entry, roster_of, connection_numbered, incoming_behind, without_first, fresh_connection}
 use Rattle.rtc_gate_calls.specs.Gate.{AreNumbered}
-use Rattle.rtc_gate_calls.specs.History.{GateEvent, roster_behind, stream_from, frames_taken, due, letters_sent, came_in, bytes_from, frames_from, frame_in_reply, name_numbered, newly_whole}
+use Rattle.rtc_gate_calls.specs.History.{GateEvent, roster_behind, stream_from, frames_taken, due, letters_sent, bytes_from, frames_from, frame_in_reply}
 use Rattle.rtc_gate_calls.specs.declared.gate_call.GateCall.{GateCall}
-use Rattle.rtc_gate_calls.specs.declared.gate_call.GateCall.TheVariants.{Join, Leave, Feed, Take}
+use Rattle.rtc_gate_calls.specs.declared.gate_call.GateCall.TheVariants.{Join, Leave, Take}
 use Rattle.rtc_gate_calls.specs.declared.gate_reply.GateReply.{GateReply}
-use Rattle.rtc_gate_calls.specs.declared.gate_reply.GateReply.TheVariants.{Joined, Left, Fed, Took, Refused}
+use Rattle.rtc_gate_calls.specs.declared.gate_reply.GateReply.TheVariants.{Joined, Left, Took}
 use Rattle.rtc_gate_calls.proofs.ConnectionLemmas.{numbered_map, map_alike, map_twice}
 use Rattle.rtc_gate_calls.proofs.GateLemmas.{numbered_filter}
 use Rattle.rtc_gate_calls.proofs.CallLemmas.{numbered_push}
-use Rattle.rtc_gate_calls.proofs.CutLemmas.{stream_resumed, stream_arriving}
-use Rattle.rtc_gate_calls.proofs.CutLaw.{roster_fed}
-use Rattle.rtc_gate_calls.proofs.FoundLemmas.{number_is, name_is, is_below, named_below, push_found, filter_found, map_found}
+use Rattle.rtc_gate_calls.proofs.FoundLemmas.{number_is, is_below, push_found, filter_found, map_found}
 
 -- What a past says of a gate, and of numbers that are still to come.
 pub record Accounts (past : List GateEvent) (gate : GateState) : Type 0 where

@@ -1,9 +1,9 @@
 -- What a piece that came in adds to a past, and to what a gate owes by it.
-use Rattle.std.proofs.Common.{◌≡◌, ℕ, ◌+◌, ◌<◌, ◌≤◌, ◌==◌, ◌∙◌, Bool, true, false, List, [], ◌∷◌, ◌++◌, map, Option, Some, None, refl, ap, sym, subst, cond, arith, append_assoc, append-nil}
+use Rattle.std.proofs.Common.{◌≡◌, ℕ, ◌<◌, ◌≤◌, ◌==◌, ◌∙◌, Bool, true, false, List, [], ◌∷◌, ◌++◌, map, Option, Some, None, refl, ap, sym, subst, cond, arith, append_assoc, append-nil}
 use Rattle.std.specs.Prelude.{◌&&◌}
 use Rattle.std.proofs.lemmas.Bool.Decides.{nat_tests}
 use Rattle.rtc_gate_calls.specs.Signal.{Signal}
-use Rattle.rtc_gate_calls.specs.Routing.{Letter, letter_of, addressed, is_ungrammatical, mail_for, number_named}
+use Rattle.rtc_gate_calls.specs.Routing.{Letter, letter_of, is_ungrammatical, mail_for, number_named}
 use Rattle.rtc_gate_calls.specs.GateState.{ConnectionState, GateState, Incoming, roster_of, connection_numbered, resumed, arriving, incoming_behind, letters_of, after_mail, fed_connections}
 use Rattle.rtc_gate_calls.specs.History.{GateEvent, roster_behind, stream_from, frames_taken, due, letters_sent, came_in, name_numbered, newly_whole}
 use Rattle.rtc_gate_calls.specs.declared.gate_call.GateCall.TheVariants.{Feed}

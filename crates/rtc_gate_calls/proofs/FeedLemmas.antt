@@ -1,16 +1,16 @@
 -- A feed, put together from its steps.
-use Rattle.std.proofs.Common.{◌≡◌, ◌≢◌, ℕ, zero, suc, ◌+◌, ◌-◌, ◌<◌, ◌≤◌, ◌^◌, ◌==◌, ◌∙◌, Bool, true, false, List, [], ◌∷◌, ◌++◌, length, map, take, drop, get_or, set, Option, Some, None, refl, ap, sym, subst, cond, arith, length-append, length-drop}
+use Rattle.std.proofs.Common.{◌≡◌, ℕ, zero, suc, ◌+◌, ◌<◌, ◌≤◌, ◌^◌, ◌==◌, ◌∙◌, Bool, true, false, List, [], ◌∷◌, ◌++◌, length, map, take, drop, Option, Some, None, refl, ap, sym, subst, cond, arith, length-drop}
 use Rattle.std.specs.Prelude.{slice_get, IsSomeAnd}
 use Rattle.std.proofs.lemmas.Bool.Decides.{nat_tests}
 use Rattle.std.proofs.lemmas.List.{take_at}
 use Rattle.rtc_gate_calls.specs.SignalStream.{signals_in, tail_of, is_malformed}
-use Rattle.rtc_gate_calls.specs.GateState.{Incoming, ConnectionState, roster_entry, roster_of, connection_numbered, whole_size, incoming_behind, resumed, arriving, fed_answer, letters_of, after_mail}
+use Rattle.rtc_gate_calls.specs.GateState.{Incoming, ConnectionState, roster_entry, roster_of, whole_size, incoming_behind, resumed, arriving, fed_answer, letters_of, after_mail}
 use Rattle.rtc_gate_calls.specs.declared.gate_error.GateError.{GateError}
 use Rattle.rtc_gate_calls.specs.declared.gate_error.GateError.TheVariants.{BadFrame}
 use Rattle.std.specs.Prelude.{Result, Ok, Err}
 use Rattle.rtc_gate_calls.specs.Gate.{AreNumbered, IsIndex}
 use Rattle.rtc_gate_calls.specs.Routing.{Letter, letter_of, mail_for}
-use Rattle.rtc_gate_calls.specs.Delivering.{IsAt, connection_changed_at, with_piece, cut_to, advanced, parcel_of, parcel_with, frames_for, after_parcels, IsPlaced, EachPlaced, ArePlaced, CanRoute, Sorts}
+use Rattle.rtc_gate_calls.specs.Delivering.{IsAt, connection_changed_at, with_piece, cut_to, advanced, parcel_of, parcel_with, frames_for, after_parcels, EachPlaced, CanRoute, Sorts}
 use Rattle.rtc_gate_calls.specs.declared.delivering.Delivery.{Delivery}
 use Rattle.rtc_gate_calls.specs.declared.posting.Sender.{Sender}
 use Rattle.rtc_gate_calls.specs.declared.sorting.Sorted.{Sorted}

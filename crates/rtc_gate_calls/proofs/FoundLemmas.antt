@@ -4,7 +4,7 @@ use Rattle.std.specs.Prelude.{filter, not}
 use Rattle.std.specs.Str.{bytes_eq}
 use Rattle.std.proofs.lemmas.Bool.Decides.{nat_tests}
 use Rattle.rtc_gate_calls.specs.Routing.{number_named}
-use Rattle.rtc_gate_calls.specs.GateState.{ConnectionState, roster_entry, roster_of, connection_numbered}
+use Rattle.rtc_gate_calls.specs.GateState.{ConnectionState, roster_of, connection_numbered}
 use Rattle.rtc_gate_calls.specs.Gate.{AreNumbered}
 use Rattle.rtc_gate_calls.specs.History.{name_numbered}
 

@@ -1,5 +1,5 @@
 -- The front of a stream, once it is known, stays as it is however the stream goes on.
-use Rattle.std.proofs.Common.{◌≡◌, ℕ, ◌+◌, ◌-◌, ◌<◌, ◌≤◌, ◌∙◌, Bool, true, false, List, [], ◌∷◌, ◌++◌, length, take, drop, Option, Some, None, refl, ap, sym, subst, cond, arith, length-append, length-drop}
+use Rattle.std.proofs.Common.{◌≡◌, ℕ, ◌-◌, ◌≤◌, ◌∙◌, List, [], ◌++◌, length, take, drop, Option, Some, None, refl, ap, subst, arith, length-append, length-drop}
 use Rattle.std.specs.Prelude.{slice_range}
 use Rattle.std.specs.Int.{w32, from_be_bytes}
 use Rattle.std.proofs.lemmas.Bool.Decides.{nat_tests}
@@ -7,7 +7,7 @@ use Rattle.std.proofs.lemmas.List.{take-append-le, drop-append-le}
 use Rattle.rtc_gate_calls.specs.declared.extent.FrameExtent.{FrameExtent}
 use Rattle.rtc_gate_calls.specs.declared.extent.FrameExtent.TheVariants.{Partial, OutOfRange, Whole}
 use Rattle.rtc_gate_calls.specs.Signal.{Signal, signal_in, extent_of, frame_extent}
-use Rattle.rtc_gate_calls.specs.SignalStream.{SignalFront, Unfinished, Malformed, Arrived, front_with, front_within, signal_front, is_malformed_front}
+use Rattle.rtc_gate_calls.specs.SignalStream.{Unfinished, Malformed, Arrived, front_with, front_within, signal_front}
 
 -- a whole frame stays one with more bytes behind it
 extent_whole : (n m k size : ℕ) → extent_of n k ≡ Whole size → n ≤ m → (extent_of m k ≡ Whole size) × (4 ≤ n) × (size ≤ n) × (7 ≤ size)

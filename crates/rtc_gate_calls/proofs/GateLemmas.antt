@@ -1,6 +1,6 @@
 -- What the fields of a gate keep through its calls.
-use Rattle.std.proofs.Common.{◌≡◌, ◌≢◌, ℕ, zero, suc, ◌+◌, ◌-◌, ◌<◌, ◌≤◌, ◌^◌, ◌==◌, ◌∙◌, Bool, true, false, List, [], ◌∷◌, ◌++◌, length, map, take, drop, get_or, set, Option, Some, None, refl, ap, sym, subst, cond, arith, append-nil}
-use Rattle.std.specs.Prelude.{slice_get, IsSomeAnd, filter, not, is_some, nat_le, Result, Ok, Err}
+use Rattle.std.proofs.Common.{◌≡◌, ℕ, zero, suc, ◌+◌, ◌<◌, ◌≤◌, ◌==◌, ◌∙◌, Bool, true, false, List, [], ◌∷◌, ◌++◌, length, map, take, drop, Option, Some, None, refl, ap, sym, subst, cond, arith}
+use Rattle.std.specs.Prelude.{slice_get, IsSomeAnd, filter, not}
 use Rattle.std.specs.List.{remove}
 use Rattle.std.specs.Str.{bytes_eq}
 use Rattle.std.specs.Ordering.{nat_cmp, is_eq}
@@ -10,16 +10,12 @@ use Rattle.std.proofs.lemmas.Map.Text.{is_eq-slice_cmp}
 use Rattle.std.proofs.lemmas.Bool.Decides.{nat_tests}
 use Rattle.std.proofs.lemmas.List.{take_at}
 use Rattle.std.proofs.lemmas.Slice.Eq.{bytes_eq-Decides}
-use Rattle.rtc_gate_calls.specs.Routing.{Letter, number_named, letter_of, mail_for, admission, join_answer}
-use Rattle.rtc_gate_calls.specs.GateState.{ConnectionState, roster_entry, roster_of, connection_numbered, without_first, fresh_connection, Incoming, GateState, fed_connections, after_mail, letters_of, IsAnswered, feed_answer, fed_answer, resumed, incoming_behind, after_admission, after_join}
-use Rattle.rtc_gate_calls.specs.SignalStream.{signals_in}
-use Rattle.rtc_wire_text.specs.Tokens.{is_short_token}
-use Rattle.rtc_gate_calls.specs.declared.gate_error.GateError.{GateError}
-use Rattle.rtc_gate_calls.specs.declared.gate_error.GateError.TheVariants.{BadName, NameTaken, Full, NoSuch, BadFrame, Alloc}
+use Rattle.rtc_gate_calls.specs.Routing.{number_named}
+use Rattle.rtc_gate_calls.specs.GateState.{ConnectionState, roster_entry, roster_of, connection_numbered, without_first}
 use Rattle.rtc_gate_calls.specs.Gate.{AreNumbered, HaveOwnNames, IsIndex, IsKept}
-use Rattle.rtc_gate_calls.specs.Delivering.{connection_changed_at, IsAt}
-use Rattle.rtc_gate_calls.proofs.ConnectionLemmas.{numbered_from, least_at, numbered_at, numbered_map, map_alike, map_twice, map_same, changes_alike}
-use Rattle.rtc_gate_calls.proofs.FeedLemmas.{standing, count_map}
+use Rattle.rtc_gate_calls.specs.Delivering.{connection_changed_at}
+use Rattle.rtc_gate_calls.proofs.ConnectionLemmas.{numbered_from, least_at, numbered_at, numbered_map, map_alike, map_twice}
+use Rattle.rtc_gate_calls.proofs.FeedLemmas.{standing}
 
 pub numbered_below : (least joined most : ℕ) (cs : List ConnectionState) → joined ≤ most → AreNumbered least cs joined → AreNumbered least cs most
 numbered_below least joined most [] less all = omega (arith, all)

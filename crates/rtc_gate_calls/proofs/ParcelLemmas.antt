@@ -1,5 +1,5 @@
 -- Parcels that are put into queues one by one.
-use Rattle.std.proofs.Common.{◌≡◌, ◌≢◌, ℕ, zero, suc, ◌+◌, ◌<◌, ◌≤◌, ◌^◌, ◌==◌, ◌∙◌, Bool, true, false, List, [], ◌∷◌, ◌++◌, length, map, get_or, set, Option, Some, None, refl, ap, sym, subst, cond, arith, length-append, append_assoc, append-nil}
+use Rattle.std.proofs.Common.{◌≡◌, ℕ, suc, ◌+◌, ◌<◌, ◌≤◌, ◌^◌, ◌==◌, ◌∙◌, Bool, true, false, List, [], ◌∷◌, ◌++◌, length, map, get_or, set, Option, Some, None, refl, ap, sym, subst, cond, arith, length-append, append_assoc, append-nil}
 use Rattle.std.specs.Prelude.{slice_get, IsSomeAnd}
 use Rattle.rtc_gate_calls.specs.GateState.{ConnectionState}
 use Rattle.rtc_gate_calls.specs.Gate.{AreNumbered}

@@ -1,11 +1,11 @@
 -- A stream that is sorted frame by frame.
-use Rattle.std.proofs.Common.{◌≡◌, ℕ, ◌+◌, ◌-◌, ◌<◌, ◌≤◌, ◌^◌, ◌∙◌, Bool, true, false, List, [], ◌∷◌, ◌++◌, length, map, take, drop, refl, ap, sym, subst, arith, length-append, length-drop, append_assoc, append-nil}
+use Rattle.std.proofs.Common.{◌≡◌, ℕ, ◌+◌, ◌-◌, ◌<◌, ◌≤◌, ◌^◌, ◌∙◌, List, [], ◌∷◌, ◌++◌, length, map, take, drop, ap, sym, subst, arith, length-append, length-drop, append_assoc, append-nil}
 use Rattle.std.proofs.lemmas.List.{map-append, drop-drop, take_all}
 use Rattle.rtc_gate_calls.specs.Signal.{Signal}
-use Rattle.rtc_gate_calls.specs.SignalStream.{SignalFront, Unfinished, Malformed, Arrived, SignalSplit, signal_front, is_malformed_front, split_with, split_of, signals_in, tail_of, is_malformed}
+use Rattle.rtc_gate_calls.specs.SignalStream.{SignalFront, Arrived, SignalSplit, signal_front, is_malformed_front, split_with, split_of, signals_in, tail_of}
 use Rattle.rtc_gate_calls.proofs.SplitLemmas.{split_step, split_goes_on}
 use Rattle.rtc_gate_calls.specs.GateState.{ConnectionState, roster_of}
-use Rattle.rtc_gate_calls.specs.Routing.{Letter, letter_of}
+use Rattle.rtc_gate_calls.specs.Routing.{letter_of}
 use Rattle.rtc_gate_calls.specs.Delivering.{parcel_of, parcel_with, IsPlaced, EachPlaced, Sorts}
 use Rattle.rtc_gate_calls.specs.declared.delivering.Delivery.{Delivery}
 use Rattle.rtc_gate_calls.specs.declared.posting.Sender.{Sender}

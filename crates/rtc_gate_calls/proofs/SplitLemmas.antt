@@ -1,5 +1,5 @@
 -- A stream may be cut anywhere.
-use Rattle.std.proofs.Common.{◌≡◌, ℕ, zero, suc, ◌+◌, ◌-◌, ◌<◌, ◌≤◌, ◌∙◌, Bool, true, false, List, [], ◌∷◌, ◌++◌, length, take, drop, refl, ap, sym, subst, arith, length-append, length-drop}
+use Rattle.std.proofs.Common.{◌≡◌, ℕ, zero, suc, ◌≤◌, ◌∙◌, true, List, [], ◌∷◌, ◌++◌, length, drop, refl, ap, sym, subst, arith, length-drop}
 use Rattle.std.proofs.lemmas.List.{drop-append-le, nil_from_length}
 use Rattle.rtc_gate_calls.specs.Signal.{Signal}
 use Rattle.rtc_gate_calls.specs.SignalStream.{SignalFront, Unfinished, Malformed, Arrived, SignalSplit, signal_front, is_malformed_front, split_with, split_up_to, split_of, signals_in, tail_of, is_malformed, IsCutAnywhere}

@@ -1,31 +1,6 @@
 -- The state of the gateway, and what each call returns and leaves.
-use Rattle.std.specs.Prelude.{
-  ◌≡◌,
-  ℕ,
-  ◌+◌,
-  ◌-◌,
-  ◌==◌,
-  Bool,
-  true,
-  false,
-  not,
-  List,
-  [],
-  ◌∷◌,
-  ◌++◌,
-  length,
-  map,
-  filter,
-  drop,
-  slice_get,
-  Option,
-  Some,
-  None,
-  Result,
-  Ok,
-  Err,
-  if◌then◌else◌,
-}
+use Rattle.std.specs.Prelude.{◌≡◌, ℕ, ◌+◌, ◌-◌, ◌==◌, Bool, false, not, List, [], ◌∷◌, ◌++◌, length, map, filter, drop, slice_get}
+use Rattle.std.specs.Prelude.{Option, Some, None, Result, Ok, Err, if◌then◌else◌}
 use Rattle.rtc_gate_calls.specs.Signal.{Signal}
 use Rattle.rtc_gate_calls.specs.SignalStream.{signals_in, tail_of, is_malformed}
 use Rattle.rtc_gate_calls.specs.Routing.{Letter, join_answer, letter_of, mail_for}

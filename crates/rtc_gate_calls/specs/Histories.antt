@@ -1,5 +1,5 @@
 -- Gates behind a past, and what holds of each.
-use Rattle.std.specs.Prelude.{◌≡◌, ◌++◌, ◌∷◌, ℕ, List, [], Bool, false, map, Some}
+use Rattle.std.specs.Prelude.{◌≡◌, ◌++◌, ◌∷◌, ℕ, List, [], false, map, Some}
 use Rattle.std.specs.List.{concat}
 use Rattle.rtc_gate_calls.specs.declared.gate_call.GateCall.{GateCall}
 use Rattle.rtc_gate_calls.specs.declared.gate_call.GateCall.TheVariants.{Feed}

@@ -1,27 +1,7 @@
 -- What a past of calls says of each connection, by the calls and replies alone: the received stream, the frames that were taken, and those
 -- that were due. No state of a gate and no queue occurs in it.
-use Rattle.std.specs.Prelude.{
-  ◌≡◌,
-  ◌==◌,
-  ℕ,
-  Bool,
-  true,
-  false,
-  not,
-  ◌&&◌,
-  List,
-  [],
-  ◌∷◌,
-  ◌++◌,
-  length,
-  drop,
-  map,
-  filter,
-  Option,
-  Some,
-  None,
-  if◌then◌else◌,
-}
+use Rattle.std.specs.Prelude.{◌==◌, ℕ, Bool, true, false, not, ◌&&◌, List, [], ◌∷◌, ◌++◌, length, drop, map, filter, Option, Some}
+use Rattle.std.specs.Prelude.{None, if◌then◌else◌}
 use Rattle.rtc_gate_calls.specs.Signal.{Signal}
 use Rattle.rtc_gate_calls.specs.SignalStream.{signals_in}
 use Rattle.rtc_gate_calls.specs.Routing.{Letter, letter_of, mail_for}

@@ -1,25 +1,5 @@
 -- Frames of the signalling gateway: the length of a body in four bytes, and the body: a kind, a name and a text.
-use Rattle.std.specs.Prelude.{
-  ℕ,
-  ◌+◌,
-  ◌==◌,
-  Bool,
-  not,
-  ◌&&◌,
-  List,
-  [],
-  ◌∷◌,
-  ◌++◌,
-  length,
-  take,
-  drop,
-  nat_lt,
-  nat_le,
-  Option,
-  Some,
-  None,
-  if◌then◌else◌,
-}
+use Rattle.std.specs.Prelude.{ℕ, ◌+◌, ◌==◌, not, List, [], ◌∷◌, ◌++◌, length, take, drop, nat_lt, nat_le, Option, Some, None, if◌then◌else◌}
 use Rattle.std.specs.Int.{w32, to_be_bytes, from_be_bytes, is_in_range}
 use Rattle.std.specs.Str.{is_utf8}
 use Rattle.rtc_wire_text.specs.Tokens.{is_short_token}

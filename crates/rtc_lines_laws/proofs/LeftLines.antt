@@ -1,6 +1,6 @@
 -- How negotiation reads what is left of an offer of which lines are rejected.
-use Rattle.std.proofs.Common.{◌≡◌, ◌∙◌, ◌&&◌, ◌||◌, ℕ, Bool, true, false, not, cond, List, [], ◌∷◌, map, Option, Some, refl, sym, ap, subst}
-use Rattle.std.specs.Prelude.{filter, if◌then◌else◌}
+use Rattle.std.proofs.Common.{◌≡◌, ◌∙◌, ◌&&◌, ◌||◌, ℕ, Bool, true, false, not, cond, List, [], ◌∷◌, map, Some, refl, sym, ap, subst}
+use Rattle.std.specs.Prelude.{if◌then◌else◌}
 use Rattle.std.specs.List.{AllByRecursion}
 use Rattle.std.specs.Str.{bytes_eq}
 use Rattle.std.proofs.lemmas.Map.Views.{any-filter_same}
@@ -20,7 +20,7 @@ use Rattle.rtc_lines.specs.Rejecting.{
   has_live,
   offer_rejecting,
 }
-use Rattle.rtc_peer_rows.specs.ParsedLines.{parsed_line, parsed_lines}
+use Rattle.rtc_peer_rows.specs.ParsedLines.{parsed_line}
 use Rattle.rtc_peer_rows.specs.declared.parsed_line.ParsedLine.{ParsedLine}
 use Rattle.rtc_lines_laws.specs.RejectedLines.{lines_of_mids, lines_of_others, IsLeftOf}
 

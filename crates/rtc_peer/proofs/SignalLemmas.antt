@@ -1,10 +1,8 @@
 -- What is known while a signal is off outlives calls that leave it off.
 use Rattle.std.specs.Prelude.{max}
-use Rattle.std.proofs.Common.{if◌then◌else◌, ◌≡◌, ◌≢◌, ◌-◌, ◌^◌, ℕ, Bool, true, false, List, Option, Some, None, Result, Ok, refl, sym, ap, subst, ◌∙◌}
+use Rattle.std.proofs.Common.{if◌then◌else◌, ◌≡◌, ◌≢◌, ◌-◌, ◌^◌, ℕ, Bool, true, false, List, Option, Some, Result, Ok, refl, sym, ap, subst, ◌∙◌}
 use Rattle.rtc_parts.specs.declared.reason.Reason.{Reason}
 use Rattle.rtc_parts.specs.declared.reason.Reason.TheVariants.{DTLS, Ice, Sctp, Channel, Stats as StatsReason}
-use Rattle.rtc_parts.specs.MediaMeaning.{MediaMeaning}
-use Rattle.rtc_parts.specs.MediaLaws.{MediaLaws}
 use Rattle.rtc_sdp_values.specs.declared.ssrc.Ssrc.{Ssrc}
 use Rattle.rtc_ready.specs.Signals.{Signals, both}
 use Rattle.rtc_sctp.specs.Calls.{streams_wake}
@@ -19,11 +17,10 @@ use Rattle.rtc_peer_transport.specs.declared.output.Output.{Output}
 use Rattle.rtc_peer_transport.specs.declared.output.Output.TheVariants.{Timeout}
 use Rattle.rtc_peer_transport.specs.declared.polled_peer.PolledPeer.{PolledPeer}
 use Rattle.rtc_peer_transport.specs.Closing.{is_closing_complete}
-use Rattle.rtc_peer_transport.specs.Connection.{closed_peer, with_media}
+use Rattle.rtc_peer_transport.specs.Connection.{closed_peer}
 use Rattle.rtc_peer_transport.specs.Deadlines.{least_deadline, wake_moment, sooner, wanted_for}
 use Rattle.rtc_peer_transport.specs.Stages.{RepeatsStage}
 use Rattle.rtc_peer_transport.specs.Statistics.{stats_wake}
-use Rattle.rtc_peer_polling.specs.DtlsStages.{is_dtls_due}
 use Rattle.rtc_peer_polling.specs.Walk.{VisitsParts, Waits, WaitsIf, RestsClosed, Walks, AnswersMet, PollsPeerFrom, PollsPeer, with_reason}
 use Rattle.rtc_peer_polling.proofs.QuietVisits.{repeats_once, visited_quiet}
 use Rattle.rtc_peer_polling.proofs.KeptTurns.{phase_of_peer, turns_keep, visits_kept}

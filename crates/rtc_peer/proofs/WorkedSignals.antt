@@ -1,5 +1,5 @@
 -- The kept timeout by worked rows.
-use Rattle.std.proofs.Common.{◌≡◌, ◌-◌, ◌^◌, Some, None, true, false, refl}
+use Rattle.std.proofs.Common.{◌≡◌, ◌-◌, ◌^◌, Some, None, true, refl}
 use Rattle.rtc_ready.specs.Signals.{both, neither}
 use Rattle.rtc_peer_core.specs.declared.phase.Phase.TheVariants.{Alive, Closing, Closed}
 use Rattle.rtc_peer.specs.CachedPeer.{kept_in}

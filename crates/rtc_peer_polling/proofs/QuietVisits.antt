@@ -1,11 +1,10 @@
 -- A visit of the parts that met nothing leaves a peer of which a visit may meet nothing, and change nothing.
-use Rattle.std.proofs.Common.{if◌then◌else◌, ◌≡◌, ◌≢◌, ◌⊎◌, inl, inr, ◌-◌, ◌^◌, ℕ, Bool, true, false, List, [], ◌∷◌, Option, Some, None}
-use Rattle.std.proofs.Common.{Result, Ok, Err, append-nil, refl, sym, ap, subst, ◌∙◌, arith}
-use Rattle.std.specs.declared.alloc.AllocError.{AllocError}
+use Rattle.std.proofs.Common.{if◌then◌else◌, ◌≡◌, ◌≢◌, inl, inr, ℕ, Bool, false, List, [], ◌∷◌, Option, Some, None}
+use Rattle.std.proofs.Common.{Ok, append-nil, refl, sym, ap, subst, arith}
 use Rattle.rtc_parts.specs.declared.reason.Reason.{Reason}
 use Rattle.rtc_parts.specs.declared.dtls_output.DtlsOutput.TheVariants as outputs
 use Rattle.rtc_parts.specs.DtlsDrawn.{DrewTimeout}
-use Rattle.rtc_parts.specs.DtlsState.{DtlsState, PollsOutput, GivesPacket, can_send}
+use Rattle.rtc_parts.specs.DtlsState.{DtlsState, PollsOutput, GivesPacket}
 use Rattle.rtc_parts.specs.declared.stats_event.StatsEvent.{StatsEvent}
 use Rattle.rtc_parts.specs.MediaMeaning.{held_media}
 use Rattle.rtc_config.specs.Stats.{Reporting}
@@ -18,14 +17,14 @@ use Rattle.rtc_peer_transport.specs.declared.met.Met.TheVariants.{Nothing, Again
 use Rattle.rtc_peer_transport.specs.declared.polled_peer.PolledPeer.{PolledPeer}
 use Rattle.rtc_peer_transport.specs.declared.send_addr.SendAddr.{SendAddr}
 use Rattle.rtc_peer_transport.specs.Connection.{with_pushed}
-use Rattle.rtc_peer_transport.specs.Stages.{Stage, FollowedBy, WentOn, RepeatsStage}
+use Rattle.rtc_peer_transport.specs.Stages.{Stage, WentOn, RepeatsStage}
 use Rattle.rtc_peer_transport.specs.Statistics.{TellsReport, TellsReportOf, TellsStatistics}
 use Rattle.rtc_peer_transport.proofs.StatisticsTurns.{HasNoReport}
-use Rattle.rtc_peer_polling.specs.DtlsStages.{TimesDtls, TimesDtlsIf, PollsDtlsOutputs, TellsConnected, TellsConnectedFrom, is_dtls_due}
+use Rattle.rtc_peer_polling.specs.DtlsStages.{TimesDtls, TimesDtlsIf, PollsDtlsOutputs, TellsConnectedFrom, is_dtls_due}
 use Rattle.rtc_peer_polling.specs.IceStages.{PollsIceEvents}
 use Rattle.rtc_peer_polling.specs.MediaStages.{TellsMedia, TellsFallibleMedia}
-use Rattle.rtc_peer_polling.specs.SendStages.{SendsChecks, SendsDtlsPacket, SendsMediaDatagram, SendsBy, SendsByPair}
-use Rattle.rtc_peer_polling.specs.StreamStages.{PollsStreamEvent, PollsStreamEvents, SendsPacket, SendsFirst, SendsKeptPackets, TellsStreams}
+use Rattle.rtc_peer_polling.specs.SendStages.{SendsChecks, SendsDtlsPacket, SendsMediaDatagram, SendsBy}
+use Rattle.rtc_peer_polling.specs.StreamStages.{PollsStreamEvent, SendsPacket, SendsFirst, TellsStreams}
 use Rattle.rtc_peer_polling.specs.Walk.{StartsOverWhenDue, TellsConnection, TellsArrivals, SendsDatagrams, VisitsParts, with_reason}
 use Rattle.rtc_peer_polling.proofs.RestingConnection.{DtlsRests}
 use Rattle.rtc_peer_polling.proofs.RestingStages.{AreSent, WaitsOver, Drained}

@@ -1,5 +1,5 @@
 -- A poll of the streams that gave nothing is followed by one that gives nothing and changes nothing.
-use Rattle.std.proofs.Common.{◌≡◌, ◌⊎◌, inl, inr, ℕ, zero, suc, Bool, true, false, List, Option, Some, None, Result, Ok, refl, sym, ap, subst, ◌∙◌}
+use Rattle.std.proofs.Common.{◌≡◌, ◌⊎◌, inl, inr, ℕ, zero, suc, Bool, true, false, List, Option, Some, None, Result, Ok, refl, ap, subst, ◌∙◌}
 use Rattle.std.specs.declared.alloc.AllocError.{AllocError}
 use Rattle.rtc_parts.specs.declared.assoc_event.AssocEvent.{AssocEvent}
 use Rattle.rtc_parts.specs.declared.assoc_event.AssocEvent.TheVariants as assoc

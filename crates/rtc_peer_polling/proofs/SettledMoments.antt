@@ -1,5 +1,5 @@
 -- A moment of DTLS that has come is handed to the part, which then asks for none that has.
-use Rattle.std.proofs.Common.{if◌then◌else◌, ◌≡◌, ◌-◌, ◌^◌, ◌++◌, ℕ, Bool, true, false, List, []}
+use Rattle.std.proofs.Common.{◌≡◌, ◌-◌, ◌^◌, ◌++◌, ℕ, Bool, true, false, List, []}
 use Rattle.std.proofs.Common.{◌∷◌, Option, Some, None, Result, Ok, Err, refl, sym, ap, subst, ◌∙◌}
 use Rattle.std.specs.declared.alloc.AllocError.{AllocError}
 use Rattle.rtc_parts.specs.declared.dtls_output.DtlsOutput.{DtlsOutput}

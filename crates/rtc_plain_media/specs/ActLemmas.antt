@@ -1,6 +1,5 @@
 -- What each act leaves of lines, of what was prepared and of the datagrams.
 use Rattle.std.proofs.Common.{◌≡◌, inl, inr, ℕ, Bool, true, false, List, [], ◌∷◌, Some, None, Result, Ok, Err, ◌++◌, refl, sym, ap, subst}
-use Rattle.std.specs.declared.alloc.AllocError.{AllocError}
 use Rattle.rtc_parts.specs.Why.{Timed, Shut, Other}
 use Rattle.rtc_parts.specs.declared.media_update.MediaUpdate.{MediaUpdate}
 use Rattle.rtc_parts.specs.MediaActs.{

@@ -1,8 +1,6 @@
 -- Each call of streams keeps the entries tended.
-use Rattle.std.proofs.Common.{◌≡◌, ◌≢◌, ℕ, zero, suc, not, cond, Bool, true, false, true≢false, List, [], ◌∷◌, ◌++◌, take, drop, insert, get_or, Option, Some, None, Result, Ok, Err, refl, sym, ap, subst, ◌∙◌}
-use Rattle.std.specs.Prelude.{slice_get, slice_set, if◌then◌else◌, is_some}
-use Rattle.std.specs.declared.alloc.AllocError.{AllocError}
-use Rattle.rtc_wire.specs.declared.channel_config.ChannelConfig.{ChannelConfig}
+use Rattle.std.proofs.Common.{◌≡◌, ◌≢◌, ℕ, not, cond, Bool, true, false, List, [], ◌∷◌, get_or, Option, Some, None, Result, Ok, Err, refl, sym, ap, subst, ◌∙◌}
+use Rattle.std.specs.Prelude.{slice_set}
 use Rattle.rtc_parts.specs.Why.{Shut, Other}
 use Rattle.rtc_parts.specs.declared.assoc_error.AssocError.{AssocError}
 use Rattle.rtc_parts.specs.AssociationMeaning.{AssociationMeaning}
@@ -10,7 +8,6 @@ use Rattle.rtc_parts.specs.AssociationLaws.{AssociationLaws}
 use Rattle.rtc_parts.specs.AssociationActs.{Started, Taken, Stirred, ByConnect, ByAccept, BySnap, ConnectRefused, AcceptRefused, SnapRefused}
 use Rattle.rtc_sctp_values.specs.StreamIds.{StreamIds, has_id}
 use Rattle.rtc_sctp_entries.specs.declared.asked.Asked.{Asked}
-use Rattle.rtc_sctp_entries.specs.declared.asked.Asked.TheVariants as did
 use Rattle.rtc_sctp_entries.specs.declared.stream_entry.StreamEntry.{StreamEntry}
 use Rattle.rtc_sctp_entries.specs.declared.sctp_event.SctpEvent.TheVariants as event
 use Rattle.rtc_sctp_entries.specs.declared.met.Met.{Met}

@@ -1,5 +1,5 @@
 -- Entries at rest stay so over acts of the association, events and changes of other entries.
-use Rattle.std.proofs.Common.{◌≡◌, ◌≢◌, ◌⊎◌, inl, inr, ℕ, zero, suc, ◌+◌, ◌<◌, ◌==◌, ◌&&◌, Bool, true, false, true≢false, List, [], ◌∷◌, ◌++◌, length, length-append, append-nil, Some, refl, sym, ap, subst, ◌∙◌, arith, take, drop, insert}
+use Rattle.std.proofs.Common.{◌≡◌, ◌≢◌, ◌⊎◌, inl, inr, ℕ, zero, suc, ◌+◌, ◌&&◌, Bool, true, false, true≢false, List, [], ◌∷◌, ◌++◌, length, length-append, Some, refl, sym, ap, subst, ◌∙◌, arith, take, drop, insert}
 use Rattle.std.specs.Prelude.{slice_set}
 use Rattle.std.proofs.lemmas.Bool.{cases_eq}
 use Rattle.std.proofs.lemmas.Bool.Decides.{eqb_tells}
@@ -9,7 +9,6 @@ use Rattle.rtc_parts.specs.declared.assoc_event.AssocEvent.TheVariants as assoc
 use Rattle.rtc_parts.specs.AssociationMeaning.{AssociationMeaning}
 use Rattle.rtc_parts.specs.AssociationLaws.{AssociationLaws}
 use Rattle.rtc_parts.specs.AssociationActs.{Told}
-use Rattle.rtc_parts.specs.AssociationEvents.{AddsEvents}
 use Rattle.rtc_parts.specs.AssociationWords.{completions}
 use Rattle.rtc_parts.proofs.AmongLemmas.{member-left, member-right}
 use Rattle.rtc_parts.proofs.AssociationLemmas.{adds_all}
@@ -20,7 +19,7 @@ use Rattle.rtc_sctp_entries.specs.declared.stream_entry.StreamEntry.{StreamEntry
 use Rattle.rtc_sctp_entries.specs.Entries.{fits_generation, is_retrying}
 use Rattle.rtc_sctp_entries.specs.Visits.{is_entry_there}
 use Rattle.rtc_sctp_entries.proofs.UntoldVisits.{UntoldBut}
-use Rattle.rtc_sctp.specs.Rest.{IsTouched, IsWoken, AreNoted, Rests, RestsIn, AtRest, OthersRest}
+use Rattle.rtc_sctp.specs.Rest.{IsTouched, IsWoken, AreNoted, Rests, RestsIn, OthersRest}
 
 both_parts : (a b : Bool) → (a && b) ≡ true → (a ≡ true) × (b ≡ true)
 both_parts true true h = (refl, refl)

@@ -1,28 +1,25 @@
 -- The calls on one stream, and events, keep the entries tended.
-use Rattle.std.proofs.Common.{◌≡◌, ◌≢◌, ◌⊎◌, inl, inr, ℕ, Bool, true, false, true≢false, List, [], ◌∷◌, ◌++◌, take, drop, insert, get_or, length, ◌<◌, Option, Some, None, Result, Ok, Err, refl, sym, ap, subst, ◌∙◌, zero, suc, arith}
+use Rattle.std.proofs.Common.{◌≡◌, inl, inr, ℕ, Bool, true, false, true≢false, List, [], ◌∷◌, ◌++◌, take, drop, get_or, length, ◌<◌, Option, Some, None, Result, Ok, Err, refl, sym, ap, subst, ◌∙◌, zero, suc, arith}
 use Rattle.std.specs.Prelude.{slice_get, slice_set, if◌then◌else◌, is_some}
 use Rattle.std.proofs.lemmas.Bool.{cases_eq}
 use Rattle.std.proofs.lemmas.Option.{get_or_from_slice_get, slice_get_within}
 use Rattle.std.specs.declared.alloc.AllocError.{AllocError}
 use Rattle.rtc_wire.specs.declared.channel_config.ChannelConfig.{ChannelConfig}
-use Rattle.rtc_parts.specs.declared.assoc_event.AssocEvent.{AssocEvent}
-use Rattle.rtc_parts.specs.declared.assoc_event.AssocEvent.TheVariants as assoc
 use Rattle.rtc_parts.specs.AssociationMeaning.{AssociationMeaning}
 use Rattle.rtc_parts.specs.AssociationLaws.{AssociationLaws}
-use Rattle.rtc_sctp_values.specs.StreamIds.{StreamIds, has_id}
+use Rattle.rtc_sctp_values.specs.StreamIds.{has_id}
 use Rattle.rtc_sctp_entries.specs.declared.asked.Asked.{Asked}
 use Rattle.rtc_sctp_entries.specs.declared.asked.Asked.TheVariants as did
 use Rattle.rtc_sctp_entries.specs.declared.stream_entry_state.StreamEntryState.{StreamEntryState}
 use Rattle.rtc_sctp_entries.specs.declared.stream_entry_state.StreamEntryState.TheVariants.{AwaitOpen, AwaitConfig, AwaitDcepAck, Open, Closed}
 use Rattle.rtc_sctp_entries.specs.declared.stream_entry.StreamEntry.{StreamEntry}
-use Rattle.rtc_sctp_entries.specs.declared.met.Met.{Met}
-use Rattle.rtc_sctp_entries.specs.Entries.{Ascend, entry_place, with_entry, new_entry, new_place, marked_entry, is_closed_state, is_open_awaited}
+use Rattle.rtc_sctp_entries.specs.Entries.{entry_place, with_entry, new_entry, new_place, marked_entry, is_closed_state, is_open_awaited}
 use Rattle.rtc_sctp_entries.proofs.UntoldVisits.{Untold, untold_none, untold_ended, untold_reliability}
 use Rattle.rtc_sctp_entries.proofs.OrderLemmas.{ascend_set, ascend_with, none_missing}
 use Rattle.rtc_sctp.specs.declared.agenda.Agenda.{Agenda}
 use Rattle.rtc_sctp.specs.StreamCalls.{ConfigBy, TakesConfig, Declined, Answered, OpensAwaiting, OpensOver, OpensAt, MarksAt, SetsThresholdAt, EndsStream, NoRoom, Ended, EndsIf, ClosesAt}
 use Rattle.rtc_sctp.specs.Polls.{finished_entry, FinishesAt}
-use Rattle.rtc_sctp.specs.Rest.{AreUnclosed, OthersRest, AreTended}
+use Rattle.rtc_sctp.specs.Rest.{AreUnclosed, AreTended}
 use Rattle.rtc_sctp.proofs.CallsTended.{tended_set}
 use Rattle.rtc_sctp.proofs.CountLemmas.{has_entry_with}
 use Rattle.rtc_sctp.proofs.OrderKept.{over_id}

@@ -1,5 +1,5 @@
 -- Entries of which those left out are at rest stay so.
-use Rattle.std.proofs.Common.{◌≡◌, ◌≢◌, ◌⊎◌, inl, inr, ℕ, zero, suc, ◌+◌, ◌<◌, ◌≤◌, ◌||◌, not, Bool, true, false, true≢false, List, [], ◌∷◌, length, get_or, set, Some, refl, sym, ap, subst, ◌∙◌, arith}
+use Rattle.std.proofs.Common.{◌≡◌, ◌≢◌, inl, ℕ, zero, suc, ◌+◌, ◌<◌, ◌≤◌, ◌||◌, not, Bool, true, false, true≢false, List, [], ◌∷◌, length, get_or, set, Some, refl, sym, ap, subst, ◌∙◌, arith}
 use Rattle.std.proofs.lemmas.List.{get_or_default}
 use Rattle.std.proofs.lemmas.Option.{slice_get-get_or}
 use Rattle.rtc_parts.specs.AssociationMeaning.{AssociationMeaning}
@@ -20,7 +20,7 @@ use Rattle.rtc_sctp_entries.proofs.VisitIds.{visits_id}
 use Rattle.rtc_sctp.specs.declared.agenda.Agenda.{Agenda}
 use Rattle.rtc_sctp.specs.Rest.{AreUnclosed, Rests, RestsIn, AtRest, OthersRest, AreTended, is_done, may_buffer}
 use Rattle.rtc_sctp.proofs.CountLemmas.{has_entry_set, counted_at, none_counted}
-use Rattle.rtc_sctp.proofs.RestLemmas.{others_on, others_noted}
+use Rattle.rtc_sctp.proofs.RestLemmas.{others_on}
 
 -- ---- closed entries
 

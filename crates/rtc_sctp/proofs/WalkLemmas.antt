@@ -1,5 +1,5 @@
 -- A walk over the streams of a set is one over all entries.
-use Rattle.std.proofs.Common.{◌≡◌, ◌≢◌, ◌⊎◌, inl, inr, ℕ, zero, suc, ◌+◌, ◌<◌, ◌≤◌, ◌==◌, Bool, true, false, true≢false, List, [], ◌∷◌, length, get_or, set, nat_lt, Option, Some, None, refl, sym, ap, subst, ◌∙◌, arith}
+use Rattle.std.proofs.Common.{◌≡◌, ◌≢◌, inl, inr, ℕ, zero, suc, ◌+◌, ◌<◌, ◌≤◌, Bool, true, false, true≢false, List, [], ◌∷◌, length, get_or, set, nat_lt, refl, sym, ap, subst, ◌∙◌, arith}
 use Rattle.std.proofs.lemmas.Bool.{cases_lt, cases_eq}
 use Rattle.rtc_parts.specs.declared.assoc_event.AssocEvent.{AssocEvent}
 use Rattle.rtc_parts.specs.AssociationMeaning.{AssociationMeaning}
@@ -10,7 +10,7 @@ use Rattle.rtc_sctp_entries.specs.declared.stream_entry_state.StreamEntryState.{
 use Rattle.rtc_sctp_entries.specs.declared.stream_entry_state.StreamEntryState.TheVariants.{AwaitOpen, AwaitConfig, AwaitDcepAck, Open, Closed}
 use Rattle.rtc_sctp_entries.specs.declared.stream_entry.StreamEntry.{StreamEntry}
 use Rattle.rtc_sctp_entries.specs.declared.met.Met.{Met}
-use Rattle.rtc_sctp_entries.specs.declared.met.Met.TheVariants.{Nothing, Again, Output, OutOfMemory}
+use Rattle.rtc_sctp_entries.specs.declared.met.Met.TheVariants.{Nothing}
 use Rattle.rtc_sctp_entries.specs.Entries.{AscendFrom, is_desired}
 use Rattle.rtc_sctp_entries.proofs.OrderLemmas.{ascend_least}
 use Rattle.rtc_sctp_entries.specs.Visits.{Turn, turn, NothingUnread, AttendsBy, AttendsIf, is_entry_there, VisitsIn, Visits}

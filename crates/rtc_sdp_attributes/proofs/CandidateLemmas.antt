@@ -1,7 +1,7 @@
 -- A candidate that is written is read back.
 use Rattle.std.proofs.lemmas.List.{append-nil}
 use Rattle.rtc_wire_text.specs.Tokens.{is_token}
-use Rattle.std.proofs.Common.{◌≡◌, ℕ, ◌^◌, ◌<◌, ◌≤◌, List, [], ◌∷◌, length, map, Some, refl, ap, ◌∙◌, arith, Option, ◌++◌, true}
+use Rattle.std.proofs.Common.{◌≡◌, ℕ, ◌^◌, ◌<◌, ◌≤◌, List, [], ◌∷◌, length, map, Some, refl, ap, ◌∙◌, arith, ◌++◌}
 use Rattle.std.specs.Prelude.{codes, option_map}
 use Rattle.std.specs.Fmt.{decimal}
 use Rattle.std.specs.List.{AllByRecursion}
@@ -9,18 +9,18 @@ use Rattle.std.proofs.lemmas.Bool.{ne_eqb}
 use Rattle.rtc_wire_text.specs.Cuts.{Lacks}
 use Rattle.rtc_wire_text.specs.Numbers.{number_up_to}
 use Rattle.rtc_wire_text.specs.Words.{spaced}
-use Rattle.rtc_wire_text.proofs.CutLemmas.{parts-after_each, words-spaced, token_lacks, no_token_byte, no_digit, lacks-append, lacks-joined, lacks-after_each}
+use Rattle.rtc_wire_text.proofs.CutLemmas.{token_lacks, no_token_byte, no_digit, lacks-append, lacks-joined, lacks-after_each}
 use Rattle.rtc_wire_text.proofs.NumberLemmas.{number_up_to-decimal, decimal_lacks}
 use Rattle.rtc_wire.specs.declared.protocol.Protocol.{Protocol}
 use Rattle.rtc_wire.specs.declared.protocol.Protocol.TheVariants.{Udp, Tcp, SslTcp, Tls}
 use Rattle.rtc_sdp_values.specs.declared.candidate.Candidate.{Candidate}
 use Rattle.rtc_sdp_values.specs.declared.candidate_kind.CandidateKind.{CandidateKind}
 use Rattle.rtc_sdp_values.specs.declared.candidate_kind.CandidateKind.TheVariants.{Host, ServerReflexive, PeerReflexive, Relayed}
-use Rattle.rtc_sdp_attributes.specs.Forms.{Form, token, one_of, in_lower, split_fields, up_to}
+use Rattle.rtc_sdp_attributes.specs.Forms.{Form, token, one_of, in_lower, split_fields}
 use Rattle.rtc_sdp_attributes.specs.AttributeForms.{protocol_words, candidate_kind_words, byte_number, ip as ip_form, ip_made, candidate_end, candidate_addr, candidate as candidate_form, candidate_made}
 use Rattle.rtc_sdp_attributes.specs.AttributeTexts.{protocol_word, candidate_kind_word, ip_text, candidate_text}
 use Rattle.rtc_sdp_attributes.specs.PlainValues.{IsNamed, IsPlainCandidate}
-use Rattle.rtc_sdp_attributes.proofs.FormLemmas.{passing_again, parted_again, up_to_again}
+use Rattle.rtc_sdp_attributes.proofs.FormLemmas.{passing_again, parted_again}
 
 protocol_again : (proto : Protocol) → IsNamed proto → in_lower (one_of protocol_words) (protocol_word proto) ≡ Some proto
 protocol_again Udp h = refl

@@ -1,13 +1,12 @@
 -- A mapped extension that is written is read back.
-use Rattle.rtc_wire_text.specs.Numbers.{number_up_to}
 use Rattle.rtc_sdp_values.specs.declared.direction.Direction.TheVariants.{SendRecv}
 use Rattle.rtc_sdp_values.specs.declared.direction.Direction.{Direction}
 use Rattle.std.specs.Prelude.{option_map}
-use Rattle.std.proofs.Common.{◌≡◌, ℕ, ◌^◌, ◌<◌, ◌≤◌, true, ltb, ◌∷◌, Some, refl, ap, ◌∙◌, arith, Option, ◌++◌}
+use Rattle.std.proofs.Common.{◌≡◌, ℕ, ◌^◌, ◌<◌, ◌≤◌, true, ltb, ◌∷◌, Some, refl, ap, arith}
 use Rattle.std.specs.Fmt.{decimal}
 use Rattle.std.proofs.lemmas.Bool.{ne_eqb, lt-ltb}
 use Rattle.rtc_wire_text.specs.Cuts.{Lacks}
-use Rattle.rtc_wire_text.proofs.CutLemmas.{cut-append, cut_none, no_digit, lacks-append, is_printable, printable_lacks}
+use Rattle.rtc_wire_text.proofs.CutLemmas.{no_digit, lacks-append, is_printable, printable_lacks}
 use Rattle.rtc_wire_text.proofs.NumberLemmas.{number_up_to-decimal, decimal_lacks}
 use Rattle.rtc_sdp_values.specs.declared.extension.Extension.{Extension}
 use Rattle.rtc_sdp_values.specs.declared.extension.Extension.TheVariants.{AudioLevel, AbsoluteSendTime, TransportSequenceNumber, RtpMid, RtpStreamId, RepairedRtpStreamId, VideoOrientation}

@@ -1,15 +1,15 @@
 -- A fingerprint that is written is read back.
 use Rattle.rtc_wire_text.specs.Tokens.{is_token}
 use Rattle.std.specs.Prelude.{option_map}
-use Rattle.std.proofs.Common.{◌≡◌, ℕ, ◌<◌, ◌∷◌, Some, refl, ap, ◌∙◌, arith, Option, ◌++◌, true, List}
+use Rattle.std.proofs.Common.{◌≡◌, ℕ, ◌<◌, ◌∷◌, Some, refl, ap, ◌∙◌, arith, List}
 use Rattle.std.proofs.lemmas.Bool.{ne_eqb}
 use Rattle.rtc_wire_text.specs.Cuts.{Lacks}
 use Rattle.rtc_wire_text.specs.Hex.{hex_text, hex_bytes}
-use Rattle.rtc_wire_text.proofs.CutLemmas.{cut-append, token_lacks, no_token_byte, lacks-append}
+use Rattle.rtc_wire_text.proofs.CutLemmas.{token_lacks, no_token_byte, lacks-append}
 use Rattle.rtc_wire_text.proofs.CaseLemmas.{lower_stays}
 use Rattle.rtc_wire_text.proofs.HexLemmas.{hex_bytes-hex_text, hex_text_lacks}
 use Rattle.rtc_sdp_values.specs.declared.fingerprint.Fingerprint.{Fingerprint}
-use Rattle.rtc_sdp_attributes.specs.Forms.{token, SPACE}
+use Rattle.rtc_sdp_attributes.specs.Forms.{token}
 use Rattle.rtc_sdp_attributes.specs.AttributeForms.{fingerprint as fingerprint_form, fingerprint_made}
 use Rattle.rtc_sdp_attributes.specs.AttributeTexts.{fingerprint_text}
 use Rattle.rtc_sdp_attributes.specs.PlainValues.{IsPlainFingerprint}

@@ -1,9 +1,8 @@
 -- What the forms give of texts that are put together as they part them.
-use Rattle.std.proofs.Common.{◌≡◌, ℕ, true, ltb, List, [], ◌∷◌, ◌++◌, Option, Some, None, refl, ap, ◌∙◌, Bool}
-use Rattle.std.specs.Prelude.{option_map}
+use Rattle.std.proofs.Common.{◌≡◌, ℕ, true, List, ◌∷◌, ◌++◌, Option, Some, refl, ap, ◌∙◌, Bool}
 use Rattle.rtc_wire_text.specs.Cuts.{Lacks}
 use Rattle.rtc_wire_text.proofs.CutLemmas.{cut-append, cut_none}
-use Rattle.rtc_sdp_attributes.specs.Forms.{Form, passing, fields_together, halves_together, split_fields, behind_label, labelled, with_default, tailed, up_to, front_of, saying}
+use Rattle.rtc_sdp_attributes.specs.Forms.{Form, passing, fields_together, halves_together, split_fields, with_default, tailed, up_to, front_of}
 
 pub passing_again : (test : List ℕ → Bool) (text : List ℕ) → test text ≡ true → passing test text ≡ Some text
 passing_again test text h = rw h refl

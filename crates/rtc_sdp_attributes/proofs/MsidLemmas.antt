@@ -1,10 +1,10 @@
 -- A stream and a track that are written are read back.
 use Rattle.rtc_wire_text.specs.Tokens.{is_token}
 use Rattle.std.specs.Prelude.{option_map}
-use Rattle.std.proofs.Common.{◌≡◌, ℕ, ◌<◌, ◌∷◌, Some, refl, ap, ◌∙◌, arith, Option, ◌++◌, true}
+use Rattle.std.proofs.Common.{◌≡◌, ℕ, ◌<◌, ◌∷◌, Some, refl, ap, arith}
 use Rattle.std.proofs.lemmas.Bool.{ne_eqb}
 use Rattle.rtc_wire_text.specs.Cuts.{Lacks}
-use Rattle.rtc_wire_text.proofs.CutLemmas.{cut-append, token_lacks, no_token_byte, lacks-append}
+use Rattle.rtc_wire_text.proofs.CutLemmas.{token_lacks, no_token_byte, lacks-append}
 use Rattle.rtc_sdp_values.specs.declared.msid.Msid.{Msid}
 use Rattle.rtc_sdp_attributes.specs.Forms.{token}
 use Rattle.rtc_sdp_attributes.specs.AttributeForms.{msid as msid_form, msid_made}

@@ -1,17 +1,17 @@
 -- A restricted layer that is written is read back.
 use Rattle.rtc_wire_text.specs.Tokens.{is_short_token}
-use Rattle.std.proofs.Common.{◌≡◌, ℕ, ◌<◌, List, [], ◌∷◌, ◌++◌, map, Option, Some, refl, ap, ◌∙◌, arith, rules, true}
+use Rattle.std.proofs.Common.{◌≡◌, ℕ, ◌<◌, List, [], ◌∷◌, ◌++◌, map, Some, refl, ap, ◌∙◌, arith, rules}
 use Rattle.std.specs.Prelude.{codes, filter, option_map}
 use Rattle.std.specs.List.{AllByRecursion}
 use Rattle.std.proofs.lemmas.Bool.{ne_eqb}
 use Rattle.std.proofs.lemmas.List.{append-nil}
-use Rattle.rtc_wire_text.specs.Cuts.{cut, Lacks}
+use Rattle.rtc_wire_text.specs.Cuts.{Lacks}
 use Rattle.rtc_wire_text.specs.Fields.{each}
 use Rattle.rtc_wire_text.specs.Words.{joined}
 use Rattle.rtc_wire_text.proofs.CutLemmas.{cut-append, cut_none, parts-after_each, short_token_lacks, no_token_byte, lacks-append, lacks-joined, printable_lacks}
 use Rattle.rtc_sdp_attributes.specs.declared.rid_direction.RidDirection.{RidDirection}
 use Rattle.rtc_sdp_attributes.specs.declared.rid_direction.RidDirection.TheVariants.{Send, Recv}
-use Rattle.rtc_sdp_attributes.specs.Forms.{Form, short_token, one_of, tailed, each_part}
+use Rattle.rtc_sdp_attributes.specs.Forms.{Form, short_token, one_of, tailed}
 use Rattle.rtc_sdp_attributes.specs.AttributeForms.{rid_direction_words, is_kept, rid_pair, rid_pairs, rid as rid_form, rid_made}
 use Rattle.rtc_sdp_attributes.specs.AttributeTexts.{rid_direction_word, pair_text, pairs_text, rid_text}
 use Rattle.rtc_sdp_attributes.specs.PlainValues.{IsPlainPair, IsPlainRid}

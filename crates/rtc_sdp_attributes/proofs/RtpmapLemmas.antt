@@ -1,14 +1,14 @@
 -- A codec that is written is read back.
 use Rattle.rtc_wire_text.specs.Tokens.{is_token}
 use Rattle.std.specs.Prelude.{option_map}
-use Rattle.std.proofs.Common.{◌≡◌, ℕ, ◌^◌, ◌<◌, ◌≤◌, List, [], ◌∷◌, ◌++◌, Option, Some, refl, ap, ◌∙◌, arith, inl, inr, true}
+use Rattle.std.proofs.Common.{◌≡◌, ℕ, ◌^◌, ◌<◌, ◌≤◌, List, [], ◌∷◌, ◌++◌, Some, refl, ap, ◌∙◌, arith, inl, inr}
 use Rattle.std.specs.Fmt.{decimal}
 use Rattle.std.proofs.lemmas.Bool.{ne_eqb}
 use Rattle.std.proofs.lemmas.Bool.Decides.{eqb_tells}
 use Rattle.std.proofs.lemmas.List.{append-nil}
 use Rattle.rtc_wire_text.specs.Cuts.{Lacks}
 use Rattle.rtc_wire_text.specs.Numbers.{number_up_to}
-use Rattle.rtc_wire_text.proofs.CutLemmas.{cut-append, cut_none, token_lacks, no_token_byte, no_digit, lacks-append}
+use Rattle.rtc_wire_text.proofs.CutLemmas.{token_lacks, no_token_byte, no_digit, lacks-append}
 use Rattle.rtc_wire_text.proofs.NumberLemmas.{number_up_to-decimal, decimal_lacks}
 use Rattle.rtc_sdp_attributes.specs.Forms.{Form, token, split_fields, tailed}
 use Rattle.rtc_sdp_attributes.specs.AttributeForms.{rtpmap as rtpmap_form, rtpmap_made}

@@ -1,15 +1,14 @@
 -- Names and pairs of sources that are written are read back.
-use Rattle.rtc_wire_text.specs.Numbers.{number_up_to}
 use Rattle.std.proofs.lemmas.List.{append-nil}
-use Rattle.std.proofs.Common.{◌≡◌, ℕ, ◌^◌, ◌<◌, ◌≤◌, true, ltb, List, [], ◌∷◌, ◌++◌, length, Some, None, refl, ap, ◌∙◌, arith, rules, Option}
+use Rattle.std.proofs.Common.{◌≡◌, ℕ, ◌^◌, ◌<◌, ◌≤◌, true, List, [], ◌∷◌, ◌++◌, length, Some, None, refl, ap, ◌∙◌, arith, Option}
 use Rattle.std.specs.Prelude.{codes, option_map}
 use Rattle.std.specs.Fmt.{decimal}
 use Rattle.std.proofs.lemmas.Bool.{ne_eqb, lt-ltb}
 use Rattle.rtc_wire_text.specs.Cuts.{Lacks}
 use Rattle.rtc_wire_text.specs.Words.{spaced}
-use Rattle.rtc_wire_text.proofs.CutLemmas.{cut-append, no_digit, lacks-append, lacks-after_each, printable_lacks, words-spaced}
+use Rattle.rtc_wire_text.proofs.CutLemmas.{cut-append, no_digit, lacks-append, lacks-after_each, printable_lacks}
 use Rattle.rtc_wire_text.proofs.NumberLemmas.{number_up_to-decimal, decimal_lacks}
-use Rattle.rtc_sdp_attributes.specs.Forms.{Form, filled, is_filled, labelled, behind_label, halves_together, split_fields}
+use Rattle.rtc_sdp_attributes.specs.Forms.{Form, filled, is_filled, labelled, halves_together, split_fields}
 use Rattle.rtc_sdp_attributes.specs.AttributeForms.{ssrc_number, source, source_made, source_pair_form, source_pair_made}
 use Rattle.rtc_sdp_attributes.specs.AttributeTexts.{ssrc_name_text, ssrc_msid_text, ssrc_pair_text}
 use Rattle.rtc_sdp_attributes.proofs.FormLemmas.{passing_again, parted_again}

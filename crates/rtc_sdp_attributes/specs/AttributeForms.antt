@@ -1,15 +1,14 @@
 -- The forms of the values of attributes, each with the section that has it.
-use Rattle.std.specs.Prelude.{ℕ, Bool, true, false, not, List, [], ◌∷◌, filter, map, Option, Some, None, option_map, if◌then◌else◌, codes}
+use Rattle.std.specs.Prelude.{ℕ, Bool, not, List, [], ◌∷◌, filter, Option, Some, None, codes}
 use Rattle.std.specs.Str.{bytes_eq}
 use Rattle.rtc_wire_text.specs.Cuts.{cut}
-use Rattle.rtc_wire_text.specs.Fields.{each, first}
+use Rattle.rtc_wire_text.specs.Fields.{first}
 use Rattle.rtc_wire_text.specs.Fronts.{from_first, is_blank, is_byte}
 use Rattle.rtc_wire_text.specs.Hex.{hex_bytes}
 use Rattle.rtc_wire_text.specs.LetterCase.{lower}
 use Rattle.rtc_wire_text.specs.Numbers.{number_up_to}
 use Rattle.rtc_wire_text.specs.Once.{each_once}
 use Rattle.rtc_wire_text.specs.Words.{parts, words}
-use Rattle.rtc_wire.specs.declared.addr.Addr.{Addr}
 use Rattle.rtc_wire.specs.declared.protocol.Protocol.{Protocol}
 use Rattle.rtc_wire.specs.declared.protocol.Protocol.TheVariants.{Udp, Tcp}
 use Rattle.rtc_sdp_values.specs.Extension.{of_uri}

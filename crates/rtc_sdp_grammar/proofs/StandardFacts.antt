@@ -1,5 +1,5 @@
 -- Lines of the standards' examples, computed from the table.
-use Rattle.std.proofs.Common.{◌≡◌, ℕ, false, List, [], ◌∷◌, refl}
+use Rattle.std.proofs.Common.{◌≡◌, false, [], ◌∷◌, refl}
 use Rattle.std.specs.Prelude.{codes}
 use Rattle.rtc_wire_text.specs.Numbers.{number}
 use Rattle.rtc_wire.specs.declared.protocol.Protocol.TheVariants.{Udp}

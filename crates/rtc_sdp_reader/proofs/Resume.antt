@@ -1,5 +1,5 @@
 -- What the reader will answer if these lines come next: the reading, from where it stands.
-use Rattle.std.proofs.Common.{◌≡◌, ℕ, ◌+◌, nat_eq, Bool, true, false, not, cond, List, [], ◌∷◌, ◌++◌, Option, Some, None, Result, Ok, Err, refl, sym, ap, ◌∙◌, append_assoc, zero-add, add-zero, ◌<◌, length, map, arith, subst}
+use Rattle.std.proofs.Common.{◌≡◌, ℕ, ◌+◌, nat_eq, Bool, true, false, not, cond, List, [], ◌∷◌, ◌++◌, Option, Some, None, Result, Ok, Err, refl, sym, ap, ◌∙◌, append_assoc, zero-add, add-zero, length, map, arith, subst}
 use Rattle.std.specs.Prelude.{filter}
 use Rattle.std.specs.List.{cons_option}
 use Rattle.std.specs.Option.{option_or}

@@ -1,5 +1,5 @@
 -- Sets of mids, filled from the last mid on.
-use Rattle.std.proofs.Common.{◌≡◌, ◌+◌, ◌<◌, ◌≤◌, ◌∙◌, ◌||◌, ◌&&◌, not, ℕ, Bool, true, false, cond, List, [], ◌∷◌, drop, get_or, length, subst, refl, sym, ap, arith, suc, zero, map}
+use Rattle.std.proofs.Common.{◌≡◌, ◌+◌, ◌<◌, ◌≤◌, ◌∙◌, ◌||◌, ◌&&◌, ℕ, Bool, true, false, cond, List, [], ◌∷◌, drop, get_or, length, subst, refl, sym, ap, arith, suc, zero}
 use Rattle.std.specs.List.{list_any, list_all}
 use Rattle.std.specs.BTreeSet as set
 use Rattle.std.specs.BTreeSet.{BTreeSet}

@@ -34,7 +34,7 @@ use Rattle.rtc_sdp_writer.specs.Rows.{in_order}
 use Rattle.rtc_sdp_writer.specs.LineRows.{inner_rows}
 use Rattle.rtc_sdp_writer.specs.Placeholders.{filled_sdp}
 use Rattle.rtc_sdp_writer.specs.MediaRows.{shown_stream}
-use Rattle.rtc_sdp_writer.specs.SessionRows.{enabled_mids, new_name, names_behind, stream_names, lite_lines, session_groups, sdp_rows, written_sdp}
+use Rattle.rtc_sdp_writer.specs.SessionRows.{enabled_mids, new_name, names_behind, stream_names, lite_lines, session_groups, written_sdp}
 use Rattle.rtc_sdp_writer.specs.Plain.{IsLegibleLine, IsLegible, IsPlain}
 use Rattle.rtc_sdp_writer.specs.SessionRows.{is_stream}
 use Rattle.rtc_sdp_values.specs.declared.msid.Msid.{Msid}

@@ -1,9 +1,8 @@
 -- What the lines of a line part say: a row for each attribute.
-use Rattle.std.proofs.Common.{◌≡◌, ℕ, ◌<◌, ◌^◌, Bool, true, false, not, cond, List, [], ◌∷◌, ◌++◌, map, Option, Some, None, refl, sym, ap, subst, ◌∙◌, rules}
+use Rattle.std.proofs.Common.{◌≡◌, ℕ, ◌<◌, ◌^◌, Bool, true, false, not, cond, List, [], ◌∷◌, ◌++◌, Option, Some, None, refl, rules}
 use Rattle.std.specs.Prelude.{codes, IfSome, option_map}
 use Rattle.std.specs.List.{AllByRecursion}
 use Rattle.rtc_wire_text.specs.Cuts.{Lacks}
-use Rattle.rtc_wire_text.specs.Lines.{AreLines}
 use Rattle.rtc_sdp_attributes.specs.Forms.{is_word_up_to}
 use Rattle.rtc_sdp_attributes.specs.PlainValues.{IsPlainMsid}
 use Rattle.rtc_sdp_reader.specs.PlainLayers.{listed}
@@ -29,15 +28,15 @@ use Rattle.rtc_sdp_grammar.specs.Table.{attribute_item}
 use Rattle.rtc_sdp_grammar.specs.ConnectionTexts.{ufrag_line, password_line, fingerprint_line, candidate_line, message_size_line, sctp_init_line}
 use Rattle.rtc_sdp_grammar.specs.LineTexts.{mid_line, setup_line, direction_line}
 use Rattle.rtc_sdp_grammar.specs.MediaTexts.{extension_line, stream_line, layer_line, layer_list_line, source_pair_line}
-use Rattle.rtc_sdp_grammar.proofs.LineLaws.{IsLineOf, mid_line_is, setup_line_is, direction_line_is, media_line_is, skipped_line_is, head_of, ArePayloadTypes}
+use Rattle.rtc_sdp_grammar.proofs.LineLaws.{IsLineOf, mid_line_is, setup_line_is, direction_line_is, skipped_line_is, ArePayloadTypes}
 use Rattle.rtc_sdp_grammar.proofs.ConnectionLineLaws.{ufrag_line_is, password_line_is, fingerprint_line_is, candidate_line_is, message_size_line_is, sctp_init_line_is, trickle_line_is, sctp_port_line_is}
 use Rattle.rtc_sdp_grammar.proofs.MediaLineLaws.{extension_line_is, stream_line_is, layer_line_is, IsPlainLayerList, layer_list_line_is, source_pair_line_is, IsPlainPair}
 use Rattle.rtc_sdp_grammar.proofs.MediaLineLaws.{IsPlainLayer as IsPlainLayerLine}
 use Rattle.rtc_sdp_writer.specs.Rows.{in_order}
-use Rattle.rtc_sdp_writer.specs.LineRows.{transport_groups, media_groups, channel_groups, kind_groups, inner_rows, line_rows}
+use Rattle.rtc_sdp_writer.specs.LineRows.{transport_groups, media_groups, channel_groups, kind_groups}
 use Rattle.rtc_sdp_writer.specs.MediaRows.{shown_stream, shown_sources, all_payload_lines, layers_in, all_source_lines}
 use Rattle.rtc_sdp_writer.specs.Plain.{IsPlainCreds, IsPlainHash, IsHost, IsPlainChunk, IsPlainRow, IsPlainExtension, IsLegibleLine}
-use Rattle.rtc_sdp_writer.proofs.Blocks.{Block, single_block, optional_block, list_block, joined_block, kept_block, rows_in, items_in, rows_again, rows_one}
+use Rattle.rtc_sdp_writer.proofs.Blocks.{Block, single_block, optional_block, list_block, joined_block, kept_block, rows_in, items_in}
 use Rattle.rtc_sdp_writer.proofs.LayerBlocks.{layers_plain, list_plain}
 use Rattle.rtc_sdp_writer.proofs.PayloadBlocks.{payload_blocks, payloads_as_written, payload_tags, payloads_tagged}
 use Rattle.rtc_sdp_writer.proofs.SourceBlocks.{AreNumbers, number_blocks, sources_as_written, numbers_tagged, pairs_plain}

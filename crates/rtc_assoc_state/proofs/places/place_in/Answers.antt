@@ -1,4 +1,4 @@
-use Rattle.std.proofs.Common.{◌≡◌, ◌∙◌, suc, sym, ap, refl, arith, zero, ℕ}
+use Rattle.std.proofs.Common.{sym, ap, arith}
 use Rattle.std.proofs.lemmas.Bool.Decides.{nat_tests}
 use Rattle.rtc_assoc_state.specs.Places.{place_in_slot}
 use Rattle.rtc_assoc_state.proofs.PlaceLemmas.{slot_past}

@@ -1,7 +1,7 @@
-use Rattle.std.proofs.Common.{◌≡◌, ◌<◌, ◌^◌, ◌∙◌, ap, sym, subst, length, List, None, arith}
+use Rattle.std.proofs.Common.{◌≡◌, ◌<◌, ◌^◌, ◌∙◌, sym, subst, length, List, None, arith}
 use Rattle.std.specs.Prelude.{slice_get, IsSomeAnd}
 use Rattle.rtc_gate_calls.specs.GateState.{ConnectionState, connection_numbered}
-use Rattle.rtc_gate_calls.proofs.ConnectionLemmas.{got, place_within}
+use Rattle.rtc_gate_calls.proofs.ConnectionLemmas.{place_within}
 use Rattle.rtc_gate_calls.proofs.GateLemmas.{nobody_filtered, removed_is, found_at}
 use Rattle.rtc_gate_calls.proofs.acting.leave_from.Goals as goal
 

@@ -1,5 +1,4 @@
 use Rattle.std.proofs.Common.{◌≡◌, ◌^◌, ◌∙◌, ap, sym, Some}
-use Rattle.rtc_gate_calls.specs.GateState.{ConnectionState}
 use Rattle.rtc_gate_calls.proofs.ConnectionLemmas.{place_within}
 use Rattle.rtc_gate_calls.proofs.GateLemmas.{nobody_left, found_at, one_found}
 use Rattle.rtc_gate_calls.proofs.acting.take_from.Goals as goal

@@ -1,4 +1,4 @@
-use Rattle.std.proofs.Common.{◌≡◌, [], length, arith}
+use Rattle.std.proofs.Common.{◌≡◌, length, arith}
 use Rattle.rtc_gate_calls.proofs.ParcelLemmas.{deliver_one, all_delivered}
 use Rattle.rtc_gate_calls.proofs.delivering.deliver.Goals as goal
 

@@ -1,5 +1,5 @@
-use Rattle.std.proofs.Common.{◌≡◌, ℕ, ◌+◌, ◌<◌, ◌≤◌, ◌^◌, ◌∙◌, ◌++◌, Bool, true, false, List, length, map, get_or, Option, Some, refl, ap, sym, subst, arith, length-append}
-use Rattle.std.specs.Prelude.{slice_get, IsSomeAnd}
+use Rattle.std.proofs.Common.{◌≡◌, ℕ, ◌+◌, ◌<◌, ◌^◌, ◌∙◌, ◌++◌, true, false, List, length, map, Option, ap, subst, arith, length-append}
+use Rattle.std.specs.Prelude.{IsSomeAnd}
 use Rattle.rtc_gate_calls.specs.GateState.{ConnectionState}
 use Rattle.rtc_gate_calls.specs.Delivering.{parcel_of, connection_changed_at, with_piece, cut_to, advanced, after_parcels, Sorts}
 use Rattle.rtc_gate_calls.proofs.ConnectionLemmas.{got}

@@ -1,7 +1,6 @@
-use Rattle.std.proofs.Common.{◌≡◌, ◌∙◌, ◌^◌, ◌+◌, ◌<◌, ap, sym, subst, length, List, Option, Some}
-use Rattle.std.specs.Prelude.{slice_get, IsSomeAnd, IfSome}
+use Rattle.std.proofs.Common.{◌≡◌, ◌∙◌, ◌^◌, ◌+◌, ◌<◌, ap, sym, subst, length, Option}
+use Rattle.std.specs.Prelude.{IsSomeAnd, IfSome}
 use Rattle.rtc_gate_calls.specs.GateState.{ConnectionState, IsAnswered, feed_answer, fed_connections}
-use Rattle.rtc_gate_calls.specs.declared.gate_error.GateError.TheVariants.{BadFrame}
 use Rattle.rtc_gate_calls.proofs.ConnectionLemmas.{got}
 use Rattle.rtc_gate_calls.proofs.GateLemmas.{found_at}
 use Rattle.rtc_gate_calls.proofs.CallLemmas.{stuck_answer, stuck_fed}

@@ -1,4 +1,4 @@
-use Rattle.std.proofs.Common.{◌≡◌, ℕ, Bool, true, false, List, Option, Some, None, cond, refl}
+use Rattle.std.proofs.Common.{◌≡◌, ℕ, Bool, true, false, List, Some, None, cond, refl}
 use Rattle.std.specs.Str.{IsUtf8}
 use Rattle.rtc_wire_text.specs.Tokens.{is_short_token}
 use Rattle.rtc_wire_text.proofs.TokenLemmas.{token_bytes_utf8, short_token_bytes}

@@ -1,4 +1,4 @@
-use Rattle.std.proofs.Common.{◌≡◌, ◌+◌, ◌-◌, ◌<◌, ◌≤◌, ◌/◌, ◌^◌, ℕ, length, Some, arith}
+use Rattle.std.proofs.Common.{◌≡◌, ◌+◌, ◌-◌, ◌/◌, ◌^◌, ℕ, Some, arith}
 use Rattle.std.specs.Prelude.{slice_get}
 use Rattle.rtc_gate_calls.proofs.ConnectionLemmas.{get_here, smaller_before, greater_behind, nobody_between}
 use Rattle.rtc_gate_calls.proofs.places.place_of.Goals as goal

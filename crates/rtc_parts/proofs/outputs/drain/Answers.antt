@@ -1,7 +1,6 @@
-use Rattle.std.proofs.Common.{rules, ◌≡◌, ◌++◌, List, ℕ, [], ◌∷◌, take, refl, sym, ap, ◌∙◌, append_assoc, arith}
+use Rattle.std.proofs.Common.{rules, ◌≡◌, ◌++◌, [], ◌∷◌, take, refl, ◌∙◌, append_assoc, arith}
 use Rattle.std.proofs.lemmas.Grind.{common_steps}
 use Rattle.std.proofs.lemmas.Result.{err_from_is_err_and}
-use Rattle.rtc_parts.specs.DtlsState.{Drains}
 use Rattle.rtc_parts.proofs.DtlsLemmas.{takes_more}
 use Rattle.rtc_parts.proofs.outputs.drain.Goals as goal
 

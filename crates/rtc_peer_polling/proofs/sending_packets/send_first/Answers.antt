@@ -1,6 +1,6 @@
 use Rattle.std.proofs.Common.{◌∙◌, ℕ, List, Some, Ok, Err, sym, ap, subst, slice_get}
 use Rattle.rtc_parts.specs.declared.dtls_error.DtlsError.{DtlsError}
-use Rattle.rtc_parts.specs.declared.dtls_error.DtlsError.TheVariants.{WouldBlock, Fault, Alloc as DtlsAlloc}
+use Rattle.rtc_parts.specs.declared.dtls_error.DtlsError.TheVariants.{Fault, Alloc as DtlsAlloc}
 use Rattle.rtc_parts.specs.DtlsState.{DtlsState, SendsData, can_send}
 use Rattle.rtc_peer_core.specs.Meanings.{meanings}
 use Rattle.rtc_sctp.specs.Streams.{SctpStreams}

@@ -1,6 +1,5 @@
-use Rattle.std.proofs.Common.{◌≡◌, ◌∙◌, ◌++◌, ◌∷◌, [], List, ℕ, ◌-◌, ◌+◌, suc, refl, sym, ap, arith, append_assoc, append-nil}
-use Rattle.std.specs.List.{flat_map}
-use Rattle.rtc_peer_core.specs.Sources.{has_source, pair_numbers}
+use Rattle.std.proofs.Common.{◌≡◌, ◌∙◌, ◌-◌, ◌+◌, suc, refl, sym, arith, append-nil}
+use Rattle.rtc_peer_core.specs.Sources.{has_source}
 use Rattle.rtc_parts.proofs.LaterLemmas.{later_none, later_join}
 use Rattle.rtc_peer_sdp.proofs.Pairs.{one_pair, one_draw, one_more_pair, most_pairs, later_same}
 use Rattle.rtc_peer_sdp.proofs.sourcing.draw_pairs.Goals as goal

@@ -1,4 +1,4 @@
-use Rattle.std.proofs.Common.{◌≡◌, ◌++◌, ◌-◌, []}
+use Rattle.std.proofs.Common.{◌≡◌, ◌++◌, ◌-◌}
 use Rattle.std.specs.List.{flat_map}
 use Rattle.rtc_parts.specs.Draws.{Later}
 use Rattle.rtc_peer_core.specs.Sources.{has_source, pair_numbers, next_pairs, after_pairs}

@@ -1,4 +1,4 @@
-use Rattle.std.proofs.Common.{◌∙◌, sym, arith}
+use Rattle.std.proofs.Common.{arith}
 use Rattle.rtc_sctp.proofs.SumLemmas.{sum_begins, all_counted, sum_goes, sum_ends}
 use Rattle.rtc_sctp.proofs.buffered.left_of.Goals as goal
 

@@ -1,4 +1,4 @@
-use Rattle.std.proofs.Common.{◌≡◌, ◌∙◌, [], ap, arith}
+use Rattle.std.proofs.Common.{◌∙◌, ap, arith}
 use Rattle.rtc_sctp.proofs.IdSteps.{stop_from}
 use Rattle.rtc_sctp.proofs.WalkLemmas.{from_all, skips, ends}
 use Rattle.rtc_sctp.proofs.walk.visit_all.Goals as goal

@@ -1,6 +1,5 @@
 -- Each arm: the rows of this length are the table's answer; the last arm: no row has such a length.
-use Rattle.std.proofs.Common.{sym, ◌∙◌, arith, refl, ap, ◌≡◌}
-use Rattle.std.specs.Prelude.{IfOk}
+use Rattle.std.proofs.Common.{sym, ◌∙◌, arith}
 use Rattle.rtc_sdp_grammar.specs.NameLengths.{bytes_shown}
 use Rattle.rtc_sdp_grammar.proofs.NameLemmas.{found_at, other_lengths}
 use Rattle.rtc_sdp_grammar.proofs.attribute_form.attribute_item.Goals as goal

@@ -1,6 +1,5 @@
-use Rattle.std.proofs.Common.{◌≡◌, ◌≤◌, true, drop, length}
+use Rattle.std.proofs.Common.{◌≤◌, drop, length}
 use Rattle.rtc_sdp_values.specs.MidSets.{HasMids}
-use Rattle.rtc_sdp_values.specs.Mids.{are_distinct}
 use Rattle.rtc_sdp_values.proofs.mid_sets.collect_mids.Given as goal
 
 abbrev pub invariant-loop-at : goal.invariant-loop-at

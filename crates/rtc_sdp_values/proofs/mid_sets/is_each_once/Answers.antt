@@ -1,6 +1,6 @@
 use Rattle.std.proofs.Common.{◌≡◌, ◌∙◌, ◌+◌, ◌-◌, subst, drop, ℕ, sym, arith, not, Bool, true, false, refl}
 use Rattle.rtc_sdp_values.specs.Mids.{are_distinct}
-use Rattle.rtc_sdp_values.proofs.MidSetLemmas.{IsPut, is_put, repeated_front, distinct_front}
+use Rattle.rtc_sdp_values.proofs.MidSetLemmas.{is_put, repeated_front, distinct_front}
 use Rattle.rtc_sdp_values.proofs.mid_sets.is_each_once.Goals as goal
 
 held_before : (added there : Bool) → added ≡ not there → added ≡ false → there ≡ true

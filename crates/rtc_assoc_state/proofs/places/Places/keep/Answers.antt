@@ -1,4 +1,4 @@
-use Rattle.std.proofs.Common.{◌≡◌, ◌<◌, ◌+◌, ◌/◌, ◌%◌, length, set, true, sym, arith}
+use Rattle.std.proofs.Common.{◌≡◌, ◌<◌, ◌+◌, ◌/◌, ◌%◌, length, set, true, arith}
 use Rattle.std.proofs.lemmas.Grind.{common_steps}
 use Rattle.rtc_assoc_state.specs.Places.{has_slot}
 use Rattle.rtc_assoc_state.proofs.PlaceLemmas.{room_list, room_slot, list_put, place_put}

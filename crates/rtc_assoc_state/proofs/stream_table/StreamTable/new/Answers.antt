@@ -1,4 +1,3 @@
-use Rattle.std.proofs.Common.{refl, sym, ◌∙◌}
 use Rattle.rtc_assoc_state.proofs.TableLemmas.{sound-none}
 use Rattle.rtc_assoc_state.proofs.stream_table.StreamTable.new.Goals as goal
 

@@ -1,4 +1,4 @@
-use Rattle.std.proofs.Common.{◌≡◌, ◌^◌, ◌∙◌, sym, subst, List}
+use Rattle.std.proofs.Common.{◌^◌, ◌∙◌, sym, subst, List}
 use Rattle.rtc_gate_calls.specs.GateState.{ConnectionState}
 use Rattle.rtc_gate_calls.specs.Gate.{IsKept}
 use Rattle.rtc_gate_calls.proofs.GateLemmas.{numbered_below, kept_leave, nobody_filtered}

@@ -1,4 +1,4 @@
-use Rattle.std.proofs.Common.{rules, ◌≡◌, ◌≢◌, ℕ, Ok, Err, ap, refl, sym, ◌∙◌}
+use Rattle.std.proofs.Common.{rules, ◌≡◌, ◌≢◌, Ok, Err, refl}
 use Rattle.rtc_peer_core.specs.Meanings.{meanings}
 use Rattle.rtc_peer_core.specs.declared.phase.Phase.TheVariants.{Closed}
 use Rattle.rtc_peer_transport.specs.declared.met.Met.TheVariants.{Transmit, Event, Error}

@@ -6,7 +6,7 @@ use Rattle.rtc_sctp_values.specs.SnapHalves.{begun_halves}
 use Rattle.rtc_sctp_values.specs.declared.sctp_error.SctpError.{SctpError}
 use Rattle.rtc_sctp.specs.Refusals.{IsRefusedAs, refusal_of_start}
 use Rattle.rtc_sctp.specs.Streams.{SctpStreams}
-use Rattle.rtc_sctp.specs.Calls.{AsksInit, Inits, begun_state, limit_or_default}
+use Rattle.rtc_sctp.specs.Calls.{AsksInit, Inits, begun_state}
 use Rattle.rtc_sctp.proofs.RefusalLemmas.{inits_refused}
 use Rattle.rtc_sctp.proofs.streams.RtcSctp.init.Goals as goal
 
