@@ -25,6 +25,7 @@ use Rattle.rtc_peer_laws.proofs.ActedClosing.{beside}
 use Rattle.rtc_peer_laws.specs.ChannelStreams.{AreNumbersGiven, IsGone, StreamsWent, WasOpenInBand, Already, Announced, NoNumber}
 use Rattle.rtc_peer_laws.proofs.UnsharedRows.{AreApart}
 use Rattle.rtc_sctp.specs.Streams.{SctpStreams}
+use Rattle.rtc_sctp_laws.specs.MuteGenerations.{StaysMute}
 use Rattle.rtc_sctp_laws.specs.UsedCalls.{IsUsedOver}
 use Rattle.rtc_sctp_laws.proofs.OpeningEntries.{open_is}
 use Rattle.rtc_sctp_laws.specs.RunningStreams.{AreRunning}
@@ -70,6 +71,7 @@ module _ {I D S M E X T W N : Type 0} (m : Meanings I D S M E X T W N) (laws : P
     changed =
         polled_on m.association p.core.channels p.core.sctp n.core.channels n.core.sctp x.core.channels x.core.sctp h.changed
         (polled_same m.association n.core.channels n.core.sctp x.core.channels x.core.sctp held sctp);
+    mute = λ w v s g k. subst (λ (y : SctpStreams S). StaysMute m.association s g wrote y.association y.entries) (sym sctp) (h.mute w v s g k);
   })
 
   -- what an answer shows is what was met

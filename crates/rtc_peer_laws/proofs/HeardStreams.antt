@@ -6,8 +6,6 @@ use Rattle.rtc_parts.specs.declared.assoc_error.AssocError.TheVariants.{StreamEx
 use Rattle.rtc_parts.specs.AssociationNeeds.{need}
 use Rattle.rtc_parts.specs.AssociationMeaning.{AssociationMeaning}
 use Rattle.rtc_parts.specs.AssociationLaws.{AssociationLaws}
-use Rattle.rtc_sctp_entries.specs.declared.buffered_threshold_config.BufferedThresholdConfig.{BufferedThresholdConfig}
-use Rattle.rtc_sctp_entries.specs.declared.buffered_threshold_config.BufferedThresholdConfig.TheVariants.{Unconfigured, Desired, Configured}
 use Rattle.rtc_sctp_entries.specs.declared.opening.Opening.{Opening}
 use Rattle.rtc_sctp_entries.specs.declared.opening.Opening.TheVariants as opened
 use Rattle.rtc_sctp_entries.specs.declared.stream_entry.StreamEntry.{StreamEntry}
@@ -17,7 +15,7 @@ use Rattle.rtc_sctp_entries.specs.declared.met.Met.{Met}
 use Rattle.rtc_sctp_entries.specs.declared.met.Met.TheVariants.{Nothing, Again, Output, OutOfMemory}
 use Rattle.rtc_sctp_entries.specs.Answers.{opening_of}
 use Rattle.rtc_sctp_entries.specs.Entries.{is_closed_state, is_open_awaited}
-use Rattle.rtc_sctp_entries.specs.Visits.{Turn, turn, is_opening_over, opening_ends, RetriedIf, RetriedAt, is_adopted, is_entry_there, AdoptedIf, OpenedBy, VisitsIn, Visits}
+use Rattle.rtc_sctp_entries.specs.Visits.{Turn, turn, is_opening_over, opening_ends, RetriedIf, RetriedAt, is_adopted, AdoptedIf, OpenedBy, VisitsIn, Visits}
 use Rattle.rtc_sctp.specs.Streams.{SctpStreams, is_established}
 use Rattle.rtc_sctp.specs.Polls.{Else, unclosed_streams, GivesTransmit, HandlesEvent, VisitedThen, VisitsAll, VisitsIf, VisitsEntries, TakesFirstSteps, AreResting, PollsStreams}
 use Rattle.rtc_peer_laws.specs.Drained.{IsHeard, AreHeard, AllHeard, AreTriedAgain, IsTriedAgain, is_opening_refused}

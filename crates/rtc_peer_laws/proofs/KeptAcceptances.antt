@@ -159,6 +159,7 @@ module _ {I D S M E X T W N : Type 0} (m : Meanings I D S M E X T W N) where
         running = kept.running;
         given = same_given p.core.channels.given c.channels.given given;
         fresh = kept.fresh;
+        holds = kept.holds;
         changed = inr (one_changed m.association p.core.channels p.core.sctp c.channels c.sctp change);
       }
 

@@ -19,6 +19,7 @@ use Rattle.rtc_sctp_laws.proofs.CallActs.{closes_did, opens_did, writes_did}
 use Rattle.rtc_sctp_laws.proofs.ClosingPolls.{started_moved}
 use Rattle.rtc_sctp_laws.specs.GenerationLaws.{GenerationLaws}
 use Rattle.rtc_sctp_laws.specs.StreamUses.{HasOpenInBand, IsLive, IsUsed}
+use Rattle.rtc_sctp_laws.specs.MuteGenerations.{HasOneOpen, IsOpenEntry}
 use Rattle.rtc_sctp_laws.specs.UsedCalls.{IsUsedOver}
 use Rattle.rtc_sctp_laws.proofs.CallUses.{acts_use, writes_use, timeout_use, opens_use, closes_use, threshold_use}
 use Rattle.rtc_sctp_laws.proofs.LivingEntries.{live_is}
@@ -27,6 +28,8 @@ use Rattle.rtc_sctp_laws.proofs.RunningPolls.{stay_same, timed_stays, written_st
 use Rattle.rtc_sctp_laws.proofs.OpeningEntries.{open_is}
 use Rattle.rtc_sctp_laws.proofs.OpenedCalls.{writes_opened, timeout_opened, opens_opened, closes_opened, threshold_opened}
 use Rattle.rtc_sctp_laws.proofs.LiveCalls.{writes_live, timeout_live, opens_live, closes_live, threshold_live}
+use Rattle.rtc_sctp_laws.proofs.OneOpen.{of_open, one_same}
+use Rattle.rtc_sctp_laws.proofs.OneCalls.{writes_one, timeout_one, opens_one, closes_one, threshold_one}
 use Rattle.rtc_channels.specs.Channels.{Channel, Channels}
 use Rattle.rtc_channels.specs.Allocation.{Allocates}
 use Rattle.rtc_channels.specs.Openings.{OpensChannel, OpensAll, MeetsMoment, Following, ClosesChannel}
@@ -43,21 +46,24 @@ module _ {S : Type 0} (m : AssociationMeaning S) where
   pub record StreamsKept (a : SctpStreams S) (wrote : List StreamMessage) (b : SctpStreams S) : Type 0 where
     pub uses : GenerationLaws m → (s : ℕ) (ws hs : List StreamMessage) → IsUsedOver m s ws hs a → IsUsedOver m s (ws ++ wrote) hs b
     pub lives : (s g : ℕ) → IsLive s g a.entries → IsLive s g b.entries
+    pub holds : (s : ℕ) → HasOneOpen s a.entries → HasOneOpen s b.entries
     pub running : AreRunning m a → AreRunning m b
     pub fresh : (s : ℕ) (o : Option ℕ) → HasOpenInBand s o b.entries → HasOpenInBand s o a.entries
 
   kept_plainly : (a b : SctpStreams S) → (GenerationLaws m → (s : ℕ) (ws hs : List StreamMessage) → IsUsedOver m s ws hs a → IsUsedOver m s ws hs b)
-      → ((s g : ℕ) → IsLive s g a.entries → IsLive s g b.entries) → (AreRunning m a → AreRunning m b)
+      → ((s g : ℕ) → IsLive s g a.entries → IsLive s g b.entries) → ((s : ℕ) → HasOneOpen s a.entries → HasOneOpen s b.entries) → (AreRunning m a → AreRunning m b)
       → ((s : ℕ) (o : Option ℕ) → HasOpenInBand s o b.entries → HasOpenInBand s o a.entries) → StreamsKept a [] b
-  kept_plainly a b uses lives running fresh = record {
+  kept_plainly a b uses lives holds running fresh = record {
     uses = λ v s ws hs h. subst (λ (l : List StreamMessage). IsUsedOver m s l hs b) (sym (append-nil ws)) (uses v s ws hs h);
     lives = lives;
+    holds = holds;
     running = running;
     fresh = fresh;
   }
 
   pub kept_same : (a b : SctpStreams S) → b ≡ a → StreamsKept a [] b
   kept_same a b is = kept_plainly a b (λ v s ws hs h. subst (λ (x : SctpStreams S). IsUsedOver m s ws hs x) (sym is) h) (λ s g h. subst (λ (x : SctpStreams S). IsLive s g x.entries) (sym is) h)
+      (λ s h. one_same IsOpenEntry of_open s a.entries b.entries (ap (λ (x : SctpStreams S). x.entries) is) h)
       (λ h. subst (λ (x : SctpStreams S). AreRunning m x) (sym is) h)
       (λ s o h. open_is s o a.entries b.entries (ap (λ (x : SctpStreams S). x.entries) is) h)
 
@@ -66,13 +72,14 @@ module _ {S : Type 0} (m : AssociationMeaning S) where
   kept_snap kept a b is =
       kept_plainly a b (λ v s ws hs h. subst (λ (x : SctpStreams S). IsUsedOver m s ws hs x) (sym is) h)
       (λ s g h. subst (λ (x : SctpStreams S). IsLive s g x.entries) (sym is) h)
+      (λ s h. one_same IsOpenEntry of_open s a.entries b.entries (ap (λ (x : SctpStreams S). x.entries) is) h)
       (λ h. subst (λ (x : SctpStreams S). AreRunning m x) (sym is) h)
       (λ s o h. open_is s o a.entries b.entries (ap (λ (x : SctpStreams S). x.entries) is) h)
 
   pub kept_on : (a b c : SctpStreams S) → StreamsKept a [] b → StreamsKept b [] c → StreamsKept a [] c
   kept_on a b c x y = kept_plainly a c
       (λ v s ws hs h. subst (λ (l : List StreamMessage). IsUsedOver m s l hs c) (append-nil ws)
-      (y.uses v s ws hs (subst (λ (l : List StreamMessage). IsUsedOver m s l hs b) (append-nil ws) (x.uses v s ws hs h)))) (λ s g h. y.lives s g (x.lives s g h)) (λ h. y.running (x.running h)) (λ s o h. x.fresh s o (y.fresh s o h))
+      (y.uses v s ws hs (subst (λ (l : List StreamMessage). IsUsedOver m s l hs b) (append-nil ws) (x.uses v s ws hs h)))) (λ s g h. y.lives s g (x.lives s g h)) (λ s h. y.holds s (x.holds s h)) (λ h. y.running (x.running h)) (λ s o h. x.fresh s o (y.fresh s o h))
 
   -- acts, over the same entries
   pub kept_acts : AssociationLaws m → (a b : SctpStreams S) (acts : List AssociationAct) → Moved m a.association acts b.association → b.entries ≡ a.entries
@@ -80,6 +87,7 @@ module _ {S : Type 0} (m : AssociationMeaning S) where
   kept_acts w a b acts went same established = kept_plainly a b
       (λ v s ws hs h. subst (λ (l : List StreamEntry). IsUsed m s ws hs b.association l) (sym same) (acts_use m v w acts a.association b.association a.entries s ws hs went h))
       (λ s g h. live_is s g a.entries b.entries same h)
+      (λ s h. one_same IsOpenEntry of_open s a.entries b.entries same h)
       (λ h. (started_moved m w acts a.association b.association h.0 went, established h)) (λ s o h. open_is s o a.entries b.entries same h)
 
   pub kept_write : AssociationLaws m → (id : ℕ) (binary : Bool) (bytes : List ℕ) (a : SctpStreams S) (r : Result ℕ SctpError) (b : SctpStreams S) → WritesStream m id binary bytes a r b
@@ -87,6 +95,7 @@ module _ {S : Type 0} (m : AssociationMeaning S) where
   kept_write w id binary bytes a r b h = record {
     uses = λ v s ws hs k. writes_use m v w id binary bytes a r b s ws hs h k;
     lives = λ s g k. writes_live m id binary bytes a r b s g h k;
+    holds = λ s k. writes_one m IsOpenEntry of_open s id binary bytes a r b h k;
     fresh = λ s o k. writes_opened m id binary bytes a r b s o h k;
     running = λ k.
         let d = writes_did m id binary bytes a r b h in
@@ -95,6 +104,7 @@ module _ {S : Type 0} (m : AssociationMeaning S) where
 
   pub kept_timeout : AssociationLaws m → (now : ℕ) (a : SctpStreams S) (wake : Signals) (r : Result (Unit {0}) AllocError) (b : SctpStreams S) (wake' : Signals) → TakesTimeout m now a wake r b wake' → StreamsKept a [] b
   kept_timeout w now a wake r b wake' h = kept_plainly a b (λ v s ws hs k. timeout_use m v now a wake r b wake' s ws hs h k) (λ s g k. timeout_live m now a wake r b wake' s g h k)
+      (λ s k. timeout_one m IsOpenEntry of_open s now a wake r b wake' h k)
       (λ k. ((timed_start m w a.state now a wake r b wake' h).started k.0, timed_stays m a.state now a wake r b wake' h k.1))
       (λ s o k. timeout_opened m now a wake r b wake' s o h k)
 
@@ -104,6 +114,7 @@ module _ {S : Type 0} (m : AssociationMeaning S) where
 
   kept_threshold : (n : ℕ) (place : Option ℕ) (a b : SctpStreams S) → SetsThreshold S n place a b → StreamsKept a [] b
   kept_threshold n place a b h = kept_plainly a b (λ v s ws hs k. threshold_use m v n place a b s ws hs h k) (λ s g k. threshold_live m n place a b s g h k)
+      (λ s k. threshold_one m IsOpenEntry of_open s n place a b h k)
       (threshold_runs n place a b h) (λ s o k. threshold_opened m n place a b s o h k)
 
   pub kept_threshold_if : (is_open : Bool) (stream n : ℕ) (a b : SctpStreams S) → SetsThresholdIf S is_open stream n a b → StreamsKept a [] b
@@ -113,6 +124,7 @@ module _ {S : Type 0} (m : AssociationMeaning S) where
   pub kept_close : AssociationLaws m → (stream : Option ℕ) (a : SctpStreams S) (r : Result (Unit {0}) AllocError) (b : SctpStreams S) → ClosesChannel m stream a r b → StreamsKept a [] b
   kept_close w None a r b h = kept_same a b h.1
   kept_close w (Some stream) a r b h = kept_plainly a b (λ v s ws hs k. closes_use m v stream a r b s ws hs h k) (λ s g k. closes_live m stream a r b s g h k)
+      (λ s k. closes_one m IsOpenEntry of_open s stream a r b h k)
       (λ k.
       let d = closes_did m stream a r b h in
       (started_moved m w d.did.acts a.association b.association k.0 d.did.went, stay_same a b (ap (λ (x : SctpStreams S). x.state) h.1) k.1))
@@ -149,6 +161,7 @@ module _ {S : Type 0} (m : AssociationMeaning S) where
   opens_kept w (Some stream) (Some config) id held a r held' b h = record {
     streams =
         kept_plainly a b (λ v s ws hs k. opens_use m v stream config a r b s ws hs h.0 k) (λ s g k. opens_live m stream config a r b s g h.0 k)
+        (λ s k. opens_one m IsOpenEntry of_open s stream config a r b h.0 k)
         (λ k.
         let d = opens_did m stream config a r b h.0 in
         (started_moved m w d.did.acts a.association b.association k.0 d.did.went, stay_same a b (ap (λ (x : SctpStreams S). x.state) h.0.1) k.1))

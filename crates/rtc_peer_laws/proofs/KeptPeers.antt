@@ -84,6 +84,7 @@ module _ {I D S M E X T W N : Type 0} (m : Meanings I D S M E X T W N) where
     running = h.running;
     given = same_given p.core.channels.given q.core.channels.given (ap (λ (x : Channels). x.given) is);
     fresh = h.fresh;
+    holds = h.holds;
     changed = changed;
   }
 
@@ -98,6 +99,7 @@ module _ {I D S M E X T W N : Type 0} (m : Meanings I D S M E X T W N) where
     running = h.streams.running;
     given = h.given;
     fresh = h.streams.fresh;
+    holds = h.streams.holds;
     changed = changed;
   }
 
@@ -128,6 +130,7 @@ module _ {I D S M E X T W N : Type 0} (m : Meanings I D S M E X T W N) where
     running = λ k. y.running (x.running k);
     given = given_on p.core.channels.given b.core.channels.given q.core.channels.given x.given y.given;
     fresh = λ s o k. x.fresh s o (y.fresh s o k);
+    holds = λ s k. y.holds s (x.holds s k);
     changed = changes_on p b q y.closed x.changed y.changed;
   }
 

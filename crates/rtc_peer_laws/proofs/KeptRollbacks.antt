@@ -34,6 +34,7 @@ module _ {I D S M E X T W N : Type 0} (m : Meanings I D S M E X T W N) where
     running = h.running;
     given = h.given;
     fresh = h.fresh;
+    holds = h.holds;
   }
 
   -- a live channel stays over its stream, or goes
@@ -66,6 +67,7 @@ module _ {I D S M E X T W N : Type 0} (m : Meanings I D S M E X T W N) where
             subst (λ (x : Channels). p.core.channels.given ≤ x.given) (sym is)
             (same_given p.core.channels.given (all_cancelled channels p.core.channels).given (cancelled_given channels p.core.channels));
         fresh = kept.fresh;
+        holds = kept.holds;
       }
 
   pub rolled_back : (p : PolledPeer I D S M N) (token : PendingOffer) (r : Result (Unit {0}) RtcError) (core : Peer I D S M N)

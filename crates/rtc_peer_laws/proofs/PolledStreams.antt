@@ -8,6 +8,7 @@ use Rattle.rtc_sctp_laws.specs.StreamActs.{AssociationDid}
 use Rattle.rtc_sctp_laws.specs.StreamMessages.{StreamMessage, met_of, packets_met, data_met, pushed_packets}
 use Rattle.rtc_sctp_laws.specs.GenerationLaws.{GenerationLaws}
 use Rattle.rtc_sctp_laws.specs.StreamUses.{HasOpenInBand, IsUsed, LeavesUse, LeavesLive, TellsStreamOpen}
+use Rattle.rtc_sctp_laws.specs.MuteGenerations.{StaysMute}
 use Rattle.rtc_sctp_laws.specs.UsedCalls.{PollUses}
 use Rattle.rtc_sctp_laws.proofs.OpeningEntries.{open_is}
 use Rattle.rtc_sctp_laws.proofs.UsedPolls.{poll_uses}
@@ -107,6 +108,9 @@ module _ {I D S M E X T W N : Type 0} (m : Meanings I D S M E X T W N) (laws : P
           (RowsPolled m.association p.core.channels p.core.sctp q.core.channels q.core.sctp)
           (λ after.
           one_polled m.association p.core.channels p.core.sctp q.core.channels q.core.sctp (Polled answer streams polled after is entries.0 (ap (λ b. b.0) entries.1) (ap (λ b. b.1) entries.1)) tt) rowed;
+      mute = λ w v s g h.
+          subst (λ (a : S). StaysMute m.association s g did.wrote a q.core.sctp.entries) (sym is)
+          (subst (λ (l : List StreamEntry). StaysMute m.association s g did.wrote streams.association l) (sym entries.0) (did.mute v s g h));
       opens = opens;
       tells = tells;
       running = λ w k. (

@@ -14,6 +14,8 @@ use Rattle.rtc_sctp_laws.proofs.AsideActs.{AsideDid, aside_act}
 use Rattle.rtc_sctp_laws.proofs.ClosingPolls.{started_moved}
 use Rattle.rtc_sctp_laws.specs.GenerationLaws.{GenerationLaws}
 use Rattle.rtc_sctp_laws.specs.StreamUses.{HasOpenInBand, WereOpened, entries_of, messages_of, IsUsed}
+use Rattle.rtc_sctp_laws.specs.MuteGenerations.{IsMute}
+use Rattle.rtc_sctp_laws.proofs.MuteActs.{acts_mute, mute_on}
 use Rattle.rtc_sctp_laws.proofs.CallUses.{acts_use}
 use Rattle.rtc_sctp_laws.proofs.GenerationMessages.{messages-append}
 use Rattle.rtc_sctp_laws.proofs.LivingEntries.{live_is, are_join}
@@ -185,6 +187,12 @@ module _ {I D S M E X T W N : Type 0} (m : Meanings I D S M E X T W N) where
     changed =
         unless_of answer (RowsPolled m.association p.core.channels p.core.sctp q.core.channels q.core.sctp)
         (polled_stay m.association p.core.channels p.core.sctp q.core.channels q.core.sctp kept.1 kept.2.only);
+    mute = λ w v s g h. record {
+      none = refl;
+      left =
+          subst (λ (l : List StreamEntry). IsMute m.association s g q.core.sctp.association l) (sym kept.0)
+          (acts_mute m.association w v s g acts p.core.sctp.association q.core.sctp.association p.core.sctp.entries went h);
+    };
   }
 
   -- what was open behind a stage that told nothing
@@ -274,6 +282,8 @@ module _ {I D S M E X T W N : Type 0} (m : Meanings I D S M E X T W N) where
         (RowsPolled m.association p.core.channels p.core.sctp q.core.channels q.core.sctp)
         (λ after.
         polled_on m.association p.core.channels p.core.sctp b.core.channels b.core.sctp q.core.channels q.core.sctp x.changed after) y.changed;
+    mute = λ w v s g h.
+        mute_on m.association s g first more b.core.sctp.association q.core.sctp.association b.core.sctp.entries q.core.sctp.entries (x.mute w v s g h) (y.mute w v s g);
   }
     where
       rising_kept : AreRising 0 p.core.channels.rows → AreRising 0 b.core.channels.rows

@@ -122,7 +122,7 @@ module _ {I D S M E X T W N : Type 0} (m : Meanings I D S M E X T W N) where
     data_passed = passed_all p h.heard h.passed h.told h.data_is h.meets h.passed_over;
     greatest = h.greatest;
     rows = h.rows;
-    streams = record { uses = h.streams.uses; lives = h.streams.lives; live_heard = h.streams.live_heard; gone = h.streams.gone; apart = h.streams.apart; opens = tt; tells = λ v. tt; running = h.streams.running; given = h.streams.given; fresh = h.streams.fresh; changed = h.streams.changed };
+    streams = record { uses = h.streams.uses; lives = h.streams.lives; live_heard = h.streams.live_heard; gone = h.streams.gone; apart = h.streams.apart; opens = tt; tells = λ v. tt; running = h.streams.running; given = h.streams.given; fresh = h.streams.fresh; changed = h.streams.changed; mute = h.streams.mute };
   }
 
   pub quiet_again : (p q : PolledPeer I D S M N) → VisitDid p Again q → QuietDid p q
@@ -134,7 +134,7 @@ module _ {I D S M E X T W N : Type 0} (m : Meanings I D S M E X T W N) where
     data_passed = passed_all p h.heard h.passed h.told h.data_is h.meets h.passed_over;
     greatest = h.greatest;
     rows = h.rows;
-    streams = record { uses = h.streams.uses; lives = h.streams.lives; live_heard = h.streams.live_heard; gone = h.streams.gone; apart = h.streams.apart; opens = tt; tells = λ v. tt; running = h.streams.running; given = h.streams.given; fresh = h.streams.fresh; changed = h.streams.changed };
+    streams = record { uses = h.streams.uses; lives = h.streams.lives; live_heard = h.streams.live_heard; gone = h.streams.gone; apart = h.streams.apart; opens = tt; tells = λ v. tt; running = h.streams.running; given = h.streams.given; fresh = h.streams.fresh; changed = h.streams.changed; mute = h.streams.mute };
   }
 
   pub quiet_none : (p : PolledPeer I D S M N) → QuietDid p p

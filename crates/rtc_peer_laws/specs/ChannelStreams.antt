@@ -4,6 +4,7 @@ use Rattle.rtc_parts.specs.AssociationLaws.{AssociationLaws}
 use Rattle.rtc_sctp_laws.specs.StreamMessages.{StreamMessage}
 use Rattle.rtc_sctp_laws.specs.GenerationLaws.{GenerationLaws}
 use Rattle.rtc_sctp_laws.specs.StreamUses.{HasOpenInBand, IsLive, IsShutDown, WereOpened, are_of_generation, entries_of, messages_of}
+use Rattle.rtc_sctp_laws.specs.MuteGenerations.{IsMute, StaysMute}
 use Rattle.rtc_sctp_laws.specs.UsedCalls.{IsUsedOver}
 use Rattle.rtc_sctp_laws.specs.Contents.{contents_of}
 use Rattle.rtc_sctp_laws.specs.RunningStreams.{AreRunning}
@@ -79,6 +80,13 @@ module _ {I D S M E X T W N : Type 0} (m : Meanings I D S M E X T W N) where
   abbrev pub IsUsedStream : (stream : ℕ) → (written heard : List StreamMessage) → PolledPeer I D S M N → Type 0
   IsUsedStream s written heard p = IsUsedOver m.association s written heard p.core.sctp
 
+  -- polls write nothing to a stream of the association in this generation
+  abbrev pub IsMuteStream : (stream generation : ℕ) → PolledPeer I D S M N → Type 0
+  IsMuteStream s g p = IsMute m.association s g p.core.sctp.association p.core.sctp.entries
+
+  abbrev pub StaysMuteStream : (stream generation : ℕ) → (wrote : List StreamMessage) → PolledPeer I D S M N → Type 0
+  StaysMuteStream s g wrote q = StaysMute m.association s g wrote q.core.sctp.association q.core.sctp.entries
+
   -- the stream of a channel that is reported as open was not live before, and was opened, by all that was written and read of it; the
   -- association runs
   pub record OpensStreamOf (id : ℕ) (p : PolledPeer I D S M N) (wrote heard : List StreamMessage) (q : PolledPeer I D S M N) : Type 0 where
@@ -124,7 +132,8 @@ module _ {I D S M E X T W N : Type 0} (m : Meanings I D S M E X T W N) where
 
   -- What a poll leaves of streams and live channels by what it wrote and read, and of channels that are gone; which message it reports; and
   -- that an association that runs does so still. What it left open in-band was open before, or is announced. The changes of channels and of
-  -- the entries of streams are listed one by one, and none confirms or adds a channel.
+  -- the entries of streams are listed one by one, and none confirms or adds a channel. To a stream that was open it wrote nothing in the
+  -- generation that this had.
   pub record StreamsWent (p : PolledPeer I D S M N) (answer : Result (Output E) RtcError) (wrote heard : List StreamMessage)
       (q : PolledPeer I D S M N) : Type 0 where
     pub uses : AssociationLaws m.association → GenerationLaws m.association → (s : ℕ) (written read : List StreamMessage)
@@ -139,3 +148,4 @@ module _ {I D S M E X T W N : Type 0} (m : Meanings I D S M E X T W N) where
     pub given : p.core.channels.given ≤ q.core.channels.given
     pub fresh : UnlessLacking answer ((s : ℕ) (own : Option ℕ) → HasOpenInBand s own q.core.sctp.entries → WasOpenInBand s own p answer q)
     pub changed : UnlessLacking answer (RowsPolled m.association p.core.channels p.core.sctp q.core.channels q.core.sctp)
+    pub mute : AssociationLaws m.association → GenerationLaws m.association → (s g : ℕ) → IsMuteStream s g p → StaysMuteStream s g wrote q

@@ -4,6 +4,7 @@ use Rattle.rtc_sctp_entries.specs.declared.stream_entry.StreamEntry.{StreamEntry
 use Rattle.rtc_sctp_entries.specs.Entries.{is_out_of_band}
 use Rattle.rtc_sctp_laws.specs.StreamMessages.{StreamMessage}
 use Rattle.rtc_sctp_laws.specs.GenerationLaws.{GenerationLaws}
+use Rattle.rtc_sctp_laws.specs.MuteGenerations.{HasOneOpen}
 use Rattle.rtc_sctp_laws.specs.StreamUses.{HasOpenInBand}
 use Rattle.rtc_sctp_laws.specs.RunningStreams.{AreRunning}
 use Rattle.rtc_peer_core.specs.declared.phase.Phase.TheVariants.{Closed}
@@ -17,9 +18,9 @@ abbrev pub IsSettledStream : List StreamEntry → Type 0
 IsSettledStream [] = ⊥
 IsSettledStream (entry ∷ entries) = is_out_of_band entry ≡ true
 
--- A call that wrote these messages and read none: it keeps the use of each stream, each live channel, each that is gone, a closed peer, and
--- an association that runs. It opens no stream in-band, and takes back no number that a channel was given. Unless it closes the peer, the
--- changes of channels and of the entries of streams are listed one by one.
+-- A call that wrote these messages and read none: it keeps the use of each stream, each live channel, each that is gone, each open entry,
+-- a closed peer, and an association that runs. It opens no stream in-band, and takes back no number that a channel was given. Unless it
+-- closes the peer, the changes of channels and of the entries of streams are listed one by one.
 pub record CallKeepsStreams {I D S M E X T W N : Type 0} (m : Meanings I D S M E X T W N) (p : PolledPeer I D S M N)
     (wrote : List StreamMessage) (q : PolledPeer I D S M N) : Type 0 where
   pub uses : GenerationLaws m.association → (s : ℕ) (written read : List StreamMessage) → IsUsedStream m s written read p
@@ -31,10 +32,11 @@ pub record CallKeepsStreams {I D S M E X T W N : Type 0} (m : Meanings I D S M E
   pub running : AreRunning m.association p.core.sctp → AreRunning m.association q.core.sctp
   pub given : p.core.channels.given ≤ q.core.channels.given
   pub fresh : (s : ℕ) (own : Option ℕ) → HasOpenInBand s own q.core.sctp.entries → HasOpenInBand s own p.core.sctp.entries
+  pub holds : (s : ℕ) → HasOneOpen s p.core.sctp.entries → HasOneOpen s q.core.sctp.entries
   pub changed : (q.core.phase ≡ Closed) ⊎ RowsChanged m.association p.core.channels p.core.sctp q.core.channels q.core.sctp
 
--- A call that wrote these messages and read none: it keeps the use of each stream, a closed peer and an association that runs, and takes
--- back no number that a channel was given. A channel that was live is so, or has gone with its row.
+-- A call that wrote these messages and read none: it keeps the use of each stream, each open entry, a closed peer and an association that
+-- runs, and takes back no number that a channel was given. A channel that was live is so, or has gone with its row.
 pub record CallLeavesStreams {I D S M E X T W N : Type 0} (m : Meanings I D S M E X T W N) (p : PolledPeer I D S M N)
     (wrote : List StreamMessage) (q : PolledPeer I D S M N) : Type 0 where
   pub uses : GenerationLaws m.association → (s : ℕ) (written read : List StreamMessage) → IsUsedStream m s written read p
@@ -47,3 +49,4 @@ pub record CallLeavesStreams {I D S M E X T W N : Type 0} (m : Meanings I D S M 
   pub running : AreRunning m.association p.core.sctp → AreRunning m.association q.core.sctp
   pub given : p.core.channels.given ≤ q.core.channels.given
   pub fresh : (s : ℕ) (own : Option ℕ) → HasOpenInBand s own q.core.sctp.entries → HasOpenInBand s own p.core.sctp.entries
+  pub holds : (s : ℕ) → HasOneOpen s p.core.sctp.entries → HasOneOpen s q.core.sctp.entries

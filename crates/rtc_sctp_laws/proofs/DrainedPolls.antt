@@ -15,7 +15,7 @@ use Rattle.rtc_sctp.specs.declared.rtc_sctp_state.RtcSctpState.{RtcSctpState}
 use Rattle.rtc_sctp.specs.declared.rtc_sctp_state.RtcSctpState.TheVariants.{Uninited, AwaitRemoteAssociation, AwaitAssociationEstablished, Established}
 use Rattle.rtc_sctp.specs.Streams.{SctpStreams, is_established}
 use Rattle.rtc_sctp.specs.Calls.{timed_streams, TimedBy}
-use Rattle.rtc_sctp.specs.Polls.{Book, book_of, event_met, AfterEvent, ThenBy, Else, unclosed_streams, CompletionOf, GivesCompletion, TakesPacket, TransmitIf, TransmitOf, GivesTransmit, TakesEvent, NotStarted, NoRoom, NoEvent, Event, HandlesEvent, VisitsIf, VisitsEntries, TakesSteps, PassIf, MakesPass, Over, PollsStreams, Answers}
+use Rattle.rtc_sctp.specs.Polls.{Book, book_of, event_met, ThenBy, Else, unclosed_streams, CompletionOf, GivesCompletion, TakesPacket, TransmitIf, TransmitOf, GivesTransmit, TakesEvent, NotStarted, NoRoom, NoEvent, Event, HandlesEvent, VisitsIf, VisitsEntries, TakesSteps, PassIf, MakesPass, Over, PollsStreams, Answers}
 use Rattle.rtc_sctp.proofs.RestingLemmas.{else_nothing, pass_rests, resting_poll, AnswersResting}
 use Rattle.rtc_sctp_laws.specs.NarrowedTimeouts.{GivesNothing}
 use Rattle.rtc_sctp_laws.proofs.NarrowedPolls.{over_awake}

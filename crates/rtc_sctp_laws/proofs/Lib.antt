@@ -13,6 +13,7 @@ pub mod KeptUses
 pub mod KnownUses
 pub mod VisitedTurns
 pub mod UsedVisits
+pub mod OneOpen
 pub mod LivingEntries
 pub mod LivingVisits
 pub mod OpeningVisits
@@ -20,12 +21,16 @@ pub mod OpeningEntries
 pub mod UsedOpenings
 pub mod UsedReadings
 pub mod EntriesOf
+pub mod MuteVisits
+pub mod MuteActs
+pub mod MuteTours
 pub mod UsedTours
 pub mod UsedPolls
 pub mod CallUses
 pub mod AsideActs
 pub mod ContentLemmas
 pub mod PastLemmas
+pub mod OneCalls
 pub mod LiveCalls
 pub mod OpenedCalls
 pub mod CurrentReadings

@@ -1,30 +1,46 @@
 -- The entry of a live stream, where entries are visited, set, put in and dropped.
-use Rattle.std.proofs.Common.{◌≡◌, inl, inr, ℕ, ◌==◌, ◌&&◌, ◌||◌, not, cond, Bool, true, false, true≢false, List, [], ◌∷◌, ◌++◌, Option, Some, None, refl, sym, ap, subst, ◌∙◌, arith}
-use Rattle.std.specs.Prelude.{is_some, insert, slice_set, if◌then◌else◌}
+use Rattle.std.proofs.Common.{◌≡◌, inl, inr, ℕ, ◌==◌, ◌&&◌, ◌||◌, not, cond, Bool, true, false, true≢false, List, [], ◌∷◌, ◌++◌, Some, refl, sym, ap, subst, ◌∙◌, arith}
 use Rattle.std.specs.List.{list_all}
 use Rattle.std.proofs.lemmas.Bool.{eqb-true, eqb-false}
 use Rattle.std.proofs.lemmas.List.Folds.{list_all-append}
 use Rattle.rtc_parts.specs.declared.assoc_event.AssocEvent.{AssocEvent}
-use Rattle.rtc_parts.specs.declared.assoc_event.AssocEvent.TheVariants as assoc
-use Rattle.rtc_sctp_entries.specs.declared.stream_entry_state.StreamEntryState.{StreamEntryState}
-use Rattle.rtc_sctp_entries.specs.declared.stream_entry_state.StreamEntryState.TheVariants.{AwaitConfig, Closed}
+use Rattle.rtc_sctp_entries.specs.declared.stream_entry_state.StreamEntryState.TheVariants.{Closed}
 use Rattle.rtc_sctp_entries.specs.declared.stream_entry.StreamEntry.{StreamEntry}
 use Rattle.rtc_sctp_entries.specs.declared.sctp_event.SctpEvent.TheVariants as event
 use Rattle.rtc_sctp_entries.specs.declared.met.Met.{Met}
 use Rattle.rtc_sctp_entries.specs.declared.met.Met.TheVariants.{Nothing, Again, Output, OutOfMemory}
-use Rattle.rtc_sctp_entries.specs.Entries.{entry_place, new_place, new_entry, is_open_awaited, is_closed_state, unclosed}
-use Rattle.rtc_sctp.specs.Polls.{Book, AfterEvent, FinishesAt, finished_entry, with_expected}
+use Rattle.rtc_sctp_entries.specs.Entries.{unclosed}
+use Rattle.rtc_sctp.specs.Polls.{Book, AfterEvent}
 use Rattle.rtc_sctp_laws.specs.StreamMessages.{StreamMessage}
 use Rattle.rtc_sctp_laws.specs.StreamUses.{messages_of, are_of_stream, are_of_generation, entries_of, IsLiveIn, IsLive, LeavesLive}
 use Rattle.rtc_sctp_laws.proofs.VisitedTurns.{OpensOwn}
-use Rattle.rtc_sctp_laws.proofs.EntriesOf.{entries_own, entries_other, same_test, none_placed}
-use Rattle.rtc_sctp_laws.proofs.OneEntry.{one_only, one_is, one_set, one_insert, one_unclosed}
+use Rattle.rtc_sctp_laws.proofs.EntriesOf.{entries_own, entries_other, same_test}
+use Rattle.rtc_sctp_laws.proofs.OneEntry.{one_only, one_is}
+use Rattle.rtc_sctp_laws.proofs.OneOpen.{of_live, one_after, one_left}
 
 -- a stream that is told to be open, or to be closed, is another one
 abbrev pub OpensOther : Met → ℕ → Type 0
 OpensOther (Output (event.Open id label)) s = id ≡ s → ⊥
 OpensOther (Output (event.Close id pending)) s = id ≡ s → ⊥
 OpensOther met s = Unit {0}
+
+-- no stream is told to be open, or to be closed
+abbrev pub TellsNoOpen : Met → Type 0
+TellsNoOpen (Output (event.Open id label)) = ⊥
+TellsNoOpen (Output (event.Close id pending)) = ⊥
+TellsNoOpen met = Unit {0}
+
+pub none_other : (met : Met) (s : ℕ) → TellsNoOpen met → OpensOther met s
+none_other Nothing s h = tt
+none_other Again s h = tt
+none_other OutOfMemory s h = tt
+none_other (Output (event.Transmit packets)) s h = tt
+none_other (Output (event.Open id label)) s h = absurd h
+none_other (Output (event.Close id pending)) s h = absurd h
+none_other (Output (event.StreamResetComplete id)) s h = tt
+none_other (Output (event.Data id binary bytes)) s h = tt
+none_other (Output (event.BufferedAmountLow id)) s h = tt
+none_other (Output event.AssociationLost) s h = tt
 
 pub other_by : (met : Met) (n s : ℕ) → (n ≡ s → ⊥) → OpensOwn met n → OpensOther met s
 other_by Nothing n s ne h = tt
@@ -194,34 +210,9 @@ pub are_join : (s g : ℕ) (xs ys : List StreamMessage) → are_of_generation s 
 are_join s g xs ys h k = rw (list_all-append (λ (x : StreamMessage). not (x.stream == s) || (x.generation == g)) xs ys, h, k) refl
 
 -- events
-finished_live : (b : Bool) (g : ℕ) (e : StreamEntry) → IsLiveIn g e → IsLiveIn g (if b then e else record e { marked = true })
-finished_live true g e h = h
-finished_live false g e h = h
-
-finished_id : (b : Bool) (e : StreamEntry) → (if b then e else record e { marked = true }).id ≡ e.id
-finished_id true e = refl
-finished_id false e = refl
-
-finishes_live : (s g : ℕ) (o : Option ℕ) (es es' : List StreamEntry) → FinishesAt o es es' → IsLive s g es → IsLive s g es'
-finishes_live s g None es es' h k = live_is s g es es' h k
-finishes_live s g (Some place) es es' h k =
-    live_is s g (slice_set es place (finished_entry h.0)) es' h.2
-    (one_set ⊥ (IsLiveIn g) s es place h.0 (finished_entry h.0) h.1 (finished_id (is_open_awaited h.0.state) h.0) (finished_live (is_open_awaited h.0.state) g h.0) k)
-
-expected_live : (s g : ℕ) (o : Option ℕ) (id : ℕ) (es : List StreamEntry) → entry_place id es ≡ o → IsLive s g es
-    → IsLive s g (if is_some o then es else insert es (new_place id es) (new_entry id AwaitConfig None))
-expected_live s g (Some place) id es e h = h
-expected_live s g None id es e h = one_insert ⊥ (IsLiveIn g) s es (new_place id es) (new_entry id AwaitConfig None) (none_placed id es e) (λ same k. absurd k) h
-
 pub live_after : (e : AssocEvent) (b b' : Book) (s g : ℕ) → AfterEvent e b b' → IsLive s g b.entries → IsLive s g b'.entries
-live_after assoc.Connected b b' s g h k = live_is s g b.entries b'.entries (ap (λ (x : Book). x.entries) h) k
-live_after assoc.Lost b b' s g h k = live_is s g b.entries b'.entries (ap (λ (x : Book). x.entries) h) k
-live_after (assoc.Readable id) b b' s g h k = live_is s g (with_expected id b.entries) b'.entries (ap (λ (x : Book). x.entries) h) (expected_live s g (entry_place id b.entries) id b.entries refl k)
-live_after (assoc.Writable id) b b' s g h k = live_is s g (with_expected id b.entries) b'.entries (ap (λ (x : Book). x.entries) h) (expected_live s g (entry_place id b.entries) id b.entries refl k)
-live_after (assoc.Finished id) b b' s g h k = finishes_live s g (entry_place id b.entries) b.entries b'.entries h.0 k
-live_after (assoc.ResetComplete id) b b' s g h k = live_is s g b.entries b'.entries (ap (λ (x : Book). x.entries) h) k
-live_after (assoc.BufferedAmountLow id) b b' s g h k = live_is s g b.entries b'.entries (ap (λ (x : Book). x.entries) h) k
+live_after e b b' s g h k = one_after (IsLiveIn g) (of_live g) s e b b' h k
 
 -- closed entries are dropped
 pub live_unclosed : (s g : ℕ) (es : List StreamEntry) → IsLive s g es → IsLive s g (unclosed es)
-live_unclosed s g es h = one_unclosed ⊥ (IsLiveIn g) s es (λ e c k. true≢false (ap (λ (st : StreamEntryState). not (is_closed_state st)) (sym k.0) ∙ c)) h
+live_unclosed s g es h = one_left (IsLiveIn g) (of_live g) s es h

@@ -19,7 +19,8 @@ use Rattle.rtc_sctp.specs.Calls.{WritesStream, can_write, is_current, TimedBy, T
 use Rattle.rtc_sctp.specs.StreamCalls.{ConfigBy, TakesConfig, Declined, Answered, OpensAwaiting, OpensOver, OpensAt, OpensStream, ClosesAt, ClosesDataStream, SetsThreshold}
 use Rattle.rtc_sctp_laws.specs.StreamUses.{HasOpenInBand, IsOpenInBand}
 use Rattle.rtc_sctp_laws.proofs.OpeningEntries.{open_insert, open_is, open_set, open_unclosed}
-use Rattle.rtc_sctp_laws.proofs.LiveCalls.{over_live, written_entries}
+use Rattle.rtc_sctp_laws.proofs.LiveCalls.{over_live}
+use Rattle.rtc_sctp_laws.proofs.OneCalls.{written_entries}
 
 marked_opened : (o : Option ℕ) (e e' : StreamEntry) → e' ≡ marked_entry e → IsOpenInBand o e' → IsOpenInBand o e
 marked_opened o e e' h k = subst (λ (y : StreamEntry). IsOpenInBand o y) h k

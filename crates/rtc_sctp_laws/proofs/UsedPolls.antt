@@ -22,32 +22,17 @@ use Rattle.rtc_sctp_laws.proofs.ActLemmas.{did_join, did_same, gave_did, told_di
 use Rattle.rtc_sctp_laws.proofs.MessageLemmas.{dcep_join, shown-append}
 use Rattle.rtc_sctp_laws.proofs.PollActs.{event_sent, met_by}
 use Rattle.rtc_sctp_laws.specs.StreamUses.{entries_of, IsUsedIn, IsUsedBy, EntryUsed, NoneUsed, AreUsedIn, IsUsed, HasOpenInBand, IsLive, LeavesLive, OpensRightly, LeavesUse, TellsStreamOpen}
+use Rattle.rtc_sctp_laws.specs.MuteGenerations.{IsOpenEntry, HasOneOpen}
 use Rattle.rtc_sctp_laws.specs.UsedCalls.{PollUses}
 use Rattle.rtc_sctp_laws.proofs.KeptUses.{did_keeps, unclosed_used}
 use Rattle.rtc_sctp_laws.proofs.KnownUses.{idle_unused, idle_without}
 use Rattle.rtc_sctp_laws.proofs.OneEntry.{one_set, one_insert}
 use Rattle.rtc_sctp_laws.proofs.EntriesOf.{used_is, none_placed}
-use Rattle.rtc_sctp_laws.proofs.LivingEntries.{OpensOther, are_join, live_by, live_is, live_unclosed, live_after}
+use Rattle.rtc_sctp_laws.proofs.LivingEntries.{TellsNoOpen, none_other, are_join, live_by, live_is, live_unclosed, live_after}
 use Rattle.rtc_sctp_laws.proofs.OpeningEntries.{open_after, open_is, open_unclosed, opens_on}
+use Rattle.rtc_sctp_laws.proofs.OneOpen.{of_open, one_same, one_after, one_left}
+use Rattle.rtc_sctp_laws.proofs.MuteActs.{quiet_mute, mute_on}
 use Rattle.rtc_sctp_laws.proofs.UsedTours.{TourUses, tour_uses, leaves_by, used_beside}
-
--- no stream is told to be open, or to be closed
-abbrev TellsNoOpen : Met → Type 0
-TellsNoOpen (Output (event.Open id label)) = ⊥
-TellsNoOpen (Output (event.Close id pending)) = ⊥
-TellsNoOpen met = Unit {0}
-
-none_other : (met : Met) (s : ℕ) → TellsNoOpen met → OpensOther met s
-none_other Nothing s h = tt
-none_other Again s h = tt
-none_other OutOfMemory s h = tt
-none_other (Output (event.Transmit packets)) s h = tt
-none_other (Output (event.Open id label)) s h = absurd h
-none_other (Output (event.Close id pending)) s h = absurd h
-none_other (Output (event.StreamResetComplete id)) s h = tt
-none_other (Output (event.Data id binary bytes)) s h = tt
-none_other (Output (event.BufferedAmountLow id)) s h = tt
-none_other (Output event.AssociationLost) s h = tt
 
 module _ {S : Type 0} (m : AssociationMeaning S) where
   opens_none : (met : Met) (s : ℕ) (a : S) (es : List StreamEntry) (ws hs : List StreamMessage) → TellsNoOpen met → OpensRightly m met s a es ws hs
@@ -114,8 +99,8 @@ module _ {S : Type 0} (m : AssociationMeaning S) where
     -- a step that writes and reads nothing
     quiet : (p : SctpStreams S) (met : Met) (q : SctpStreams S) (outs : List (List ℕ)) (tells : List AssocEvent) → AssociationDid m [] outs tells [] [] p.association q.association → data_met met ≡ [] → TellsNoOpen met
         → ((s : ℕ) (ws hs : List StreamMessage) → AreUsedIn m (entries_of s p.entries) s q.association ws hs → AreUsedIn m (entries_of s q.entries) s q.association ws hs)
-        → ((s g : ℕ) → IsLive s g p.entries → IsLive s g q.entries) → ((s : ℕ) (o : Option ℕ) → HasOpenInBand s o q.entries → HasOpenInBand s o p.entries) → Sends p met q outs → PollUses m p met q
-    quiet p met q outs tells d shown untold keeps lives opened sent = record {
+        → ((s g : ℕ) → IsLive s g p.entries → IsLive s g q.entries) → ((s : ℕ) (o : Option ℕ) → HasOpenInBand s o q.entries → HasOpenInBand s o p.entries) → ((s : ℕ) → HasOneOpen s p.entries → HasOneOpen s q.entries) → Sends p met q outs → PollUses m p met q
+    quiet p met q outs tells d shown untold keeps lives opened holds sent = record {
       outs = outs;
       tells = tells;
       wrote = [];
@@ -130,6 +115,7 @@ module _ {S : Type 0} (m : AssociationMeaning S) where
       lives = λ s g live. live_by met s g q.entries (none_other met s untold) (lives s g live);
       live_heard = λ s g live. refl;
       fresh = λ s o h. inl (opened s o h);
+      mute = λ v s g h. quiet_mute m w v s g outs tells p.association q.association p.entries q.entries d (holds s) h;
     }
 
     -- one that leaves the entries too
@@ -145,13 +131,13 @@ module _ {S : Type 0} (m : AssociationMeaning S) where
     unchanged : (r : Met) (u p : SctpStreams S) (met : Met) (q : SctpStreams S) → met ≡ r → q ≡ u → u.association ≡ p.association → u.entries ≡ p.entries → data_met r ≡ [] → TellsNoOpen r → Sends p r u [] → PollUses m p met q
     unchanged r u p met q e f same entries shown untold sent =
         quiet p met q [] [] (did_same m p.association q.association (ap (λ (x : SctpStreams S). x.association) f ∙ same)) (ap data_met e ∙ shown) (subst (λ (x : Met). TellsNoOpen x) (sym e) untold)
-        (λ s ws hs. same_entries s p q ws hs (ap (λ (x : SctpStreams S). x.entries) f ∙ entries)) (same_lives p q (ap (λ (x : SctpStreams S). x.entries) f ∙ entries)) (same_opened p q (ap (λ (x : SctpStreams S). x.entries) f ∙ entries))
+        (λ s ws hs. same_entries s p q ws hs (ap (λ (x : SctpStreams S). x.entries) f ∙ entries)) (same_lives p q (ap (λ (x : SctpStreams S). x.entries) f ∙ entries)) (same_opened p q (ap (λ (x : SctpStreams S). x.entries) f ∙ entries)) (λ s. one_same IsOpenEntry of_open s p.entries q.entries (ap (λ (x : SctpStreams S). x.entries) f ∙ entries))
         (ap (λ (x : Met). packets_met x ++ pushed_packets q.pushed) e ∙ ap (λ (x : SctpStreams S). packets_met r ++ pushed_packets x.pushed) f ∙ sent)
 
     -- packets
     packet_uses : (p : SctpStreams S) (met : Met) (q : SctpStreams S) → p.pushed ≡ None → q.pushed ≡ p.pushed → q.entries ≡ p.entries → TakesPacket m p.association met q.association → PollUses m p met q
-    packet_uses p Nothing q none same f h = quiet p Nothing q [] [] (did_same m p.association q.association (w.packet_none p.association q.association h)) refl tt (λ s ws hs. same_entries s p q ws hs f) (same_lives p q f) (same_opened p q f) (sends_none Nothing p Nothing q refl refl same)
-    packet_uses p (Output (event.Transmit packets)) q none same f h = quiet p (Output (event.Transmit packets)) q (packet_polled (Some h.0)) [] (gave_did m w p.association q.association (Some h.0) h.1) refl tt (λ s ws hs. same_entries s p q ws hs f) (same_lives p q f) (same_opened p q f)
+    packet_uses p Nothing q none same f h = quiet p Nothing q [] [] (did_same m p.association q.association (w.packet_none p.association q.association h)) refl tt (λ s ws hs. same_entries s p q ws hs f) (same_lives p q f) (same_opened p q f) (λ s. one_same IsOpenEntry of_open s p.entries q.entries f) (sends_none Nothing p Nothing q refl refl same)
+    packet_uses p (Output (event.Transmit packets)) q none same f h = quiet p (Output (event.Transmit packets)) q (packet_polled (Some h.0)) [] (gave_did m w p.association q.association (Some h.0) h.1) refl tt (λ s ws hs. same_entries s p q ws hs f) (same_lives p q f) (same_opened p q f) (λ s. one_same IsOpenEntry of_open s p.entries q.entries f)
         (ap (λ (l : List (List ℕ)). l ++ pushed_packets q.pushed) h.2 ∙ ap (λ (o : Option (List (List ℕ))). (h.0 ∷ []) ++ pushed_packets o) (same ∙ none) ∙ ap (λ (o : Option (List (List ℕ))). pushed_packets o ++ (h.0 ∷ [])) (sym none))
     packet_uses p (Output (event.Open id label)) q none same f h = absurd h
     packet_uses p (Output (event.Close id pending)) q none same f h = absurd h
@@ -160,7 +146,7 @@ module _ {S : Type 0} (m : AssociationMeaning S) where
     packet_uses p (Output (event.BufferedAmountLow id)) q none same f h = absurd h
     packet_uses p (Output event.AssociationLost) q none same f h = absurd h
     packet_uses p Again q none same f h = absurd h
-    packet_uses p OutOfMemory q none same f h = quiet p OutOfMemory q [] [] (did_same m p.association q.association h) refl tt (λ s ws hs. same_entries s p q ws hs f) (same_lives p q f) (same_opened p q f) (sends_none OutOfMemory p OutOfMemory q refl refl same)
+    packet_uses p OutOfMemory q none same f h = quiet p OutOfMemory q [] [] (did_same m p.association q.association h) refl tt (λ s ws hs. same_entries s p q ws hs f) (same_lives p q f) (same_opened p q f) (λ s. one_same IsOpenEntry of_open s p.entries q.entries f) (sends_none OutOfMemory p OutOfMemory q refl refl same)
 
     transmit_if : (b : Bool) (p : SctpStreams S) (met : Met) (q : SctpStreams S) → p.pushed ≡ None → TransmitIf m b p met q → PollUses m p met q
     transmit_if false p met q none h = unchanged Nothing p p met q h.0 h.1 refl refl refl tt (sym (append-nil (pushed_packets p.pushed)))
@@ -194,7 +180,7 @@ module _ {S : Type 0} (m : AssociationMeaning S) where
     told_nothing : (r : Met) (p : SctpStreams S) (met : Met) (q : SctpStreams S) → met ≡ r → q.association ≡ p.association → book_of q ≡ book_of p → q.pushed ≡ p.pushed → data_met r ≡ [] → packets_met r ≡ [] → TellsNoOpen r → PollUses m p met q
     told_nothing r p met q e a b same shown unsent untold =
         quiet p met q [] [] (did_same m p.association q.association a) (ap data_met e ∙ shown) (subst (λ (x : Met). TellsNoOpen x) (sym e) untold)
-        (λ s ws hs. same_entries s p q ws hs (ap (λ (x : Book). x.entries) b)) (same_lives p q (ap (λ (x : Book). x.entries) b)) (same_opened p q (ap (λ (x : Book). x.entries) b)) (sends_none r p met q e unsent same)
+        (λ s ws hs. same_entries s p q ws hs (ap (λ (x : Book). x.entries) b)) (same_lives p q (ap (λ (x : Book). x.entries) b)) (same_opened p q (ap (λ (x : Book). x.entries) b)) (λ s. one_same IsOpenEntry of_open s p.entries q.entries (ap (λ (x : Book). x.entries) b)) (sends_none r p met q e unsent same)
 
     event_uses : (p : SctpStreams S) (met : Met) (q : SctpStreams S) → q.pushed ≡ p.pushed → TakesEvent m p.association (book_of p) met q.association (book_of q) → PollUses m p met q
     event_uses p met q same (NotStarted s e a b) = told_nothing Nothing p met q e a b same refl refl tt
@@ -202,7 +188,7 @@ module _ {S : Type 0} (m : AssociationMeaning S) where
     event_uses p met q same (NoEvent begun k e b) = told_nothing Nothing p met q e (w.event_none p.association q.association k) b same refl refl tt
     event_uses p met q same (Event event begun k e b) =
         quiet p met q [] (event ∷ []) (told_did m w p.association q.association event k) (ap data_met e ∙ event_shown event) (subst (λ (x : Met). TellsNoOpen x) (sym e) (event_opens event))
-        (λ s ws hs. used_after event (book_of p) (book_of q) s q.association ws hs b) (λ s g. live_after event (book_of p) (book_of q) s g b) (λ s o. open_after event (book_of p) (book_of q) s o b)
+        (λ s ws hs. used_after event (book_of p) (book_of q) s q.association ws hs b) (λ s g. live_after event (book_of p) (book_of q) s g b) (λ s o. open_after event (book_of p) (book_of q) s o b) (λ s. one_after IsOpenEntry of_open s event (book_of p) (book_of q) b)
         (sends_none (event_met event) p met q e (event_sent m w event) same)
 
     -- visits
@@ -220,6 +206,7 @@ module _ {S : Type 0} (m : AssociationMeaning S) where
       lives = z.lives;
       live_heard = z.live_heard;
       fresh = z.fresh;
+      mute = z.mute;
     }
 
     visits_if : (b : Bool) (p : SctpStreams S) (met : Met) (q : SctpStreams S) → VisitsIf m b p met q → PollUses m p met q
@@ -252,6 +239,7 @@ module _ {S : Type 0} (m : AssociationMeaning S) where
       lives = λ s g live. z.lives s g (on s g b.entries (y.lives s g live));
       live_heard = λ s g live. are_join s g y.heard z.heard (y.live_heard s g live) (z.live_heard s g (on s g b.entries (y.lives s g live)));
       fresh = λ s o h. opens_on own met s o p.entries b.entries q.entries (silent s) (y.fresh s o) (z.fresh s o) h;
+      mute = λ v s g h. mute_on m s g y.wrote z.wrote b.association q.association b.entries q.entries (y.mute v s g h) (z.mute v s g);
     }
 
     else_uses : (A B : SctpStreams S → Met → SctpStreams S → Type 0) → ((p : SctpStreams S) (met : Met) (q : SctpStreams S) → A p met q → PollUses m p met q) → ((p : SctpStreams S) (met : Met) (q : SctpStreams S) → B p met q → PollUses m p met q) → (p : SctpStreams S) (met : Met) (q : SctpStreams S) → Else A B p met q → PollUses m p met q
@@ -264,7 +252,7 @@ module _ {S : Type 0} (m : AssociationMeaning S) where
         then_step OutOfMemory between d k = rw (k.0, k.1) d
 
     dropped : (p : SctpStreams S) → PollUses m p Nothing (unclosed_streams p)
-    dropped p = quiet p Nothing (unclosed_streams p) [] [] (did_same m p.association p.association refl) refl tt (λ s ws hs. unclosed_used m s p.association ws hs p.entries) (λ s g. live_unclosed s g p.entries) (λ s o. open_unclosed s o p.entries) (sym (append-nil (pushed_packets p.pushed)))
+    dropped p = quiet p Nothing (unclosed_streams p) [] [] (did_same m p.association p.association refl) refl tt (λ s ws hs. unclosed_used m s p.association ws hs p.entries) (λ s g. live_unclosed s g p.entries) (λ s o. open_unclosed s o p.entries) (λ s. one_left IsOpenEntry of_open s p.entries) (sym (append-nil (pushed_packets p.pushed)))
 
     steps_use : (p : SctpStreams S) (met : Met) (q : SctpStreams S) → TakesSteps m p met q → PollUses m p met q
     unfolding TakesSteps

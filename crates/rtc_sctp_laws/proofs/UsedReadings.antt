@@ -51,11 +51,12 @@ and_right true b h = h
 and_right false b h = absurd (true≢false (sym h))
 
 module _ {S : Type 0} (m : AssociationMeaning S) where
-  -- What a visit did and leaves of the use of its stream.
+  -- What a visit did and leaves of the use of its stream. To one whose entry is open it wrote nothing.
   pub record VisitUses (t : Turn S) (met : Met) (t' : Turn S) : Type 0 where
     pub did : VisitDid m t.association met t'.association
     pub own_wrote : are_of_stream t.entry.id did.wrote ≡ true
     pub own_heard : are_of_stream t.entry.id did.heard ≡ true
+    pub idle : t.entry.state ≡ Open → did.wrote ≡ []
     pub id_is : t'.entry.id ≡ t.entry.id
     pub opens_own : OpensOwn met t.entry.id
     pub heard_own : (g : ℕ) → t.entry.generation ≡ Some g → list_all (λ (x : StreamMessage). x.generation == g) did.heard ≡ true
@@ -80,9 +81,9 @@ module _ {S : Type 0} (m : AssociationMeaning S) where
 
     -- data is answered, and the entry is as it was
     tells : (x : StreamMessage) (e : SctpEvent) (shows : List SctpEvent) (t : Turn S) (met : Met) (t' : Turn S) (binary : Bool) (bytes : List ℕ) → is_past_opening t.entry.state ≡ true → e ≡ event.Data t.entry.id binary bytes → shows ≡ event.Data t.entry.id binary bytes ∷ [] → t.entry.marked ≡ false → is_dcep_message x ≡ false → met ≡ Output e → t' ≡ t
-        → Arm m t.entry.id (HeardLast m t.entry.state t.entry.generation (is_out_of_band t.entry) x t.entry.id t.association) shows t.association met t'
+        → Arm m t.entry.state t.entry.id (HeardLast m t.entry.state t.entry.generation (is_out_of_band t.entry) x t.entry.id t.association) shows t.association met t'
     tells x e shows t met t' binary bytes past is shown unmarked c f g =
-        still m t.entry.id _ shows (Output (event.Data t.entry.id binary bytes)) t met t' (f ∙ ap (λ (o : SctpEvent). Output o) is) g refl refl (sym shown) (refl, tt)
+        still m t.entry.state t.entry.id _ shows (Output (event.Data t.entry.id binary bytes)) t met t' (f ∙ ap (λ (o : SctpEvent). Output o) is) g refl refl (sym shown) (refl, tt)
         (λ ws hs k. record {
           reached = k.reached;
           used = by_own t ws hs k.own_is
@@ -94,7 +95,7 @@ module _ {S : Type 0} (m : AssociationMeaning S) where
         })
 
     message : (x : StreamMessage) (i : Ppi) (bytes : List ℕ) (t : Turn S) (met : Met) (t' : Turn S) → x.ppi ≡ i → is_past_opening t.entry.state ≡ true → t.entry.marked ≡ false → TakesStreamMessage m i bytes t met t'
-        → Arm m t.entry.id (HeardLast m t.entry.state t.entry.generation (is_out_of_band t.entry) x t.entry.id t.association) (shown_message t.entry.id i bytes) t.association met t'
+        → Arm m t.entry.state t.entry.id (HeardLast m t.entry.state t.entry.generation (is_out_of_band t.entry) x t.entry.id t.association) (shown_message t.entry.id i bytes) t.association met t'
     message x ppi.Dcep bytes t met t' i past unmarked h = dcep m w x t.entry.state bytes t met t' refl past (dcep_is i) h
       where
         dcep_is : x.ppi ≡ ppi.Dcep → is_dcep_message x ≡ true
@@ -103,14 +104,15 @@ module _ {S : Type 0} (m : AssociationMeaning S) where
     message x ppi.Binary bytes t met t' i past unmarked h = tells x _ _ t met t' true bytes past refl refl unmarked (rw i refl) h.0 h.1
     message x ppi.EmptyText bytes t met t' i past unmarked h = tells x _ _ t met t' false [] past refl refl unmarked (rw i refl) h.0 h.1
     message x ppi.EmptyBinary bytes t met t' i past unmarked h = tells x _ _ t met t' true [] past refl refl unmarked (rw i refl) h.0 h.1
-    message x (ppi.Other n) bytes t met t' i past unmarked h = known m t.entry.id _ _ [] t.association met t' (λ ws hs k. (k.reached, k.in_band)) (marks m w t met t' past h.0 h.1)
+    message x (ppi.Other n) bytes t met t' i past unmarked h = known m t.entry.state t.entry.id _ _ [] t.association met t' (λ ws hs k. (k.reached, k.in_band)) (marks m w t met t' past h.0 h.1)
 
     -- nothing is read
-    unheard : (t : Turn S) (met : Met) (t' : Turn S) → Arm m t.entry.id (UsedTurn m t.entry.id t) [] t.association met t' → VisitUses t met t'
+    unheard : (t : Turn S) (met : Met) (t' : Turn S) → Arm m t.entry.state t.entry.id (UsedTurn m t.entry.id t) [] t.association met t' → VisitUses t met t'
     unheard t met t' z = record {
       did = record { wrote = z.wrote; heard = []; did = z.did; dcep = z.dcep; sent_is = z.sent_is; reset_is = z.reset_is; shown_is = z.shown_is };
       own_wrote = z.own;
       own_heard = refl;
+      idle = z.idle;
       heard_own = λ g e. refl;
       id_is = z.id_is;
       opens_own = z.opens_own;
@@ -119,7 +121,7 @@ module _ {S : Type 0} (m : AssociationMeaning S) where
 
     -- a message is read, and what is done with it
     hears : (t : Turn S) (q : S) (i : Ppi) (bytes : List ℕ) (met : Met) (t' : Turn S) → (is_some t.entry.generation ≡ true → t.entry.generation ≡ Some (m.generation t.association t.entry.id)) → t.entry.marked ≡ false → m.read t.association t.entry.id (Ok (Some (i, bytes))) q
-        → Arm m t.entry.id (HeardLast m t.entry.state t.entry.generation (is_out_of_band t.entry) (stream_message t.entry.id (m.generation t.association t.entry.id) i bytes) t.entry.id q) (shown_message t.entry.id i bytes) q met t' → VisitUses t met t'
+        → Arm m t.entry.state t.entry.id (HeardLast m t.entry.state t.entry.generation (is_out_of_band t.entry) (stream_message t.entry.id (m.generation t.association t.entry.id) i bytes) t.entry.id q) (shown_message t.entry.id i bytes) q met t' → VisitUses t met t'
     hears t q i bytes met t' own unmarked h z =
         let x = stream_message t.entry.id (m.generation t.association t.entry.id) i bytes in
         let d = read_did m w t.association q t.entry.id (Ok (Some (i, bytes))) h in
@@ -136,6 +138,7 @@ module _ {S : Type 0} (m : AssociationMeaning S) where
           };
           own_wrote = z.own;
           own_heard = own_one t.entry.id (m.generation t.association t.entry.id) i bytes;
+          idle = z.idle;
           heard_own = λ g e. same_own t.entry.generation (m.generation t.association t.entry.id) g own e;
           id_is = z.id_is;
           opens_own = z.opens_own;
@@ -154,19 +157,19 @@ module _ {S : Type 0} (m : AssociationMeaning S) where
 
     -- nothing came of the reading, and what is done then
     silent : (t : Turn S) (q : S) (r : Result (Option (Ppi × List ℕ)) AssocError) (met : Met) (t' : Turn S) → AssociationDid m [] [] [] [] [] t.association q
-        → Arm m t.entry.id (UsedTurn m t.entry.id (record t { association = q })) [] q met t' → VisitUses t met t'
+        → Arm m t.entry.state t.entry.id (UsedTurn m t.entry.id (record t { association = q })) [] q met t' → VisitUses t met t'
     silent t q r met t' d z =
         let kept : GenerationLaws m → KeepsGeneration m t.entry.id t.association q = λ v. did_keeps m v t.entry.id [] [] [] [] t.association q d in
         unheard t met t'
-        (behind m t.entry.id _ _ [] [] t.association q met t' d refl refl
+        (behind m t.entry.state t.entry.id _ _ [] [] t.association q met t' d refl refl (λ e. refl)
         (λ v ws hs k. plainly m (UsedTurn m t.entry.id (record t { association = q })) ws hs (reached_kept m t.entry.id ws hs t.association q (kept v) k.0, used_by_kept m t.entry t.entry.id t.association q ws hs (kept v) k.1)) z)
 
     -- a step that leaves the use as it is
-    stays : (t u : Turn S) (r : Met) (met : Met) (t' : Turn S) → met ≡ Nothing → t' ≡ t → Arm m t.entry.id (UsedTurn m t.entry.id t) [] t.association met t'
-    stays t u r met t' e f = still m t.entry.id _ [] Nothing t met t' e f refl refl refl (refl, tt) (λ ws hs k. record { reached = k.0; used = k.1; opens = tt })
+    stays : (t u : Turn S) (r : Met) (met : Met) (t' : Turn S) → met ≡ Nothing → t' ≡ t → Arm m t.entry.state t.entry.id (UsedTurn m t.entry.id t) [] t.association met t'
+    stays t u r met t' e f = still m t.entry.state t.entry.id _ [] Nothing t met t' e f refl refl refl (refl, tt) (λ ws hs k. record { reached = k.0; used = k.1; opens = tt })
 
-    marks_turn : (t : Turn S) (met : Met) (t' : Turn S) → is_past_opening t.entry.state ≡ true → (met ≡ Again) → (t' ≡ record t { entry = record t.entry { marked = true } }) → Arm m t.entry.id (UsedTurn m t.entry.id t) [] t.association met t'
-    marks_turn t met t' past e f = known m t.entry.id _ _ [] t.association met t' (λ ws hs k. (k.0, k.1.1)) (marks m w t met t' past e f)
+    marks_turn : (t : Turn S) (met : Met) (t' : Turn S) → is_past_opening t.entry.state ≡ true → (met ≡ Again) → (t' ≡ record t { entry = record t.entry { marked = true } }) → Arm m t.entry.state t.entry.id (UsedTurn m t.entry.id t) [] t.association met t'
+    marks_turn t met t' past e f = known m t.entry.state t.entry.id _ _ [] t.association met t' (λ ws hs k. (k.0, k.1.1)) (marks m w t met t' past e f)
 
     read_by : (r : Result (Option (Ppi × List ℕ)) AssocError) (t : Turn S) (q : S) (met : Met) (t' : Turn S) → (is_some t.entry.generation ≡ true → t.entry.generation ≡ Some (m.generation t.association t.entry.id)) → is_past_opening t.entry.state ≡ true → t.entry.marked ≡ false → m.read t.association t.entry.id r q → ReadBy m (heard_of r) (record t { association = q }) met t' → VisitUses t met t'
     read_by (Ok None) t q met t' own past un k h = silent t q (Ok None) met t' (read_did m w t.association q t.entry.id (Ok None) k) (stays (record t { association = q }) t Nothing met t' h.0 h.1)
@@ -190,9 +193,9 @@ module _ {S : Type 0} (m : AssociationMeaning S) where
     may_read t met t' own past un (NothingUnread unread e f) = unheard t met t' (stays t t Nothing met t' e f)
 
     -- a threshold is handed over
-    handed : (o : Asked) (n : ℕ) (t : Turn S) (met : Met) (t' : Turn S) → HandedBy m o n t met t' → Arm m t.entry.id (UsedTurn m t.entry.id t) [] t.association met t'
-    handed did.Done n t met t' h = still m t.entry.id _ [] Again (record t { entry = record t.entry { threshold = Configured n } }) met t' h.0 h.1 refl refl refl (refl, tt) (λ ws hs k. record { reached = k.0; used = k.1; opens = tt })
-    handed did.Refused n t met t' h = still m t.entry.id _ [] Again (record t { entry = record t.entry { threshold = Configured n } }) met t' h.0 h.1 refl refl refl (refl, tt) (λ ws hs k. record { reached = k.0; used = k.1; opens = tt })
+    handed : (o : Asked) (n : ℕ) (t : Turn S) (met : Met) (t' : Turn S) → HandedBy m o n t met t' → Arm m t.entry.state t.entry.id (UsedTurn m t.entry.id t) [] t.association met t'
+    handed did.Done n t met t' h = still m t.entry.state t.entry.id _ [] Again (record t { entry = record t.entry { threshold = Configured n } }) met t' h.0 h.1 refl refl refl (refl, tt) (λ ws hs k. record { reached = k.0; used = k.1; opens = tt })
+    handed did.Refused n t met t' h = still m t.entry.state t.entry.id _ [] Again (record t { entry = record t.entry { threshold = Configured n } }) met t' h.0 h.1 refl refl refl (refl, tt) (λ ws hs k. record { reached = k.0; used = k.1; opens = tt })
     handed did.OutOfMemory n t met t' h = starves m w _ t met t' h.0 h.1
 
     hands : (n : ℕ) (t : Turn S) (met : Met) (t' : Turn S) → HandsThreshold m n t met t' → VisitUses t met t'
@@ -205,7 +208,7 @@ module _ {S : Type 0} (m : AssociationMeaning S) where
     attends_by (Configured n) t met t' own past un h = may_read t met t' own past un h
 
     attends_if : (b c : Bool) (t : Turn S) (met : Met) (t' : Turn S) → is_past_opening t.entry.state ≡ true → t.entry.marked ≡ b → is_entry_there m t.association t.entry ≡ c → AttendsIf m b c t met t' → VisitUses t met t'
-    attends_if true c t met t' past un there h = unheard t met t' (known m t.entry.id _ _ [] t.association met t' (λ ws hs k. k.0) (closes m w t met t' h))
+    attends_if true c t met t' past un there h = unheard t met t' (known m t.entry.state t.entry.id _ _ [] t.association met t' (λ ws hs k. k.0) (closes m w t met t' h))
     attends_if false false t met t' past un there h = unheard t met t' (marks_turn t met t' past h.0 h.1)
     attends_if false true t met t' past un there h =
         attends_by t.entry.threshold t met t' (fits_own t.entry.generation (m.generation t.association t.entry.id) (and_right (m.has_stream t.association t.entry.id) _ there)) past un h

@@ -3,6 +3,7 @@ use Rattle.std.proofs.Common.{◌≡◌, ◌⊎◌, ℕ, ◌==◌, Bool, true, f
 use Rattle.std.proofs.lemmas.Bool.{eqb-true, eqb-false}
 use Rattle.rtc_parts.specs.AssociationMeaning.{AssociationMeaning}
 use Rattle.rtc_parts.specs.AssociationLaws.{AssociationLaws}
+use Rattle.rtc_sctp_entries.specs.declared.stream_entry_state.StreamEntryState.TheVariants.{Open}
 use Rattle.rtc_sctp_entries.specs.declared.stream_entry.StreamEntry.{StreamEntry}
 use Rattle.rtc_sctp_entries.specs.declared.sctp_event.SctpEvent.TheVariants as event
 use Rattle.rtc_sctp_entries.specs.declared.met.Met.{Met}
@@ -27,6 +28,9 @@ use Rattle.rtc_sctp_laws.proofs.OpeningVisits.{OpensTold, visit_opens}
 use Rattle.rtc_sctp_laws.proofs.EntriesOf.{entries_own, entries_other, same_test, none_head, none_more, only_used, used_is}
 use Rattle.rtc_sctp_laws.proofs.VisitedTurns.{TurnOpens, TurnLeaves, UsedTurn}
 use Rattle.rtc_sctp_laws.proofs.UsedReadings.{VisitUses, visit_uses}
+use Rattle.rtc_sctp_laws.specs.MuteGenerations.{IsMute, StaysMute}
+use Rattle.rtc_sctp_laws.proofs.MuteVisits.{HoldsOpen, visit_holds}
+use Rattle.rtc_sctp_laws.proofs.MuteTours.{first_mute, next_mute}
 
 module _ {S : Type 0} (m : AssociationMeaning S) where
   -- nothing is told of the stream
@@ -129,6 +133,7 @@ module _ {S : Type 0} (m : AssociationMeaning S) where
     pub lives : (s g : ℕ) → IsLive s g es → LeavesLive met s g es'
     pub live_heard : (s g : ℕ) → IsLive s g es → are_of_generation s g did.heard ≡ true
     pub fresh : (s : ℕ) (o : Option ℕ) → HasOpenInBand s o es' → HasOpenInBand s o es ⊎ TellsStreamOpen met s
+    pub mute : GenerationLaws m → (s g : ℕ) → IsMute m s g a es → StaysMute m s g did.wrote a' es'
 
   self : (n : ℕ) → (n == n) ≡ true
   self n = grind arith
@@ -157,8 +162,8 @@ module _ {S : Type 0} (m : AssociationMeaning S) where
     visit_keeps v s a met b d = did_keeps m v s [] [] d.wrote d.heard a b d.did
 
     -- the first entry gives something
-    stopped : (a : S) (e : StreamEntry) (es : List StreamEntry) (rs : List ℕ) (met : Met) (b : Turn S) → (u : VisitUses m (turn a e rs) met b) → OpenLeft met e b.entry → OpensTold met e b.entry → TourUses a (e ∷ es) met b.association (b.entry ∷ es)
-    stopped a e es rs met b u goes opens = record {
+    stopped : (a : S) (e : StreamEntry) (es : List StreamEntry) (rs : List ℕ) (met : Met) (b : Turn S) → (u : VisitUses m (turn a e rs) met b) → OpenLeft met e b.entry → OpensTold met e b.entry → (e.state ≡ Open → HoldsOpen met b.entry.state) → TourUses a (e ∷ es) met b.association (b.entry ∷ es)
+    stopped a e es rs met b u goes opens holds = record {
       did = u.did;
       leaves = λ v s ws hs h. by v s ws hs h (e.id == s) refl;
       others = λ s none g. beside s (none_head s e es none).0 g;
@@ -167,6 +172,7 @@ module _ {S : Type 0} (m : AssociationMeaning S) where
       lives = λ s g live. first_lives met s g e b.entry es u.id_is goes u.opens_own live;
       live_heard = λ s g live. first_heard s g e es u.did.heard u.own_heard u.heard_own live;
       fresh = λ s o h. first_opens met s o e b.entry es u.id_is opens h;
+      mute = λ v s g h. first_mute m w v a e rs b g met es u holds s h;
     }
       where
         beside : (s : ℕ) → (e.id == s) ≡ false → (g : ℕ) → (messages_of s g u.did.wrote ≡ []) × (messages_of s g u.did.heard ≡ [])
@@ -188,8 +194,8 @@ module _ {S : Type 0} (m : AssociationMeaning S) where
             (opens_other met s b.association (b.entry ∷ es) _ _ (other_by met e.id s (eqb-false e.id s c) u.opens_own))
 
     -- the first entry gives nothing, and the others are visited
-    went_on : (a : S) (e : StreamEntry) (es : List StreamEntry) (rs : List ℕ) (b : Turn S) (met : Met) (a' : S) (tail : List StreamEntry) → (u : VisitUses m (turn a e rs) Nothing b) → OpenLeft Nothing e b.entry → OpensTold Nothing e b.entry → TourUses b.association es met a' tail → TourUses a (e ∷ es) met a' (b.entry ∷ tail)
-    went_on a e es rs b met a' tail u goes opens z = record {
+    went_on : (a : S) (e : StreamEntry) (es : List StreamEntry) (rs : List ℕ) (b : Turn S) (met : Met) (a' : S) (tail : List StreamEntry) → (u : VisitUses m (turn a e rs) Nothing b) → OpenLeft Nothing e b.entry → OpensTold Nothing e b.entry → (e.state ≡ Open → b.entry.state ≡ Open) → TourUses b.association es met a' tail → TourUses a (e ∷ es) met a' (b.entry ∷ tail)
+    went_on a e es rs b met a' tail u goes opens holds z = record {
       did = record {
         wrote = u.did.wrote ++ z.did.wrote;
         heard = u.did.heard ++ z.did.heard;
@@ -212,6 +218,7 @@ module _ {S : Type 0} (m : AssociationMeaning S) where
           are_join s g u.did.heard z.did.heard (first_heard s g e es u.did.heard u.own_heard u.heard_own live)
           (next_heard s g e es z.did.heard (λ none k. (z.others s none k).1) (z.live_heard s g) live);
       fresh = λ s o h. next_opens met s o e b.entry es tail u.id_is opens (z.fresh s o) h;
+      mute = λ v s g h. next_mute m w v a e rs b g met a' es tail u z.did holds s (λ none. (z.others s none g).0) (z.none s) (z.mute v s g) h;
     }
       where
         both : (g s : ℕ) (xs ys : List StreamMessage) → messages_of s g xs ≡ [] → messages_of s g ys ≡ [] → messages_of s g (xs ++ ys) ≡ []
@@ -255,15 +262,16 @@ module _ {S : Type 0} (m : AssociationMeaning S) where
       lives = λ s g live. absurd live;
       live_heard = λ s g live. refl;
       fresh = λ s o h. absurd h;
+      mute = λ v s g h. record { none = refl; left = h };
     }
 
     then_uses : (now : ℕ) (es : List StreamEntry) → ((a : S) (rs : List ℕ) (met : Met) (a' : S) (rs' : List ℕ) (es' : List StreamEntry) → VisitsAll m now es a rs met a' rs' es' → TourUses a es met a' es')
-        → (own : Met) (a : S) (e : StreamEntry) (rs : List ℕ) (b : Turn S) (met : Met) (a' : S) (rs' : List ℕ) (es' : List StreamEntry) → VisitUses m (turn a e rs) own b → OpenLeft own e b.entry → OpensTold own e b.entry → VisitedThen m (VisitsAll m now es) own es b met a' rs' es' → TourUses a (e ∷ es) met a' es'
-    then_uses now es rest Nothing a e rs b met a' rs' es' u goes opens k = moved a (e ∷ es) met a' a' (b.entry ∷ k.0) es' refl k.2 (went_on a e es rs b met a' k.0 u goes opens (rest b.association b.resets met a' rs' k.0 k.1))
-    then_uses now es rest Again a e rs b met a' rs' es' u goes opens k = subst (λ (x : Met). TourUses a (e ∷ es) x a' es') (sym k.0) (moved a (e ∷ es) Again b.association a' (b.entry ∷ es) es' k.1 k.3 (stopped a e es rs Again b u goes opens))
-    then_uses now es rest (Output o) a e rs b met a' rs' es' u goes opens k = subst (λ (x : Met). TourUses a (e ∷ es) x a' es') (sym k.0) (moved a (e ∷ es) (Output o) b.association a' (b.entry ∷ es) es' k.1 k.3 (stopped a e es rs (Output o) b u goes opens))
-    then_uses now es rest OutOfMemory a e rs b met a' rs' es' u goes opens k = subst (λ (x : Met). TourUses a (e ∷ es) x a' es') (sym k.0) (moved a (e ∷ es) OutOfMemory b.association a' (b.entry ∷ es) es' k.1 k.3 (stopped a e es rs OutOfMemory b u goes opens))
+        → (own : Met) (a : S) (e : StreamEntry) (rs : List ℕ) (b : Turn S) (met : Met) (a' : S) (rs' : List ℕ) (es' : List StreamEntry) → VisitUses m (turn a e rs) own b → OpenLeft own e b.entry → OpensTold own e b.entry → (e.state ≡ Open → HoldsOpen own b.entry.state) → VisitedThen m (VisitsAll m now es) own es b met a' rs' es' → TourUses a (e ∷ es) met a' es'
+    then_uses now es rest Nothing a e rs b met a' rs' es' u goes opens holds k = moved a (e ∷ es) met a' a' (b.entry ∷ k.0) es' refl k.2 (went_on a e es rs b met a' k.0 u goes opens holds (rest b.association b.resets met a' rs' k.0 k.1))
+    then_uses now es rest Again a e rs b met a' rs' es' u goes opens holds k = subst (λ (x : Met). TourUses a (e ∷ es) x a' es') (sym k.0) (moved a (e ∷ es) Again b.association a' (b.entry ∷ es) es' k.1 k.3 (stopped a e es rs Again b u goes opens holds))
+    then_uses now es rest (Output o) a e rs b met a' rs' es' u goes opens holds k = subst (λ (x : Met). TourUses a (e ∷ es) x a' es') (sym k.0) (moved a (e ∷ es) (Output o) b.association a' (b.entry ∷ es) es' k.1 k.3 (stopped a e es rs (Output o) b u goes opens holds))
+    then_uses now es rest OutOfMemory a e rs b met a' rs' es' u goes opens holds k = subst (λ (x : Met). TourUses a (e ∷ es) x a' es') (sym k.0) (moved a (e ∷ es) OutOfMemory b.association a' (b.entry ∷ es) es' k.1 k.3 (stopped a e es rs OutOfMemory b u goes opens holds))
 
     pub tour_uses : (now : ℕ) (es : List StreamEntry) (a : S) (rs : List ℕ) (met : Met) (a' : S) (rs' : List ℕ) (es' : List StreamEntry) → VisitsAll m now es a rs met a' rs' es' → TourUses a es met a' es'
     tour_uses now [] a rs met a' rs' es' h = subst (λ (x : Met). TourUses a [] x a' es') (sym h.0) (moved a [] Nothing a a' [] es' h.1 h.3 (nothing a))
-    tour_uses now (e ∷ es) a rs met a' rs' es' h = then_uses now es (tour_uses now es) h.0 a e rs h.1 met a' rs' es' (visit_uses m w now (turn a e rs) h.0 h.1 h.2) (visit_lives m now (turn a e rs) h.0 h.1 h.2) (visit_opens m now (turn a e rs) h.0 h.1 h.2) h.3
+    tour_uses now (e ∷ es) a rs met a' rs' es' h = then_uses now es (tour_uses now es) h.0 a e rs h.1 met a' rs' es' (visit_uses m w now (turn a e rs) h.0 h.1 h.2) (visit_lives m now (turn a e rs) h.0 h.1 h.2) (visit_opens m now (turn a e rs) h.0 h.1 h.2) (visit_holds m now (turn a e rs) h.0 h.1 h.2) h.3

@@ -1,6 +1,7 @@
 -- What is known of the use of a stream in a visit, and steps that are joined.
-use Rattle.std.proofs.Common.{◌≡◌, ℕ, true, List, [], ◌++◌, append-nil, append_assoc, refl, sym, subst}
+use Rattle.std.proofs.Common.{◌≡◌, ℕ, true, List, [], ◌++◌, append-nil, append_assoc, refl, sym, ap, subst, ◌∙◌}
 use Rattle.rtc_parts.specs.AssociationMeaning.{AssociationMeaning}
+use Rattle.rtc_sctp_entries.specs.declared.stream_entry_state.StreamEntryState.{StreamEntryState}
 use Rattle.rtc_sctp_entries.specs.declared.stream_entry_state.StreamEntryState.TheVariants.{Open}
 use Rattle.rtc_sctp_entries.specs.declared.stream_entry.StreamEntry.{StreamEntry}
 use Rattle.rtc_sctp_entries.specs.declared.sctp_event.SctpEvent.{SctpEvent}
@@ -42,12 +43,13 @@ module _ {S : Type 0} (m : AssociationMeaning S) where
   TurnLeaves Again s ws hs t = TurnLeft Again s ws hs t
   TurnLeaves (Output e) s ws hs t = TurnLeft (Output e) s ws hs t
 
-  -- what is done where so much is known of the use, and nothing further is read
-  pub record Arm (s : ℕ) (Known : List StreamMessage → List StreamMessage → Type 0) (shows : List SctpEvent) (a : S) (met : Met) (t' : Turn S) : Type 0 where
+  -- what is done where so much is known of the use, and nothing further is read; of an open entry nothing is written
+  pub record Arm (st : StreamEntryState) (s : ℕ) (Known : List StreamMessage → List StreamMessage → Type 0) (shows : List SctpEvent) (a : S) (met : Met) (t' : Turn S) : Type 0 where
     pub wrote : List StreamMessage
     pub did : AssociationDid m [] [] [] wrote [] a t'.association
     pub dcep : are_dcep wrote ≡ true
     pub own : are_of_stream s wrote ≡ true
+    pub idle : st ≡ Open → wrote ≡ []
     pub sent_is : packets_met met ≡ []
     pub reset_is : resets_met met ≡ []
     pub shown_is : data_met met ≡ shows
@@ -70,15 +72,16 @@ module _ {S : Type 0} (m : AssociationMeaning S) where
   BlankTurn s a ws hs = IsReached m s ws hs a × (now_of m a s ws ≡ []) × (now_of m a s hs ≡ [])
 
   -- the last step, after which the association is as it was
-  pub still : (s : ℕ) (Known : List StreamMessage → List StreamMessage → Type 0) (shows : List SctpEvent) (r : Met) (u : Turn S) (met : Met) (t' : Turn S) → met ≡ r → t' ≡ u → packets_met r ≡ [] → resets_met r ≡ [] → data_met r ≡ shows → (u.entry.id ≡ s) × OpensOwn r s
-      → ((ws hs : List StreamMessage) → Known ws hs → TurnLeaves r s ws hs u) → Arm s Known shows u.association met t'
-  still s Known shows r u met t' e f sent reset shown id leaves =
-      subst (λ (x : Met). Arm s Known shows u.association x t') (sym e)
-      (subst (λ (x : Turn S). Arm s Known shows u.association r x) (sym f) (record {
+  pub still : (st : StreamEntryState) (s : ℕ) (Known : List StreamMessage → List StreamMessage → Type 0) (shows : List SctpEvent) (r : Met) (u : Turn S) (met : Met) (t' : Turn S) → met ≡ r → t' ≡ u → packets_met r ≡ [] → resets_met r ≡ [] → data_met r ≡ shows → (u.entry.id ≡ s) × OpensOwn r s
+      → ((ws hs : List StreamMessage) → Known ws hs → TurnLeaves r s ws hs u) → Arm st s Known shows u.association met t'
+  still st s Known shows r u met t' e f sent reset shown id leaves =
+      subst (λ (x : Met). Arm st s Known shows u.association x t') (sym e)
+      (subst (λ (x : Turn S). Arm st s Known shows u.association r x) (sym f) (record {
         wrote = [];
         did = did_none m u.association;
         dcep = refl;
         own = refl;
+        idle = λ k. refl;
         sent_is = sent;
         reset_is = reset;
         shown_is = shown;
@@ -88,13 +91,14 @@ module _ {S : Type 0} (m : AssociationMeaning S) where
       }))
 
   -- a step of the association, and what follows
-  pub behind : (s : ℕ) (Known Next : List StreamMessage → List StreamMessage → Type 0) (shows : List SctpEvent) (wrote : List StreamMessage) (a b : S) (met : Met) (t' : Turn S) → AssociationDid m [] [] [] wrote [] a b → are_dcep wrote ≡ true → are_of_stream s wrote ≡ true
-      → (GenerationLaws m → (ws hs : List StreamMessage) → Known ws hs → Next (ws ++ wrote) hs) → Arm s Next shows b met t' → Arm s Known shows a met t'
-  behind s Known Next shows wrote a b met t' d k own step z = record {
+  pub behind : (st : StreamEntryState) (s : ℕ) (Known Next : List StreamMessage → List StreamMessage → Type 0) (shows : List SctpEvent) (wrote : List StreamMessage) (a b : S) (met : Met) (t' : Turn S) → AssociationDid m [] [] [] wrote [] a b → are_dcep wrote ≡ true → are_of_stream s wrote ≡ true → (st ≡ Open → wrote ≡ [])
+      → (GenerationLaws m → (ws hs : List StreamMessage) → Known ws hs → Next (ws ++ wrote) hs) → Arm st s Next shows b met t' → Arm st s Known shows a met t'
+  behind st s Known Next shows wrote a b met t' d k own idle step z = record {
     wrote = wrote ++ z.wrote;
     did = did_join m [] [] [] [] [] [] wrote z.wrote [] [] a b t'.association d z.did;
     dcep = dcep_join wrote z.wrote k z.dcep;
     own = own_join s wrote z.wrote own z.own;
+    idle = λ k. ap (λ (l : List StreamMessage). l ++ z.wrote) (idle k) ∙ z.idle k;
     sent_is = z.sent_is;
     reset_is = z.reset_is;
     shown_is = z.shown_is;
@@ -104,12 +108,13 @@ module _ {S : Type 0} (m : AssociationMeaning S) where
   }
 
   -- less is to be known where more is
-  pub known : (s : ℕ) (Known Next : List StreamMessage → List StreamMessage → Type 0) (shows : List SctpEvent) (a : S) (met : Met) (t' : Turn S) → ((ws hs : List StreamMessage) → Known ws hs → Next ws hs) → Arm s Next shows a met t' → Arm s Known shows a met t'
-  known s Known Next shows a met t' step z = record {
+  pub known : (st : StreamEntryState) (s : ℕ) (Known Next : List StreamMessage → List StreamMessage → Type 0) (shows : List SctpEvent) (a : S) (met : Met) (t' : Turn S) → ((ws hs : List StreamMessage) → Known ws hs → Next ws hs) → Arm st s Next shows a met t' → Arm st s Known shows a met t'
+  known st s Known Next shows a met t' step z = record {
     wrote = z.wrote;
     did = z.did;
     dcep = z.dcep;
     own = z.own;
+    idle = z.idle;
     sent_is = z.sent_is;
     reset_is = z.reset_is;
     shown_is = z.shown_is;

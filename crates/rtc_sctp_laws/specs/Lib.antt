@@ -6,6 +6,7 @@ pub mod StreamUses
 pub mod UsedCalls
 pub mod Contents
 pub mod PastGenerations
+pub mod MuteGenerations
 pub mod RunningStreams
 pub mod PassedReads
 pub mod NarrowedTimeouts
