@@ -1,6 +1,6 @@
 -- Behind runs, a buffered amount of 0 says that nothing that a side sent over a channel is unacknowledged, if its last message is not empty:
 -- so a reader that was drained has all of it.
-use Rattle.std.proofs.Common.{◌≡◌, ◌∙◌, ◌++◌, ℕ, cond, Bool, true, false, List, [], sym, ap, subst}
+use Rattle.std.proofs.Common.{◌≡◌, ◌∙◌, ◌++◌, ℕ, cond, Bool, true, false, List, [], sym, ap}
 use Rattle.rtc_parts.specs.AssociationWords.{ended, read, written}
 use Rattle.rtc_assoc.specs.Unread.{IsPrefix, unread}
 use Rattle.rtc_assoc_state.specs.Contents.{buffered_of, fresh_contents, generation_of, has_unread}
@@ -25,7 +25,6 @@ use Rattle.rtc_run_history.specs.Sides.{other_side}
 use Rattle.rtc_run_laws.specs.AcknowledgedData.{AcknowledgesData, AreAcknowledged, AreAllByAmount, AreDeliveredByAmount, AreDeliveredOverByAmount, ends_with_bytes, has_unacknowledged_data}
 use Rattle.rtc_run_laws.specs.ChannelUses.{ChannelUse}
 use Rattle.rtc_run_laws.specs.Delivered.{AreDelivering}
-use Rattle.rtc_run_laws.specs.InBandSteps.{AreInBandSteps}
 use Rattle.rtc_run_laws.specs.SideDrains.{IsSideDrained}
 use Rattle.rtc_run_laws.specs.Unannounced.{HaveNumbersLeft}
 use Rattle.rtc_run_laws.specs.NewPairs.{IsNewPair}
@@ -164,16 +163,16 @@ module _ {N : Type 0} (draws : Draws N) where
       (IsSideDrained at past) at
       (λ x mine drained band stream of there own. run_heard draws stun start new past pair go ran at x mine drained band stream of there own)
 
-  -- where no step added a channel that is negotiated out-of-band that is what was sent over the channel
+  -- where neither channel was negotiated out-of-band that is what was sent over the writer's
   pub run_all_by_amount : (stun : List ℕ → Bool) (start : PlainPair N) → IsNewPair draws start → (past : List (Entry PlainMediaEvent)) (pair : PlainPair N)
-      → are_native (steps_of past) ≡ true → (ran : Reached (plain_over draws) stun start past pair) → start.sdps ≡ [] → AreInBandSteps (steps_of past)
+      → are_native (steps_of past) ≡ true → (ran : Reached (plain_over draws) stun start past pair) → start.sdps ≡ []
       → HaveNumbersLeft pair → (at : Side)
       → AreAllByAmount draws (IsSideDrained at past) (uses_of (plain_over draws) stun start at past pair ran) (rtc_at at pair)
       (uses_of (plain_over draws) stun start (other_side at) past pair ran) (rtc_at (other_side at) pair)
-  run_all_by_amount stun start new past pair go ran none steps numbers at = λ x y mine theirs drained h ends empty.
+  run_all_by_amount stun start new past pair go ran none numbers at = λ x y mine theirs drained h kind their_kind ends empty.
       let is =
-      run_wrote draws stun start new past pair go ran none steps numbers at x y mine theirs h.reader_in_band h.writer_in_band h.reader.stream h.reader.of
-      (sym h.stream_is ∙ h.reader.of) h.generation_is in
+      run_wrote draws stun start new past pair go ran none numbers at x y mine theirs h.reader_in_band h.writer_in_band kind their_kind
+      h.reader.stream h.reader.of (sym h.stream_is ∙ h.reader.of) h.generation_is in
       run_amounts_over stun start new past pair go ran at x y mine theirs drained h (ap ends_with_bytes is ∙ ends) empty ∙ is
 
   pub run_acknowledges : (stun : List ℕ → Bool) (start pair : PlainPair N) (steps : List Step) (replies : List (Reply PlainMediaEvent)) → IsNewPair draws start
@@ -185,6 +184,5 @@ module _ {N : Type 0} (draws : Draws N) where
         acknowledged = λ at. run_acknowledged stun start new run.past pair go ran at;
         delivered = λ at. run_amounts stun start new run.past pair go ran at;
         delivered_over = λ at. run_amounts_over stun start new run.past pair go ran at;
-        all_got = λ none banded numbers at.
-            run_all_by_amount stun start new run.past pair go ran none (subst (λ (l : List Step). AreInBandSteps l) (sym run.steps_are) banded) numbers at;
+        all_got = λ none numbers at. run_all_by_amount stun start new run.past pair go ran none numbers at;
       }

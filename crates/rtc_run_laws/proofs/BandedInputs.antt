@@ -1,4 +1,4 @@
--- Inputs, writes and closes of a peer of which no channel, and no entry of a stream, was settled by other means than messages, unless it is
+-- Inputs, writes and closes of a peer of which no channel, and no entry, was settled for one stream by other means than messages, unless it is
 -- closed.
 use Rattle.std.proofs.Common.{◌≡◌, ◌∙◌, ◌⊎◌, inl, inr, ℕ, Bool, true, false, List, Option, Some, None, Result, Ok, Err, refl, sym, ap, subst}
 use Rattle.std.specs.declared.alloc.AllocError.{AllocError}
@@ -8,7 +8,6 @@ use Rattle.rtc_wire.specs.declared.receive.Receive.{Receive}
 use Rattle.rtc_ready.specs.Signals.{both}
 use Rattle.rtc_sctp.specs.Calls.{can_write, is_current}
 use Rattle.rtc_sctp.specs.Streams.{SctpStreams}
-use Rattle.rtc_channels.specs.Channels.{Channels}
 use Rattle.rtc_channels.specs.Openings.{ClosesChannel, is_progress_due}
 use Rattle.rtc_peer_core.specs.declared.phase.Phase.{Phase}
 use Rattle.rtc_peer_core.specs.declared.phase.Phase.TheVariants.{Alive, Closing, Closed}
@@ -25,13 +24,13 @@ use Rattle.rtc_peer_polling.specs.Inputs.{TimesIce, TimesStreams, TimesChannels,
 use Rattle.rtc_peer_polling.specs.Inputs.{HearsStun, HearsDtls, HearsMedia, HearsKind, Hears, Heard, PartFailed}
 use Rattle.rtc_peer_transport.specs.Stages.{Call, InTurn, Failed, Passed}
 use Rattle.rtc_peer_laws.proofs.KeptPeers.{written_same}
-use Rattle.rtc_run_laws.proofs.BandedMoments.{IsBanded, banded_same, moment_banded, timeout_banded}
+use Rattle.rtc_run_laws.proofs.BandedMoments.{same_rows, IsBanded, banded_same, moment_banded, timeout_banded}
 use Rattle.rtc_run_laws.proofs.StandingCalls.{closes_kept}
 
-module _ {I D S M E X T W N : Type 0} (m : Meanings I D S M E X T W N) where
+module _ (the : ℕ) {I D S M E X T W N : Type 0} (m : Meanings I D S M E X T W N) where
   -- unless the peer is closed
   abbrev pub SideBanded : PolledPeer I D S M N → Type 0
-  SideBanded p = (p.core.phase ≡ Closed) ⊎ IsBanded p.core.channels p.core.sctp.entries
+  SideBanded p = (p.core.phase ≡ Closed) ⊎ IsBanded the p.core.channels p.core.sctp.entries
 
   abbrev pub KeepsBand : PolledPeer I D S M N → PolledPeer I D S M N → Type 0
   KeepsBand p q = SideBanded p → SideBanded q
@@ -42,7 +41,8 @@ module _ {I D S M E X T W N : Type 0} (m : Meanings I D S M E X T W N) where
   band_stays p q channels entries closed (inl e) = inl (closed e)
   band_stays p q channels entries closed (inr k) =
       inr
-      (banded_same p.core.channels q.core.channels p.core.sctp.entries q.core.sctp.entries (ap (λ (x : Channels). x.rows) channels) entries k)
+      (banded_same the p.core.channels q.core.channels p.core.sctp.entries q.core.sctp.entries
+      (same_rows the p.core.channels q.core.channels channels) entries k)
 
   -- what a part alone was told
   band_by : (p n q : PolledPeer I D S M N) → q ≡ n → n.core.channels ≡ p.core.channels → n.core.sctp.entries ≡ p.core.sctp.entries
@@ -79,7 +79,7 @@ module _ {I D S M E X T W N : Type 0} (m : Meanings I D S M E X T W N) where
       by : KeepsBand p q
       by (inl e) = inl (ap (λ (x : PolledPeer I D S M N). x.core.phase) h.1 ∙ e)
       by (inr k) =
-          inr (timeout_banded m.association now p.core.channels q.core.channels p.core.sctp both (Ok tt) q.core.sctp h.0.0 h.0.1 channels k)
+          inr (timeout_banded the m.association now p.core.channels q.core.channels p.core.sctp both (Ok tt) q.core.sctp h.0.0 h.0.1 channels k)
   streams_band now p (Err Alloc) q h = band_shut p _ q h.1 refl
   streams_band now p (Err _) q h = absurd h
 
@@ -91,7 +91,7 @@ module _ {I D S M E X T W N : Type 0} (m : Meanings I D S M E X T W N) where
       by (inl e) = inl (ap (λ (x : PolledPeer I D S M N). x.core.phase) h.1 ∙ e)
       by (inr k) =
           inr
-          (moment_banded m.association (is_progress_due m.association p.core.channels p.core.sctp) p.core.channels p.core.sctp both q.core.channels
+          (moment_banded the m.association (is_progress_due m.association p.core.channels p.core.sctp) p.core.channels p.core.sctp both q.core.channels
           q.core.sctp h.0.0 h.0.1 k)
   channels_band p (Err Alloc) q h = band_shut p _ q h.1 refl
   channels_band p (Err _) q h = absurd h
@@ -203,6 +203,12 @@ module _ {I D S M E X T W N : Type 0} (m : Meanings I D S M E X T W N) where
       by (Some stream) closes (inr k) =
           inr
           (record {
-            rows = (banded_same p.core.channels q.core.channels p.core.sctp.entries p.core.sctp.entries (ap (λ (x : Channels). x.rows) channels) refl k).rows;
-            entries = (closes_kept m.association stream p.core.sctp r q.core.sctp closes).banded k.entries;
+            rows = stays.rows;
+            entries = (closes_kept m.association stream p.core.sctp r q.core.sctp closes).banded the k.entries;
+            numbers = stays.numbers;
           })
+        where
+          stays : IsBanded the q.core.channels p.core.sctp.entries
+          stays =
+              banded_same the p.core.channels q.core.channels p.core.sctp.entries p.core.sctp.entries
+              (same_rows the p.core.channels q.core.channels channels) refl k

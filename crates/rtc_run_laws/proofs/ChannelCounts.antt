@@ -3,8 +3,9 @@ use Rattle.std.proofs.Common.{◌≡◌, ◌≤◌, ◌<◌, ◌+◌, ◌-◌, �
 use Rattle.std.specs.Prelude.{is_some}
 use Rattle.std.proofs.lemmas.Bool.{or_parts, or_from, and_parts, not-true, ne_eqb, both_ways}
 use Rattle.rtc_wire.specs.declared.channel_config.ChannelConfig.{ChannelConfig}
+use Rattle.rtc_wire.specs.ChannelConfig.{is_overlong}
 use Rattle.rtc_sdp_values.specs.declared.line_row.LineRow.{LineRow}
-use Rattle.rtc_channels.specs.Channels.{Channel, Channels, claims_again, is_overlong, is_bad_channel}
+use Rattle.rtc_channels.specs.Channels.{Channel, Channels, claims_again, is_bad_channel}
 use Rattle.rtc_run_history.specs.Signalled.{Signalled, NotMade, Unreadable, Readable}
 use Rattle.rtc_run_history.specs.declared.op.Op.{Op}
 use Rattle.rtc_run_history.specs.declared.op.Op.TheVariants.{AddMedia, SetDirection, StopMedia, AddChannel, IceRestart}

@@ -48,10 +48,8 @@ module _ {N : Type 0} (draws : Draws N) where
         drained = λ at. run_drained draws stun start new run.past pair go ran at;
         delivered = λ at. run_delivered draws stun start new run.past pair go ran at;
         delivered_over = λ at. run_delivered_over draws stun start new run.past pair go ran at;
-        prefixes = λ none banded numbers at.
-            run_prefixes draws stun start new run.past pair go ran none (subst (λ (l : List Step). AreInBandSteps l) (sym run.steps_are) banded) numbers at;
-        all_got = λ none banded numbers at.
-            run_all_got draws stun start new run.past pair go ran none (subst (λ (l : List Step). AreInBandSteps l) (sym run.steps_are) banded) numbers at;
+        prefixes = λ none numbers at. run_prefixes draws stun start new run.past pair go ran none numbers at;
+        all_got = λ none numbers at. run_all_got draws stun start new run.past pair go ran none numbers at;
         unsent = λ at. run_told_sent draws stun start new run.past pair go ran at;
         unannounced = λ none banded numbers at.
             run_told draws stun start new run.past pair go ran none (subst (λ (l : List Step). AreInBandSteps l) (sym run.steps_are) banded) numbers at;

@@ -1,11 +1,8 @@
--- In a run by steps that settle no channel by other means than messages: where both sides announced a channel over a generation, what was sent over each is
--- all that its side ever sent to the generation, whether or not a rollback removed channels. So the other one got a prefix of it, and all of it once it was
--- delivered.
-use Rattle.std.proofs.Common.{◌≡◌, ◌∙◌, ◌⊎◌, inl, inr, ◌%◌, ◌==◌, ℕ, Bool, true, false, List, [], ◌∷◌, Option, Some, refl, sym, ap, subst, arith}
-use Rattle.std.proofs.lemmas.Bool.{eqb-true, eqb-false}
+-- In a run, where both sides announced a channel over a generation that is not negotiated out-of-band, what was sent over each is all that its side ever sent to
+-- the generation, whether or not a rollback removed channels. So the other one got a prefix of it, and all of it once it was delivered.
+use Rattle.std.proofs.Common.{◌≡◌, ◌∙◌, ◌⊎◌, inl, inr, ℕ, Bool, true, false, List, [], ◌∷◌, Option, Some, refl, sym, ap, subst, arith}
 use Rattle.rtc_parts.specs.Among.{Member}
 use Rattle.rtc_parts.specs.Draws.{Draws}
-use Rattle.rtc_channels.specs.Ids.{parity_of}
 use Rattle.rtc_plain_media.specs.declared.plain_media_event.PlainMediaEvent.{PlainMediaEvent}
 use Rattle.rtc_assoc.specs.Unread.{IsPrefix}
 use Rattle.rtc_run_history.specs.declared.side.Side.{Side}
@@ -17,7 +14,6 @@ use Rattle.rtc_run_history.specs.Sides.{other_side}
 use Rattle.rtc_run_laws.specs.ChannelUses.{ChannelUse}
 use Rattle.rtc_run_laws.specs.Delivered.{AreAllGot}
 use Rattle.rtc_run_laws.specs.HandedOut.{ArePrefixes}
-use Rattle.rtc_run_laws.specs.InBandSteps.{AreInBandSteps}
 use Rattle.rtc_run_laws.specs.NewPairs.{IsNewPair}
 use Rattle.rtc_run_laws.specs.PlainPairs.{PlainPair, plain_over}
 use Rattle.rtc_run_laws.specs.SentMessages.{sent_over}
@@ -27,14 +23,14 @@ use Rattle.rtc_run_laws.specs.Unannounced.{HaveNumbersLeft}
 use Rattle.rtc_run_laws.specs.UsesOfRuns.{uses_of}
 use Rattle.rtc_run_laws.proofs.AnnouncedStreams.{HasUseOver, IsUseOver}
 use Rattle.rtc_run_laws.proofs.ClosedUses.{IsWhole}
-use Rattle.rtc_run_laws.proofs.ForeignClosed.{run_whole}
 use Rattle.rtc_run_laws.proofs.NewPeers.{new_exchanged}
 use Rattle.rtc_run_laws.proofs.OwnerRuns.{run_held}
-use Rattle.rtc_run_laws.proofs.OwnerSettled.{first_rowed, one_side}
+use Rattle.rtc_run_laws.proofs.OwnerSettled.{one_side}
+use Rattle.rtc_run_laws.proofs.NoneAnnounced.{IsNoneOver}
 use Rattle.rtc_run_laws.proofs.OwnerSides.{HeldAt, SafeAt, twice}
 use Rattle.rtc_run_laws.proofs.RestedRuns.{run_delivered_over}
 use Rattle.rtc_run_laws.proofs.RolesApart.{Roles, pair_roles, use_finished}
-use Rattle.rtc_run_laws.proofs.RowedStreams.{NotFull}
+use Rattle.rtc_run_laws.proofs.ReadOpenings.{NotFull}
 use Rattle.rtc_run_laws.proofs.RunsExchange.{reached_exchanged}
 use Rattle.rtc_run_laws.proofs.RunsTold.{PairTold, StoodIn, new_pair_told, pair_handed_over, pair_whole, reached_told, stood_in}
 use Rattle.rtc_run_laws.proofs.UseLists.{all_member}
@@ -47,7 +43,7 @@ over_member s own x (y ∷ uses) (inr mine) h = inr (over_member s own x uses mi
 
 module _ {N : Type 0} (draws : Draws N) (stun : List ℕ → Bool) (start : PlainPair N) (new : IsNewPair draws start) (past : List (Entry PlainMediaEvent))
     (pair : PlainPair N) (go : are_native (steps_of past) ≡ true) (ran : Reached (plain_over draws) stun start past pair) (none : start.sdps ≡ [])
-    (steps : AreInBandSteps (steps_of past)) (numbers : HaveNumbersLeft pair) where
+    (numbers : HaveNumbersLeft pair) where
   abbrev uses : Side → List ChannelUse
   uses x = uses_of (plain_over draws) stun start x past pair ran
 
@@ -65,67 +61,61 @@ module _ {N : Type 0} (draws : Draws N) (stun : List ℕ → Bool) (start : Plai
 
   -- over each generation that both sides announced a channel over
   module _ (at : Side) (x y : ChannelUse) (theirs : Member x (uses (other_side at))) (mine : Member y (uses at)) (their_band : x.in_band ≡ true)
-      (band : y.in_band ≡ true) (s : ℕ) (their_of : x.stream ≡ Some s) (of : y.stream ≡ Some s) (same : x.generation ≡ y.generation) where
+      (band : y.in_band ≡ true) (their_kind : x.negotiated ≡ false) (kind : y.negotiated ≡ false) (s : ℕ) (their_of : x.stream ≡ Some s)
+      (of : y.stream ≡ Some s) (same : x.generation ≡ y.generation) where
     here : HasUseOver s (Some y.generation) (uses at)
     here = over_member s (Some y.generation) y (uses at) mine (band, of, refl)
-
-    there : HasUseOver s (Some y.generation) (uses (other_side at))
-    there = over_member s (Some y.generation) x (uses (other_side at)) theirs (their_band, their_of, ap (λ (n : ℕ). Some n) (sym same))
 
     roles : Roles (rtc_at at pair) (rtc_at (other_side at) pair)
     roles =
         pair_roles pair (reached_exchanged draws stun start past pair go ran (new_exchanged draws start new)) at
         (use_finished draws (stood at).stood.acts (uses at) (rtc_at at pair) (stood at).stood.side s y.generation here)
 
-    whole : IsWhole s y.generation (sent at s y.generation) y → sent at s y.generation ≡ y.sent
-    whole h = by (h band of refl)
-      where
-        by : (y.rolled_back ≡ false) ⊎ (sent at s y.generation ≡ y.sent) → sent at s y.generation ≡ y.sent
-        by (inl left) = pair_whole draws pair uses sent (λ z. told_over (plain_over draws) stun start z past pair ran) at told y mine band left s of
-        by (inr is) = is
+    whole : (y.rolled_back ≡ false) ⊎ (sent at s y.generation ≡ y.sent) → sent at s y.generation ≡ y.sent
+    whole (inl left) = pair_whole draws pair uses sent (λ z. told_over (plain_over draws) stun start z past pair ran) at told y mine band left s of
+    whole (inr is) = is
 
-    held : HeldAt s y.generation at pair.sdps (rtc_at at pair) (uses at) (uses (other_side at)) (sent at s y.generation) → sent at s y.generation ≡ y.sent
+    held : HeldAt s y.generation roles.own at pair.sdps (rtc_at at pair) (uses at) (uses (other_side at)) (sent at s y.generation)
+        → sent at s y.generation ≡ y.sent
     held (inl safe) =
-        whole (λ b o k. inl (all_member (SafeAt s y.generation at pair.sdps (rtc_at at pair)) (uses at) y safe.1 mine b o k).0)
-    held (inr (inl over)) = whole (all_member (IsWhole s y.generation (sent at s y.generation)) (uses at) y over.1 mine)
-    held (inr (inr alone)) = absurd (alone.1 there)
+        whole (inl (all_member (SafeAt s y.generation roles.own at pair.sdps (rtc_at at pair)) (uses at) y safe.1 mine band of refl (inr kind)).0)
+    held (inr (inl over)) =
+        whole (all_member (IsWhole s y.generation roles.own (sent at s y.generation)) (uses at) y over.1 mine band of refl (inr kind))
+    held (inr (inr alone)) =
+        absurd
+        (all_member (IsNoneOver s y.generation) (uses (other_side at)) x alone.2 theirs
+        (their_band, their_of, ap (λ (n : ℕ). Some n) (sym same)) their_kind)
 
     pub sent_whole : sent at s y.generation ≡ y.sent
-    sent_whole = by (s % 2 == parity_of roles.own) refl
-      where
-        by : (b : Bool) → (s % 2 == parity_of roles.own) ≡ b → sent at s y.generation ≡ y.sent
-        by true e =
-            held
-            (run_held draws stun start new none s y.generation at roles.own roles.other
-            (λ other. roles.apart (one_side roles.own roles.other (sym (eqb-true (s % 2) (parity_of roles.own) e) ∙ other))) past pair go ran steps
-            roles.own_is roles.other_is (λ z. free_at s z) (first_rowed draws s start new (other_side at))).0
-        by false e =
-            whole
-            (all_member (IsWhole s y.generation (sent at s y.generation)) (uses at) y
-            (run_whole draws stun start new none s y.generation roles.own (eqb-false (s % 2) (parity_of roles.own) e) past pair go ran steps at
-            roles.own_is)
-            mine)
+    sent_whole =
+        held
+        (run_held draws stun start new none s y.generation at roles.own roles.other
+        (λ own other. roles.apart (one_side roles.own roles.other (sym own ∙ other))) past pair go ran
+        roles.own_is roles.other_is (λ z. free_at s z))
 
   -- as the reader sees it
   module _ (at : Side) where
-    pub run_wrote : (x y : ChannelUse) → Member x (uses at) → Member y (uses (other_side at)) → x.in_band ≡ true → y.in_band ≡ true → (s : ℕ) → x.stream ≡ Some s
-        → y.stream ≡ Some s → x.generation ≡ y.generation → sent (other_side at) s x.generation ≡ y.sent
-    run_wrote x y mine theirs band their_band s of their_of same =
+    pub run_wrote : (x y : ChannelUse) → Member x (uses at) → Member y (uses (other_side at)) → x.in_band ≡ true → y.in_band ≡ true
+        → x.negotiated ≡ false → y.negotiated ≡ false → (s : ℕ) → x.stream ≡ Some s → y.stream ≡ Some s → x.generation ≡ y.generation
+        → sent (other_side at) s x.generation ≡ y.sent
+    run_wrote x y mine theirs band their_band kind their_kind s of their_of same =
         ap (λ (n : ℕ). sent (other_side at) s n) same
-        ∙ sent_whole (other_side at) x y (subst (λ (z : Side). Member x (uses z)) (sym (twice at)) mine) theirs band their_band s of their_of same
+        ∙ sent_whole (other_side at) x y (subst (λ (z : Side). Member x (uses z)) (sym (twice at)) mine) theirs band their_band kind their_kind s of their_of
+        same
 
     pub run_prefixes : ArePrefixes (uses at) (uses (other_side at))
-    run_prefixes = λ x y mine theirs band their_band one same.
+    run_prefixes = λ x y mine theirs band their_band kind their_kind one same.
         let t =
         use_opened (plain_over draws) (stood at).stood.side.written (stood at).stood.side.read (rtc_at at pair) x
         (all_member (InBandTold (plain_over draws) (stood at).stood.side.written (stood at).stood.side.read (rtc_at at pair)) (uses at) x
         (stood at).stood.side.told.each mine band) in
         subst (λ (l : List (Bool × List ℕ)). IsPrefix x.got l)
-        (run_wrote x y mine theirs band their_band t.stream t.stream_is (sym one ∙ t.stream_is) same)
+        (run_wrote x y mine theirs band their_band kind their_kind t.stream t.stream_is (sym one ∙ t.stream_is) same)
         (pair_handed_over draws pair uses sent (λ z. told_over (plain_over draws) stun start z past pair ran) at told x y mine theirs band their_band
         t.stream t.stream_is (sym one ∙ t.stream_is) same)
 
     pub run_all_got : AreAllGot (IsSideDrained at past) (uses at) (rtc_at at pair) (uses (other_side at)) (rtc_at (other_side at) pair)
-    run_all_got = λ x y mine theirs drained h acknowledged.
+    run_all_got = λ x y mine theirs drained h kind their_kind acknowledged.
         run_delivered_over draws stun start new past pair go ran at x y mine theirs drained h acknowledged
-        ∙ run_wrote x y mine theirs h.reader_in_band h.writer_in_band h.reader.stream h.reader.of (sym h.stream_is ∙ h.reader.of) h.generation_is
+        ∙ run_wrote x y mine theirs h.reader_in_band h.writer_in_band kind their_kind h.reader.stream h.reader.of (sym h.stream_is ∙ h.reader.of)
+        h.generation_is

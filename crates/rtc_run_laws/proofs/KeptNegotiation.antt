@@ -89,7 +89,7 @@ module _ {I D S M E X T W N : Type 0} (m : Meanings I D S M E X T W N) where
   -- dropping what was staged, and the connection, are no matter of streams
   lent_keep : (old new : PolledPeer I D S M N) → CallKeepsStreams m (with_core (lent old.core) old) [] (with_core new.core old)
       → CallKeepsStreams m old [] new
-  lent_keep old new h = record { uses = h.uses; lives = h.lives; numbers = h.numbers; gone = h.gone; closed = h.closed; running = h.running; given = h.given; fresh = h.fresh; changed = h.changed }
+  lent_keep old new h = record { uses = h.uses; lives = h.lives; numbers = h.numbers; gone = h.gone; closed = h.closed; running = h.running; given = h.given; fresh = h.fresh; holds = h.holds; changed = h.changed }
 
   same_keep : (old new : PolledPeer I D S M N) → new.core ≡ old.core → CallKeepsStreams m old [] new
   same_keep old new same = lent_keep old new (same_core old (lent old.core) old.core new.core same refl refl refl)
@@ -107,7 +107,7 @@ module _ {I D S M E X T W N : Type 0} (m : Meanings I D S M E X T W N) where
   -- a rollback may remove channels
   lent_leave : (old new : PolledPeer I D S M N) → CallLeavesStreams m (with_core (lent old.core) old) [] (with_core new.core old)
       → CallLeavesStreams m old [] new
-  lent_leave old new h = record { uses = h.uses; lives = h.lives; numbers = h.numbers; gone = h.gone; closed = h.closed; running = h.running; given = h.given; fresh = h.fresh }
+  lent_leave old new h = record { uses = h.uses; lives = h.lives; numbers = h.numbers; gone = h.gone; closed = h.closed; running = h.running; given = h.given; fresh = h.fresh; holds = h.holds }
 
   pub rollback_leaves : (t : ℕ) (token : Option PendingOffer) (old : PolledPeer I D S M N) (sdps : List Kept) (outcome : Outcome E)
       (table : Option Table) (new : PolledPeer I D S M N) (sdps' : List Kept) → StepRollsBack m t token old.core sdps outcome table new.core sdps'

@@ -139,6 +139,8 @@ mod BehindSides
 mod UsesPolled
 mod UsesOpened
 mod OpenedAnew
+mod OpenedThere
+mod OutSides
 mod SidesTold
 mod WholeUses
 mod WholePolled
@@ -207,28 +209,26 @@ pub mod OwnedRuns
 mod NumberedTokens
 mod OwnNegotiation
 mod OwnTokens
-mod ForeignUses
-mod ForeignRuns
+mod LostChannels
 mod SettledInBand
 mod StayingStreams
 mod NumberedRows
 mod SureNumbers
-mod FreshOpenings
 mod PolledUses
-mod RowedStreams
+mod ReadOpenings
+mod BegunOpenings
+mod LastOpenings
+mod UnsettledRows
 mod OpeningFacts
 mod OwnerPolls
-mod OtherSteps
 mod OwnerSteps
 mod UseWalks
-mod UsesBack
 mod ClosedUses
 mod RolesApart
 mod NoneAnnounced
 mod OwnerSides
 mod OwnerActs
 mod OwnerRuns
-mod ForeignClosed
 mod KeptInBand
 mod OwnerSettled
 pub mod OwnNumbers
@@ -238,10 +238,10 @@ pub mod ThereRuns
 pub mod PiecePairs
 pub mod AloneSides
 pub mod ConfirmedPairs
+pub mod StreamSteps
 pub mod BandedRows
 pub mod BandedMoments
 pub mod BandedInputs
-pub mod BandedChanges
 pub mod BandedNegotiation
 pub mod BandedAcceptances
 pub mod StepWalks
@@ -255,6 +255,7 @@ pub mod ClosingLevels
 pub mod SoundActs
 pub mod Silence
 pub mod GotStretches
+pub mod OutPairs
 pub mod SentUses
 pub mod SilentRuns
 pub mod HandsRuns
@@ -341,5 +342,4 @@ mod OutUses
 pub mod AnnouncedBands
 pub mod OutRuns
 pub mod SoundSteps
-mod OwnBands
 pub mod OwnBandRuns

@@ -23,9 +23,13 @@ some_is a b h = cc
 no_some : (s : ℕ) → None ≡ Some s → ⊥
 no_some s h = cc
 
--- a row has no stream, or one of this side, and none was settled for it by other means
+-- a row has no stream, or one of this side, unless it was settled for it by other means
 abbrev pub IsOwnRow : (c : Bool) → Channel → Type 0
-IsOwnRow c row = (row.negotiated ≡ None) × ((s : ℕ) → row.stream ≡ Some s → IsOfSide c s)
+IsOwnRow c row = (s : ℕ) → row.stream ≡ Some s → row.negotiated ≡ None → IsOfSide c s
+
+-- and the row is of a channel that was added with this config
+abbrev pub IsAddedRow : (c : Bool) → ChannelConfig → Channel → Type 0
+IsAddedRow c config row = (row.negotiated ≡ config.negotiated) × IsOwnRow c row
 
 -- so it is for each row of a number
 abbrev pub AreOwnOf : (c : Bool) → (number : ℕ) → List Channel → Type 0
@@ -35,15 +39,26 @@ AreOwnOf c n rows = AreRowsOf (IsOwnRow c) n rows
 abbrev pub IsOwnNumber : (c : Bool) → (number : ℕ) → Channels → Type 0
 IsOwnNumber c n held = IsNumberSo (IsOwnRow c) n held
 
-own_lasts : (c : Bool) → Lasts (IsOwnRow c) (λ client. client ≡ c)
-own_lasts c = record {
+-- the number and the rows of a channel that was added with a config
+abbrev pub IsAddedNumber : (c : Bool) → (number : ℕ) → ChannelConfig → Channels → Type 0
+IsAddedNumber c n config held = IsNumberSo (IsAddedRow c config) n held
+
+own_rows : (c : Bool) (config : ChannelConfig) (n : ℕ) (rows : List Channel) → AreRowsOf (IsAddedRow c config) n rows → AreOwnOf c n rows
+own_rows c config n [] h = tt
+own_rows c config n (row ∷ rows) h = ((λ is. (h.0 is).1), own_rows c config n rows h.1)
+
+pub added_own : (c : Bool) (n : ℕ) (config : ChannelConfig) (held : Channels) → IsAddedNumber c n config held → IsOwnNumber c n held
+added_own c n config held h = record { below = h.below; rows = own_rows c config n held.rows h.rows }
+
+added_lasts : (c : Bool) (added : ChannelConfig) → Lasts (IsAddedRow c added) (λ client. client ≡ c)
+added_lasts c added = record {
   opened = λ row own. own;
   confirmed = λ row config own. own;
   given = λ client t held channel row is e of own. (
     own.0,
-    λ s has.
+    λ s has none.
         subst (λ (k : ℕ). IsOfSide c k) (some_is t s has)
-        (sought_side c t held channel (subst (λ (b : Bool). sought_by (parity_of b) held channel ≡ Some t) is e) of.0),
+        (sought_side c t held channel (subst (λ (b : Bool). sought_by (parity_of b) held channel ≡ Some t) is e) (of.0 ∙ (sym own.0 ∙ none))),
   );
 }
 
@@ -57,31 +72,32 @@ own_side c m w = record {
       ∙ side (sym (started_same m a b (timed_start m w a.state now a wake (Ok tt) b wake' h)) ∙ started);
 }
 
-module _ (c : Bool) (n : ℕ) where
-  pub confirmed_own : (channels : List (ℕ × ChannelConfig)) (held : Channels) → IsOwnNumber c n held → IsOwnNumber c n (all_confirmed channels held)
-  confirmed_own channels held h = confirmed_so (IsOwnRow c) n (λ client. client ≡ c) (own_lasts c) channels held h
+module _ (c : Bool) (n : ℕ) (added : ChannelConfig) where
+  pub confirmed_added : (channels : List (ℕ × ChannelConfig)) (held : Channels) → IsAddedNumber c n added held
+      → IsAddedNumber c n added (all_confirmed channels held)
+  confirmed_added channels held h = confirmed_so (IsAddedRow c added) n (λ client. client ≡ c) (added_lasts c added) channels held h
 
-  pub cancelled_own : (channels : List (ℕ × ChannelConfig)) (held : Channels) → IsOwnNumber c n held → IsOwnNumber c n (all_cancelled channels held)
-  cancelled_own channels held h = cancelled_so (IsOwnRow c) n channels held h
+  pub cancelled_added : (channels : List (ℕ × ChannelConfig)) (held : Channels) → IsAddedNumber c n added held
+      → IsAddedNumber c n added (all_cancelled channels held)
+  cancelled_added channels held h = cancelled_so (IsAddedRow c added) n channels held h
 
   -- a channel is added, with another number than those before
-  not_below : (rows : List Channel) → AreBelow n rows → AreOwnOf c n rows
+  not_below : (rows : List Channel) → AreBelow n rows → AreRowsOf (IsAddedRow c added) n rows
   not_below [] below = tt
   not_below (row ∷ rows) below = ((λ is. absurd (let less = below.0 in omega (arith, less, is))), not_below rows below.1)
 
-  pub made_new : (held : Channels) (config : ChannelConfig) → held.given ≡ n → AreBelow held.given held.rows → config.negotiated ≡ None
-      → IsOwnNumber c n (with_channel held config)
-  made_new held config is below none = record {
+  pub made_new : (held : Channels) → held.given ≡ n → AreBelow held.given held.rows → IsAddedNumber c n added (with_channel held added)
+  made_new held is below = record {
     below = omega (arith, is);
     rows =
-        more_rows (IsOwnRow c) n held.rows (unconfirmed held.given config) (λ same. (none, λ s of. absurd (no_some s of)))
+        more_rows (IsAddedRow c added) n held.rows (unconfirmed held.given added) (λ same. (refl, λ s of none. absurd (no_some s of)))
         (not_below held.rows (subst (λ (k : ℕ). AreBelow k held.rows) is below));
   }
 
-  pub made_own : (held : Channels) (config : ChannelConfig) → IsOwnNumber c n held → IsOwnNumber c n (with_channel held config)
-  made_own held config h = more_so (IsOwnRow c) n held (unconfirmed held.given config) refl h
+  pub made_added : (held : Channels) (config : ChannelConfig) → IsAddedNumber c n added held → IsAddedNumber c n added (with_channel held config)
+  made_added held config h = more_so (IsAddedRow c added) n held (unconfirmed held.given config) refl h
 
-  pub changed_own : {S : Type 0} (m : AssociationMeaning S) (w : AssociationLaws m) (held : Channels) (a : SctpStreams S) (held' : Channels)
-      (b : SctpStreams S) → RowsChanged m held a held' b → HasSide m w c b → IsOwnNumber c n held → IsOwnNumber c n held'
-  changed_own m w held a held' b h side own =
-      changed_so (IsOwnRow c) n (λ client. client ≡ c) (own_lasts c) m (HasSide m w c) (own_side c m w) held a held' b h side own
+  pub changed_added : {S : Type 0} (m : AssociationMeaning S) (w : AssociationLaws m) (held : Channels) (a : SctpStreams S) (held' : Channels)
+      (b : SctpStreams S) → RowsChanged m held a held' b → HasSide m w c b → IsAddedNumber c n added held → IsAddedNumber c n added held'
+  changed_added m w held a held' b h side own =
+      changed_so (IsAddedRow c added) n (λ client. client ≡ c) (added_lasts c added) m (HasSide m w c) (own_side c m w) held a held' b h side own

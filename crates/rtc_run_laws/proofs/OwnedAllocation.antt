@@ -53,11 +53,11 @@ sought_side c t held channel is none = by channel.stream is
 abbrev settled_row : Channel → ℕ × Option ℕ
 settled_row row = (row.id, row.negotiated)
 
-abbrev settled_under : ℕ → List Channel → Option ℕ
+abbrev pub settled_under : ℕ → List Channel → Option ℕ
 settled_under id rows = stream_of_channel id (map settled_row rows)
 
 -- channels for which is settled what rows tell of them
-abbrev AreSettledAs : List Channel → List Channel → Type 0
+abbrev pub AreSettledAs : List Channel → List Channel → Type 0
 AreSettledAs [] rows = Unit {0}
 AreSettledAs (channel ∷ rest) rows = (settled_under channel.id rows ≡ channel.negotiated) × AreSettledAs rest rows
 
@@ -73,7 +73,7 @@ settled_more row (channel ∷ rest) rows least le h k = (
     passed true e = absurd (true≢false e)
     passed false e = k.0
 
-settled_all : (least : ℕ) (rows : List Channel) → AreRising least rows → AreSettledAs rows rows
+pub settled_all : (least : ℕ) (rows : List Channel) → AreRising least rows → AreSettledAs rows rows
 settled_all least [] h = tt
 settled_all least (row ∷ rows) h =
     (own (row.id == row.id) (grind arith), settled_more row rows rows (row.id + 1) (omega arith) h.1 (settled_all (row.id + 1) rows h.1))
@@ -91,7 +91,7 @@ settled_same id t other (row ∷ rows) = by (has_channel_id id row) (settled_sam
     by true rest = refl
     by false rest = ap (λ (o : Option ℕ). if row.id == other then row.negotiated else o) rest
 
-settled_given : (id t : ℕ) (channels rows : List Channel) → AreSettledAs channels rows → AreSettledAs channels (rows_given id t rows)
+pub settled_given : (id t : ℕ) (channels rows : List Channel) → AreSettledAs channels rows → AreSettledAs channels (rows_given id t rows)
 settled_given id t [] rows k = tt
 settled_given id t (channel ∷ rest) rows k = (settled_same id t channel.id rows ∙ k.0, settled_given id t rest rows k.1)
 

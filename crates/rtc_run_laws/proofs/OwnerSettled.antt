@@ -3,21 +3,16 @@
 use Rattle.std.proofs.Common.{◌≡◌, ◌∙◌, ◌⊎◌, inl, inr, ◌||◌, ◌∷◌, ℕ, Bool, true, false, true≢false, List, [], Option, Some, None, refl, sym, ap, subst, arith}
 use Rattle.std.proofs.lemmas.Bool.{eqb-true}
 use Rattle.rtc_parts.specs.Draws.{Draws}
-use Rattle.rtc_plain_dtls.specs.Contents.{DtlsContents}
-use Rattle.rtc_plain_ice.specs.Contents.{IceContents}
-use Rattle.rtc_plain_media.specs.MediaContents.{MediaContents}
 use Rattle.rtc_plain_media.specs.declared.plain_media_event.PlainMediaEvent.{PlainMediaEvent}
-use Rattle.rtc_assoc_state.specs.Contents.{Contents, generation_of, is_ending}
+use Rattle.rtc_assoc_state.specs.Contents.{generation_of, is_ending}
 use Rattle.rtc_assoc_state.specs.PlainMeaning.{plain_meaning}
 use Rattle.rtc_channels.specs.Ids.{parity_of}
-use Rattle.rtc_sctp.specs.Streams.{SctpStreams}
 use Rattle.rtc_sctp_entries.specs.declared.stream_entry.StreamEntry.{StreamEntry}
 use Rattle.rtc_sctp_entries.specs.declared.stream_entry_state.StreamEntryState.{StreamEntryState}
 use Rattle.rtc_sctp_entries.specs.declared.stream_entry_state.StreamEntryState.TheVariants.{AwaitOpen, AwaitConfig, AwaitDcepAck, Open, Closed as EntryClosed}
 use Rattle.rtc_sctp_entries.specs.Entries.{fits_generation, is_out_of_band}
 use Rattle.rtc_sctp_laws.specs.StreamMessages.{StreamMessage}
 use Rattle.rtc_sctp_laws.specs.StreamUses.{AreUsedIn, EntryUsed, HasOpenInBand, IsDcepInBand, IsIdleStream, IsUsedIn, any_dcep, entries_of, is_spent_stream, messages_for, messages_of}
-use Rattle.rtc_peer_core.specs.declared.peer.Peer.{Peer}
 use Rattle.rtc_peer_laws.specs.ChannelStreams.{AreNumbersGiven, IsUsedStream}
 use Rattle.rtc_peer_laws.specs.Drained.{IsHeard}
 use Rattle.rtc_run_history.specs.declared.side.Side.{Side}
@@ -29,18 +24,18 @@ use Rattle.rtc_run_history.specs.Runs.{Reached}
 use Rattle.rtc_run_history.specs.Sides.{other_side}
 use Rattle.rtc_run_laws.specs.ChannelUses.{ChannelUse}
 use Rattle.rtc_run_laws.specs.InBandSteps.{AreInBandSteps}
-use Rattle.rtc_run_laws.specs.NewPairs.{IsNewPair, IsNewPeer}
+use Rattle.rtc_run_laws.specs.NewPairs.{IsNewPair}
 use Rattle.rtc_run_laws.specs.OwnOpenings.{HasOpening, IsOfSide, IsOpeningState}
-use Rattle.rtc_run_laws.specs.PlainPairs.{PlainPair, PlainPolled, plain_over}
+use Rattle.rtc_run_laws.specs.PlainPairs.{PlainPair, plain_over}
 use Rattle.rtc_run_laws.specs.SentMessages.{sent_over}
 use Rattle.rtc_run_laws.specs.SettledPairs.{IsSettledPair, NoneRolledBack}
 use Rattle.rtc_run_laws.specs.ToldMessages.{told_over}
 use Rattle.rtc_run_laws.specs.UsesOfRuns.{uses_of}
 use Rattle.rtc_run_laws.proofs.AnnouncedStreams.{AnnouncedUnlessClosed, HasUseOver, found}
 use Rattle.rtc_run_laws.proofs.BandedRuns.{settled_in_band}
-use Rattle.rtc_run_laws.proofs.BandedUses.{IsInBandUse, run_in_band}
-use Rattle.rtc_run_laws.proofs.ForeignRuns.{none_rolled_back}
-use Rattle.rtc_run_laws.proofs.FreshOpenings.{has_entry}
+use Rattle.rtc_run_laws.proofs.BandedUses.{IsPlainUse, run_in_band}
+use Rattle.rtc_run_laws.proofs.NoneAnnounced.{AreNoneOver, IsNoneOver}
+use Rattle.rtc_run_laws.proofs.LastOpenings.{has_entry}
 use Rattle.rtc_run_laws.proofs.HeardOpenings.{EntryAmong, entry_among}
 use Rattle.rtc_run_laws.proofs.OpenSides.{not_closed}
 use Rattle.rtc_run_laws.proofs.OwnSides.{settled_own}
@@ -48,10 +43,10 @@ use Rattle.rtc_run_laws.proofs.OwnerRuns.{run_held}
 use Rattle.rtc_run_laws.proofs.OwnerSides.{HeldAt, SafeAt}
 use Rattle.rtc_run_laws.proofs.RoleSides.{role_at, settled_sides}
 use Rattle.rtc_run_laws.proofs.RolesApart.{HasAtMost}
-use Rattle.rtc_run_laws.proofs.RowedStreams.{NotFull, Rowed, reads_written, use_read}
+use Rattle.rtc_run_laws.proofs.ReadOpenings.{NotFull, reads_written, use_read}
 use Rattle.rtc_run_laws.proofs.RunsTold.{StoodIn, new_pair_told, reached_told, stood_in}
 use Rattle.rtc_run_laws.proofs.SettledRuns.{heard, settled_level}
-use Rattle.rtc_run_laws.proofs.UseLists.{all_member}
+use Rattle.rtc_run_laws.proofs.UseLists.{AllUses, all_member}
 use Rattle.rtc_run_laws.proofs.UsesTold.{UsedUnlessClosed}
 
 pub one_side : (a b : Bool) → parity_of a ≡ parity_of b → a ≡ b
@@ -62,20 +57,6 @@ one_side false false h = refl
 
 no_opening : (st : StreamEntryState) → st ≡ Open → st ≡ AwaitOpen → ⊥
 no_opening st h k = let e : Open ≡ AwaitOpen = sym h ∙ k in cc
-
-module _ {N : Type 0} (draws : Draws N) (s : ℕ) where
-  new_rowed : (p : PlainPolled N) → IsNewPeer draws p.core → Rowed draws s p
-  new_rowed p h = λ own k. absurd (subst (λ (l : List StreamEntry). HasOpenInBand s own l) entries k)
-    where
-      sctp : p.core.sctp ≡ h.built.sctp
-      sctp = ap (λ (x : Peer IceContents DtlsContents Contents MediaContents N). x.sctp) h.rest
-
-      entries : p.core.sctp.entries ≡ []
-      entries = ap (λ (x : SctpStreams Contents). x.entries) sctp ∙ ap (λ (x : SctpStreams Contents). x.entries) h.by_build.streams
-
-  pub first_rowed : (pair : PlainPair N) → IsNewPair draws pair → (at : Side) → Rowed draws s (rtc_at at pair)
-  first_rowed pair h Left = new_rowed pair.left h.left
-  first_rowed pair h Right = new_rowed pair.right h.right
 
 module _ {N : Type 0} (draws : Draws N) (stun : List ℕ → Bool) (start : PlainPair N) (past : List (Entry PlainMediaEvent)) (pair : PlainPair N)
     (go : are_native (steps_of past) ≡ true) (ran : Reached (plain_over draws) stun start past pair) (new : IsNewPair draws start) (none : start.sdps ≡ [])
@@ -197,45 +178,52 @@ module _ {N : Type 0} (draws : Draws N) (stun : List ℕ → Bool) (start : Plai
             h e.state refl
         by (e ∷ i ∷ l) is h = absurd h
 
-  -- so that none was rolled back over a stream of this side
-  owner_none : (at : Side) (s : ℕ) → IsOfSide (rtc_at at pair).core.sctp.client s → NoneRolledBack s (uses at) (rtc_at at pair)
-  owner_none at s own = λ x mine of generation.
-      by
-      (run_held draws stun start new none s (generation_of (rtc_at at pair).core.sctp.association s) at (rtc_at at pair).core.sctp.client
-      (rtc_at (other_side at) pair).core.sctp.client foreign past pair go ran steps (role at) (role (other_side at)) (λ y. free_at s y)
-      (first_rowed draws s start new (other_side at))).0
-      x mine of generation
-    where
-      foreign : IsOfSide (rtc_at (other_side at) pair).core.sctp.client s → ⊥
-      foreign theirs =
-          settled_sides draws stun start past pair go ran new settled at
-          (one_side (rtc_at (other_side at) pair).core.sctp.client (rtc_at at pair).core.sctp.client (sym theirs ∙ own))
+  -- so that none was rolled back
+  module _ (at : Side) (s : ℕ) where
+    abbrev own : Bool
+    own = (rtc_at at pair).core.sctp.client
 
-      some_is : (a b : Bool) → Some a ≡ Some b → a ≡ b
-      some_is a b e = cc
+    abbrev theirs : Bool
+    theirs = (rtc_at (other_side at) pair).core.sctp.client
 
-      role : (x : Side) → HasAtMost (rtc_at x pair).core.sctp.client (rtc_at x pair)
-      role x = λ k is. some_is k (rtc_at x pair).core.sctp.client (sym is ∙ role_at draws stun start past pair go ran new x (settled.peers x))
+    abbrev g : ℕ
+    g = generation_of (rtc_at at pair).core.sctp.association s
 
-      back : (x : Side) → HasUseOver s (Some (generation_of (rtc_at x pair).core.sctp.association s)) (uses x)
-          → HasUseOver s (Some (generation_of (rtc_at x pair).core.sctp.association s)) (uses (other_side (other_side x)))
-      back Left k = k
-      back Right k = k
+    plain : (x : Side) → AllUses IsPlainUse (uses x)
+    plain x = run_in_band draws stun start new none past pair go ran steps x
 
-      by : HeldAt s (generation_of (rtc_at at pair).core.sctp.association s) at pair.sdps (rtc_at at pair) (uses at) (uses (other_side at))
-          (sent_over (plain_over draws) stun start at past pair ran s (generation_of (rtc_at at pair).core.sctp.association s))
-          → NoneRolledBack s (uses at) (rtc_at at pair)
-      by (inl safe) = λ x mine of generation.
-          (all_member (SafeAt s (generation_of (rtc_at at pair).core.sctp.association s) at pair.sdps (rtc_at at pair)) (uses at) x safe.1 mine
-          (all_member IsInBandUse (uses at) x (run_in_band draws stun start new none past pair go ran steps at) mine) of generation).0
-      by (inr (inl over)) = absurd (not_closed draws (rtc_at at pair) (settled.peers at).alive over.0)
-      by (inr (inr bad)) =
-          absurd
-          (bad.1
-          (announced_too at s (generation_of (rtc_at at pair).core.sctp.association s)
-          (settled_level draws stun start past pair go ran new settled at s).generation_is foreign (back at bad.0)))
+    apart : IsOfSide own s → IsOfSide theirs s → ⊥
+    apart here there = settled_sides draws stun start past pair go ran new settled at (one_side theirs own (sym there ∙ here))
 
-  -- nor over one of the other side
-  pub none_rolled : (at : Side) (s : ℕ) → NoneRolledBack s (uses at) (rtc_at at pair)
-  none_rolled at s =
-      none_rolled_back draws stun start past pair go ran new none steps at s (settled.peers at) (λ own. owner_none at s own)
+    some_is : (a b : Bool) → Some a ≡ Some b → a ≡ b
+    some_is a b e = cc
+
+    role : (x : Side) → HasAtMost (rtc_at x pair).core.sctp.client (rtc_at x pair)
+    role x = λ k is. some_is k (rtc_at x pair).core.sctp.client (sym is ∙ role_at draws stun start past pair go ran new x (settled.peers x))
+
+    back : (x : Side) → HasUseOver s (Some g) (uses x) → HasUseOver s (Some g) (uses (other_side (other_side x)))
+    back Left k = k
+    back Right k = k
+
+    both : HasUseOver s (Some g) (uses (other_side at)) → AreNoneOver s g (uses (other_side at)) → ⊥
+    both over nothing =
+        let it = found s (Some g) (uses (other_side at)) over in
+        all_member (IsNoneOver s g) (uses (other_side at)) it.use_over nothing it.member it.is_over
+        (all_member IsPlainUse (uses (other_side at)) it.use_over (plain (other_side at)) it.member).1
+
+    held : HeldAt s g own at pair.sdps (rtc_at at pair) (uses at) (uses (other_side at)) (sent_over (plain_over draws) stun start at past pair ran s g)
+        → NoneRolledBack s (uses at) (rtc_at at pair)
+    held (inl safe) = λ x mine of generation.
+        let kind = all_member IsPlainUse (uses at) x (plain at) mine in
+        (all_member (SafeAt s g own at pair.sdps (rtc_at at pair)) (uses at) x safe.1 mine kind.0 of generation (inr kind.1)).0
+    held (inr (inl over)) = absurd (not_closed draws (rtc_at at pair) (settled.peers at).alive over.0)
+    held (inr (inr bad)) =
+        absurd
+        (both
+        (announced_too at s g (settled_level draws stun start past pair go ran new settled at s).generation_is (apart bad.0) (back at bad.1))
+        bad.2)
+
+    pub none_rolled : NoneRolledBack s (uses at) (rtc_at at pair)
+    none_rolled =
+        held
+        (run_held draws stun start new none s g at own theirs apart past pair go ran (role at) (role (other_side at)) (λ y. free_at s y))

@@ -77,7 +77,7 @@ module _ {N : Type 0} (draws : Draws N) (at : Side) (b : PeerActs) (q : PlainPol
       call_stood draws at packets packets' b q p next nothing_came (p.core.greatest ∷ []) (contents_shown answer) acts.wrote acts.heard uses
       (uses_answered (plain_over draws) answer next uses) sent sent told (told_answered (plain_over draws) answer next told) (none_carries (contents_sent (other_side at) packets)) shows acts.did
       (λ s g. nothing_sent (sent s g) (contents_of (messages_of s g acts.wrote)) (dcep_contents s g acts.wrote acts.dcep)) stood
-      (side_polled (plain_over draws) plain_laws plain_generations plain_named p answer next h acts uses stood.side.written stood.side.read stood.side.told)
+      (side_polled (plain_over draws) plain_laws plain_generations plain_named (plain_over_laws draws) p answer next h acts uses stood.side.written stood.side.read stood.side.told)
       (whole_polled (plain_over draws) plain_laws plain_generations p answer next h acts uses stood.side.written stood.side.read told stood.side.told stood.whole)
       (one_polled (plain_over draws) (plain_over_laws draws) plain_generations IsSoundEnd plain_reads p answer next h acts uses stood.side.written
       stood.side.read told stood.side.told

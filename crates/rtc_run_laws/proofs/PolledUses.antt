@@ -26,9 +26,6 @@ use Rattle.rtc_run_laws.specs.PlainPairs.{PlainPolled, plain_over}
 use Rattle.rtc_run_laws.specs.PollsOfRuns.{by_drain, by_drain_step, by_poll, by_poll_step, by_polls}
 use Rattle.rtc_run_laws.specs.ToldMessages.{MessagesTold, told_shown}
 use Rattle.rtc_run_laws.proofs.AnnouncedStreams.{uses_answered}
-use Rattle.rtc_run_laws.proofs.BandedInputs.{SideBanded}
-use Rattle.rtc_run_laws.proofs.BandedMoments.{IsBanded}
-use Rattle.rtc_run_laws.proofs.BandedSteps.{poll_band}
 use Rattle.rtc_run_laws.proofs.BegunRows.{AreSound}
 use Rattle.rtc_run_laws.proofs.OpenedRows.{changed_begun}
 use Rattle.rtc_run_laws.proofs.OwnedChanges.{IsOwned}
@@ -47,22 +44,16 @@ module _ {N : Type 0} (draws : Draws N) (at : Side) (b : PeerActs) (other : Plai
   pub record IsGood (p : PlainPolled N) : Type 0 where
     pub sound : AreSound p.core.channels p.core.sctp
     pub owned : IsOwned c p.core.channels p.core.sctp.entries
-    pub band : IsBanded p.core.channels p.core.sctp.entries
 
   pub good_polled : (p : PlainPolled N) (answer : Result (Output PlainMediaEvent) RtcError) (q : PlainPolled N) → PollsPeer (plain_over draws) p answer q
       → Lives q → IsGood p → IsGood q
-  good_polled p answer q h lives good =
-      by (poll_rows (plain_over draws) (plain_over_laws draws) p answer q h).changed
-      (poll_band (plain_over draws) (plain_over_laws draws) p answer q h (inr good.band))
+  good_polled p answer q h lives good = by (poll_rows (plain_over draws) (plain_over_laws draws) p answer q h).changed
     where
-      by : (q.core.phase ≡ Closed) ⊎ RowsChanged plain_meaning p.core.channels p.core.sctp q.core.channels q.core.sctp → SideBanded (plain_over draws) q
-          → IsGood q
-      by (inl closed) band = absurd (lives.lives closed)
-      by (inr changed) (inl closed) = absurd (lives.lives closed)
-      by (inr changed) (inr band) = record {
+      by : (q.core.phase ≡ Closed) ⊎ RowsChanged plain_meaning p.core.channels p.core.sctp q.core.channels q.core.sctp → IsGood q
+      by (inl closed) = absurd (lives.lives closed)
+      by (inr changed) = record {
         sound = (changed_begun plain_meaning plain_laws 0 p.core.channels p.core.sctp q.core.channels q.core.sctp changed).sound good.sound;
         owned = changed_owned plain_meaning plain_laws c p.core.channels p.core.sctp q.core.channels q.core.sctp changed lives.side good.sound good.owned;
-        band = band;
       }
 
   -- what each poll keeps

@@ -28,7 +28,7 @@ use Rattle.rtc_run_laws.proofs.FinishedSides.{read_finished}
 use Rattle.rtc_run_laws.proofs.OwnedRuns.{LivesOnSide}
 use Rattle.rtc_run_laws.proofs.RoleSides.{HasRole, run_role}
 use Rattle.rtc_run_laws.proofs.RoleStarts.{enters_role}
-use Rattle.rtc_run_laws.proofs.RowedStreams.{use_read}
+use Rattle.rtc_run_laws.proofs.ReadOpenings.{use_read}
 use Rattle.rtc_run_laws.proofs.StandingSides.{SideStood}
 use Rattle.rtc_run_laws.proofs.StepsExchange.{plain_over_laws}
 use Rattle.rtc_run_laws.proofs.UnusedPairs.{new_unstarted, new_unused}

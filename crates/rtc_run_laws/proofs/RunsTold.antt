@@ -116,6 +116,7 @@ module _ {N : Type 0} (draws : Draws N) where
         once = tt;
         announced = inr (λ s own k. absurd (subst (λ (es : List StreamEntry). HasOpenInBand s own es) entries k));
         behind = λ s g. inl refl;
+        out = tt;
       }
 
   pub new_pair_told : (pair : PlainPair N) → IsNewPair draws pair → PairTold pair (λ at. []) (λ at s g. []) (λ at c s g. [])

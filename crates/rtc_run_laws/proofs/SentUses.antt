@@ -60,7 +60,7 @@ is_open_entry AwaitConfig h = absurd (true≢false (sym h))
 is_open_entry AwaitDcepAck h = absurd (true≢false (sym h))
 is_open_entry EntryClosed h = absurd (true≢false (sym h))
 
-open_entry_of : (s : ℕ) (es : List StreamEntry) → AreBanded es → has_open s es ≡ true → OpenEntry s es
+open_entry_of : (s : ℕ) (es : List StreamEntry) → AreBanded s es → has_open s es ≡ true → OpenEntry s es
 open_entry_of s [] band h = absurd (true≢false (sym h))
 open_entry_of s (e ∷ es) band h = by (e.id == s) refl (is_open_state e.state) refl h (λ k. open_entry_of s es band.1 k)
   where
@@ -69,7 +69,7 @@ open_entry_of s (e ∷ es) band h = by (e.id == s) refl (is_open_state e.state) 
 
     by : (c : Bool) → (e.id == s) ≡ c → (d : Bool) → is_open_state e.state ≡ d → ((c && d) || has_open s es) ≡ true
         → (has_open s es ≡ true → OpenEntry s es) → OpenEntry s (e ∷ es)
-    by true f true g k rest = record { own = e.generation; has = inl (eqb-true e.id s f, (is_open_entry e.state g, refl, band.0)) }
+    by true f true g k rest = record { own = e.generation; has = inl (eqb-true e.id s f, (is_open_entry e.state g, refl, band.0 (eqb-true e.id s f))) }
     by true f false g k rest = later (rest k)
     by false f d g k rest = later (rest k)
 
@@ -125,7 +125,7 @@ module _ {N : Type 0} (draws : Draws N) (s : ℕ) (own : Option ℕ) where
 module _ {N : Type 0} (draws : Draws N) where
   -- the channel of a stream that is open was announced in the generation that the stream has, where a write to it is taken
   goes_over : (p next : PlainPolled N) (channel t : ℕ) (binary : Bool) (bytes : List ℕ) (uses : List ChannelUse) (written read : List StreamMessage)
-      → SideTold (plain_over draws) uses written read p → AreBanded p.core.sctp.entries → p.core.channels.given < 2 ^ 64 - 1
+      → SideTold (plain_over draws) uses written read p → AreBanded t p.core.sctp.entries → p.core.channels.given < 2 ^ 64 - 1
       → open_stream_under channel p ≡ Some t → WritesChannel (plain_over draws) t binary bytes p (Ok true) next
       → HasUseOver t (Some (generation_of p.core.sctp.association t)) uses
   goes_over p next channel t binary bytes uses written read told band left there writes = by_used told.used
@@ -192,10 +192,10 @@ module _ {N : Type 0} (draws : Draws N) where
           (λ k. over_sent s (Some g) channel (binary, bytes) uses k) h
 
   module _ (written read : List StreamMessage) (uses : List ChannelUse) (old : PlainPolled N) (told : SideTold (plain_over draws) uses written read old)
-      (banded : (old.core.phase ≡ Closed) ⊎ AreBanded old.core.sctp.entries) (left : old.core.channels.given < 2 ^ 64 - 1) (s g : ℕ)
+      (banded : (t : ℕ) → (old.core.phase ≡ Closed) ⊎ AreBanded t old.core.sctp.entries) (left : old.core.channels.given < 2 ^ 64 - 1) (s g : ℕ)
       (sent : List (Bool × List ℕ)) (h : IsSentOver s g sent uses) where
-    entries_banded : (channel t : ℕ) → open_stream_under channel old ≡ Some t → (old.core.phase ≡ Closed) ⊎ AreBanded old.core.sctp.entries
-        → AreBanded old.core.sctp.entries
+    entries_banded : (channel t : ℕ) → open_stream_under channel old ≡ Some t → (old.core.phase ≡ Closed) ⊎ AreBanded t old.core.sctp.entries
+        → AreBanded t old.core.sctp.entries
     entries_banded channel t there (inl closed) = absurd (open_free channel t old there closed)
     entries_banded channel t there (inr band) = band
 
@@ -208,7 +208,7 @@ module _ {N : Type 0} (draws : Draws N) where
     after_write channel (Some t) binary bytes Alloc None new there w = h
     after_write channel (Some t) binary bytes (Wrote true) (Some table) new there w =
         taken s g t channel binary bytes old sent uses
-        (goes_over old new channel t binary bytes uses written read told (entries_banded channel t there banded) left there w.0) h
+        (goes_over old new channel t binary bytes uses written read told (entries_banded channel t there (banded t)) left there w.0) h
     after_write channel (Some t) binary bytes (Wrote false) (Some table) new there w = h
     after_write channel (Some t) binary bytes (Refused error) (Some table) new there w = h
     after_write channel (Some t) binary bytes outcome table new there w = absurd w

@@ -8,7 +8,7 @@ use Rattle.rtc_sctp_laws.proofs.ContentLemmas.{dcep_are_named, dcep_contents}
 use Rattle.rtc_peer_core.specs.declared.phase.Phase.TheVariants.{Closed}
 use Rattle.rtc_peer_core.specs.declared.rtc_error.RtcError.{RtcError}
 use Rattle.rtc_peer_core.specs.declared.rtc_error.RtcError.TheVariants.{Alloc}
-use Rattle.rtc_peer_core.specs.Meanings.{Meanings}
+use Rattle.rtc_peer_core.specs.Meanings.{Meanings, PartsLaws}
 use Rattle.rtc_peer_transport.specs.ChannelCalls.{WritesChannel, stream_under}
 use Rattle.rtc_peer_transport.specs.declared.event.Event.TheVariants.{ChannelOpen, ChannelData}
 use Rattle.rtc_peer_transport.specs.declared.output.Output.{Output}
@@ -25,6 +25,7 @@ use Rattle.rtc_run_laws.specs.ChannelUses.{ChannelUse, announced_use, with_rolle
 use Rattle.rtc_run_laws.proofs.AnnouncedStreams.{AnnouncedUnlessClosed, announced_called, announced_left, announced_polled, over_answered, over_rolled, over_sent, uses_answered}
 use Rattle.rtc_run_laws.proofs.BehindSides.{AreBehind, behind_on, behind_wrote}
 use Rattle.rtc_run_laws.proofs.OpenedAnew.{once_got, once_more, once_rolled, once_sent, opening_other}
+use Rattle.rtc_run_laws.proofs.OutSides.{OutTold, called_out, out_polled, wrote_not}
 use Rattle.rtc_run_laws.proofs.RolledUses.{left_told, removed_told}
 use Rattle.rtc_run_laws.proofs.RowLemmas.{closed_stays}
 use Rattle.rtc_run_laws.proofs.UseLists.{AllUses, all_got, all_kept, all_more, all_rolled, all_sent, named_join}
@@ -42,6 +43,7 @@ module _ {I D S M E X T W N : Type 0} (m : Meanings I D S M E X T W N) where
     pub once : AreAnnouncedOnce uses
     pub announced : AnnouncedUnlessClosed m uses p
     pub behind : AreBehind m written uses p
+    pub out : AllUses (OutTold m written p) uses
 
   module _ (w : AssociationLaws m.association) (v : GenerationLaws m.association) where
     -- calls but polls
@@ -65,6 +67,9 @@ module _ {I D S M E X T W N : Type 0} (m : Meanings I D S M E X T W N) where
       once = h.once;
       announced = announced_called m p q [] uses uses keeps (λ s own k. k) h.announced;
       behind = behind_on m p q uses uses written [] keeps.given (λ s own k. k) (λ s g. refl) h.behind;
+      out =
+          all_kept (OutTold m written p) (OutTold m (written ++ []) q) uses
+          (λ x k. called_out m w v p q did.acts.association did.went.association keeps.holds written [] refl x k) h.out;
     }
 
     -- an offer is rolled back
@@ -93,6 +98,10 @@ module _ {I D S M E X T W N : Type 0} (m : Meanings I D S M E X T W N) where
       behind =
           behind_on m p q uses (with_rolled_back p.core.channels.rows q.core.channels.rows uses) written [] leaves.given
           (λ s own k. over_rolled s own p.core.channels.rows q.core.channels.rows uses k) (λ s g. refl) h.behind;
+      out =
+          all_rolled (OutTold m written p) (OutTold m (written ++ []) q) p.core.channels.rows q.core.channels.rows uses
+          (λ x lost k. called_out m w v p q did.acts.association did.went.association leaves.holds written [] refl x k)
+          (λ x left k. called_out m w v p q did.acts.association did.went.association leaves.holds written [] refl x k) h.out;
     }
 
     -- a message is written
@@ -116,6 +125,11 @@ module _ {I D S M E X T W N : Type 0} (m : Meanings I D S M E X T W N) where
       announced =
           announced_called m p q wrote uses (with_sent_message id (binary, bytes) uses) keeps (λ s own k. over_sent s own id (binary, bytes) uses k) h.announced;
       behind = behind_wrote m w v stream binary bytes p q writes uses written read id wrote is keeps.given free h.used h.announced h.behind;
+      out =
+          all_sent (OutTold m written p) (OutTold m (written ++ wrote) q) id (binary, bytes) uses
+          (λ x e k. called_out m w v p q did.acts.association did.went.association keeps.holds written wrote (wrote_not m w v stream _ binary bytes wrote is) x k)
+          (λ x e k. called_out m w v p q did.acts.association did.went.association keeps.holds written wrote (wrote_not m w v stream _ binary bytes wrote is) x k)
+          h.out;
     }
 
     -- polls
@@ -167,10 +181,10 @@ module _ {I D S M E X T W N : Type 0} (m : Meanings I D S M E X T W N) where
     once_polled p (Ok (outputs.Timeout moment)) q h acts uses written read told = told.once
     once_polled p (Err error) q h acts uses written read told = told.once
 
-    pub side_polled : NamesReadings m.association → (p : PolledPeer I D S M N) (answer : Result (Output E) RtcError) (q : PolledPeer I D S M N)
+    pub side_polled : NamesReadings m.association → PartsLaws m → (p : PolledPeer I D S M N) (answer : Result (Output E) RtcError) (q : PolledPeer I D S M N)
         (h : PollsPeer m p answer q) (acts : PollActs m p answer q) (uses : List ChannelUse) (written read : List StreamMessage)
         → SideTold uses written read p → SideTold (uses_answered m answer q uses) (written ++ acts.wrote) (read ++ acts.heard) q
-    side_polled names p answer q h acts uses written read told = record {
+    side_polled names laws p answer q h acts uses written read told = record {
       used =
           used_polled p answer q written read (written ++ acts.wrote) (read ++ acts.heard) h
           (λ s used. acts.streams.uses w v s written read used) told.used;
@@ -183,4 +197,5 @@ module _ {I D S M E X T W N : Type 0} (m : Meanings I D S M E X T W N) where
       behind =
           behind_on m p q uses (uses_answered m answer q uses) written acts.wrote acts.streams.given (λ s own k. over_answered m answer q uses s own k)
           (λ s g. dcep_contents s g acts.wrote acts.dcep) told.behind;
+      out = out_polled m w v laws p answer q h acts told.numbers written read told.used uses told.out;
     }

@@ -21,7 +21,7 @@ use Rattle.rtc_run_laws.specs.ToldMessages.{told_over}
 use Rattle.rtc_run_laws.specs.UsesOfRuns.{uses_acted, uses_of}
 use Rattle.rtc_run_laws.proofs.AnnouncedStreams.{HasUseOver, found}
 use Rattle.rtc_run_laws.proofs.BandedInputs.{SideBanded}
-use Rattle.rtc_run_laws.proofs.BandedRuns.{PairBanded, new_pair_banded, run_banded}
+use Rattle.rtc_run_laws.proofs.BandedRuns.{side_banded, steps_of_stream}
 use Rattle.rtc_run_laws.proofs.ConfirmedRuns.{last_rows}
 use Rattle.rtc_run_laws.proofs.NativeSteps.{native_entry}
 use Rattle.rtc_run_laws.proofs.RunsTold.{PairTold, new_pair_told, reached_told}
@@ -71,9 +71,9 @@ less_before : (n k : ℕ) → n ≤ k → k < 2 ^ 64 - 1 → n < 2 ^ 64 - 1
 less_before n k up left = omega (arith, up, left)
 
 module _ {N : Type 0} (draws : Draws N) where
-  entries_band : (p : PlainPolled N) → SideBanded (plain_over draws) p → (p.core.phase ≡ Closed) ⊎ AreBanded p.core.sctp.entries
-  entries_band p (inl closed) = inl closed
-  entries_band p (inr band) = inr band.entries
+  entries_band : (s : ℕ) (p : PlainPolled N) → SideBanded s (plain_over draws) p → (p.core.phase ≡ Closed) ⊎ AreBanded s p.core.sctp.entries
+  entries_band s p (inl closed) = inl closed
+  entries_band s p (inr band) = inr band.entries
 
   -- ---- runs
 
@@ -111,8 +111,8 @@ module _ {N : Type 0} (draws : Draws N) where
         told : PairTold draws ran.0 uses sent (λ x. told_over (plain_over draws) stun start x past ran.0 ran.1)
         told = reached_told draws stun start past ran.0 native.0 ran.1 (new_pair_told draws start new)
 
-        band : PairBanded (plain_over draws) (plain_over_laws draws) ran.0
-        band = run_banded (plain_over draws) (plain_over_laws draws) stun start past ran.0 native.0 ran.1 both.0 (new_pair_banded draws start new none)
+        band : (t : ℕ) → SideBanded t (plain_over draws) (rtc_at (side_of entry.step) ran.0)
+        band t = side_banded draws stun start new none past ran.0 native.0 ran.1 t (side_of entry.step) (steps_of_stream t (steps_of past) both.0)
 
         side : (x : Side) → (acts : PeerActs)
             × SideSent draws acts (uses x) (sent x) (told_over (plain_over draws) stun start x past ran.0 ran.1) (rtc_at x ran.0)
@@ -132,7 +132,7 @@ module _ {N : Type 0} (draws : Draws N) where
         acted h =
             let here = side (side_of entry.step) in
             after_step draws here.1.side.written here.1.side.read (uses (side_of entry.step)) (rtc_at (side_of entry.step) ran.0) here.1.side.told
-            (entries_band (rtc_at (side_of entry.step) ran.0) (band.sides (side_of entry.step))) (numbers_before entry past pair go ran numbers (side_of entry.step)) s g
+            (λ t. entries_band t (rtc_at (side_of entry.step) ran.0) (band t)) (numbers_before entry past pair go ran numbers (side_of entry.step)) s g
             (sent (side_of entry.step) s g) h
             stun (addr_at (other_side (side_of entry.step)) ran.0) (addr_at (side_of entry.step) ran.0) entry.step ran.0.sdps ran.0.packets entry.outcome entry.table
             (rtc_at (side_of entry.step) pair) pair.sdps pair.packets ran.2.performs.acts

@@ -31,17 +31,17 @@ abbrev pub NoneClosed : List StreamEntry → Type 0
 NoneClosed [] = Unit {0}
 NoneClosed (e ∷ es) = (e.state ≡ Closed → ⊥) × NoneClosed es
 
--- no stream was settled by other means than messages
-abbrev pub AreBanded : List StreamEntry → Type 0
-AreBanded [] = Unit {0}
-AreBanded (e ∷ es) = (is_out_of_band e ≡ false) × AreBanded es
+-- a stream was not settled by other means than messages
+abbrev pub AreBanded : (stream : ℕ) → List StreamEntry → Type 0
+AreBanded s [] = Unit {0}
+AreBanded s (e ∷ es) = (e.id ≡ s → is_out_of_band e ≡ false) × AreBanded s es
 
 -- entries that go on so: none is opened from here that was not before, and they stay in order
 pub record Kept (es es' : List StreamEntry) : Type 0 where
   pub stands : (s : ℕ) → HasStanding s es → HasStanding s es'
   pub outs : (s : ℕ) → HasOutStanding s es → HasOutStanding s es'
   pub shut : NoneClosed es → NoneClosed es'
-  pub banded : AreBanded es → AreBanded es'
+  pub banded : (s : ℕ) → AreBanded s es → AreBanded s es'
   pub openings : (s : ℕ) → HasOpening s es' → HasOpening s es
   pub ordered : Ascend es → Ascend es'
 
@@ -50,7 +50,7 @@ kept_is es es' is = record {
   stands = λ s h. subst (λ (l : List StreamEntry). HasStanding s l) (sym is) h;
   outs = λ s h. subst (λ (l : List StreamEntry). HasOutStanding s l) (sym is) h;
   shut = λ h. subst (λ (l : List StreamEntry). NoneClosed l) (sym is) h;
-  banded = λ h. subst (λ (l : List StreamEntry). AreBanded l) (sym is) h;
+  banded = λ s h. subst (λ (l : List StreamEntry). AreBanded s l) (sym is) h;
   openings = λ s h. subst (λ (l : List StreamEntry). HasOpening s l) is h;
   ordered = λ h. subst (λ (l : List StreamEntry). Ascend l) (sym is) h;
 }
@@ -60,7 +60,7 @@ kept_on es fs gs h k = record {
   stands = λ s x. k.stands s (h.stands s x);
   outs = λ s x. k.outs s (h.outs s x);
   shut = λ x. k.shut (h.shut x);
-  banded = λ x. k.banded (h.banded x);
+  banded = λ s x. k.banded s (h.banded s x);
   openings = λ s x. h.openings s (k.openings s x);
   ordered = λ x. k.ordered (h.ordered x);
 }
@@ -92,11 +92,14 @@ shut_set [] i e e' at k h = absurd (no_entry e at)
 shut_set (x ∷ xs) zero e e' at k h = (k.shut (subst (λ (y : StreamEntry). y.state ≡ Closed → ⊥) (same_Some x e at) h.0), h.1)
 shut_set (x ∷ xs) (suc i) e e' at k h = (h.0, shut_set xs i e e' at k h.1)
 
-banded_set : (es : List StreamEntry) (i : ℕ) (e e' : StreamEntry) → slice_get es i ≡ Some e → EntryKept e e' → AreBanded es
-    → AreBanded (slice_set es i e')
-banded_set [] i e e' at k h = absurd (no_entry e at)
-banded_set (x ∷ xs) zero e e' at k h = (k.band_is ∙ subst (λ (y : StreamEntry). is_out_of_band y ≡ false) (same_Some x e at) h.0, h.1)
-banded_set (x ∷ xs) (suc i) e e' at k h = (h.0, banded_set xs i e e' at k h.1)
+banded_set : (s : ℕ) (es : List StreamEntry) (i : ℕ) (e e' : StreamEntry) → slice_get es i ≡ Some e → EntryKept e e' → AreBanded s es
+    → AreBanded s (slice_set es i e')
+banded_set s [] i e e' at k h = absurd (no_entry e at)
+banded_set s (x ∷ xs) zero e e' at k h =
+    let was : e.id ≡ s → is_out_of_band e ≡ false =
+    subst (λ (y : StreamEntry). y.id ≡ s → is_out_of_band y ≡ false) (same_Some x e at) h.0 in
+    ((λ is. k.band_is ∙ was (sym k.id_is ∙ is)), h.1)
+banded_set s (x ∷ xs) (suc i) e e' at k h = (h.0, banded_set s xs i e e' at k h.1)
 
 openings_set : (s : ℕ) (es : List StreamEntry) (i : ℕ) (e e' : StreamEntry) → slice_get es i ≡ Some e → EntryKept e e'
     → HasOpening s (slice_set es i e') → HasOpening s es
@@ -113,7 +116,7 @@ kept_set es i e e' at k = record {
   stands = λ s h. has_set IsStanding s es i e e' at k.id_is k.stands h;
   outs = λ s h. has_set IsOutStanding s es i e e' at k.id_is (λ x. (k.stands x.0, k.band_is ∙ x.1)) h;
   shut = λ h. shut_set es i e e' at k h;
-  banded = λ h. banded_set es i e e' at k h;
+  banded = λ s h. banded_set s es i e e' at k h;
   openings = λ s h. openings_set s es i e e' at k h;
   ordered = λ h. ascend_set 0 es i e e' at k.id_is h;
 }
@@ -130,10 +133,10 @@ shut_between : (xs : List StreamEntry) (e : StreamEntry) (ys : List StreamEntry)
 shut_between [] e ys f h = (f, h)
 shut_between (x ∷ xs) e ys f h = (h.0, shut_between xs e ys f h.1)
 
-banded_between : (xs : List StreamEntry) (e : StreamEntry) (ys : List StreamEntry) → is_out_of_band e ≡ false → AreBanded (xs ++ ys)
-    → AreBanded (xs ++ e ∷ ys)
-banded_between [] e ys f h = (f, h)
-banded_between (x ∷ xs) e ys f h = (h.0, banded_between xs e ys f h.1)
+banded_between : (s : ℕ) (xs : List StreamEntry) (e : StreamEntry) (ys : List StreamEntry) → (e.id ≡ s → is_out_of_band e ≡ false)
+    → AreBanded s (xs ++ ys) → AreBanded s (xs ++ e ∷ ys)
+banded_between s [] e ys f h = (f, h)
+banded_between s (x ∷ xs) e ys f h = (h.0, banded_between s xs e ys f h.1)
 
 pub has_insert : (P : StreamEntry → Type 0) (s : ℕ) (es : List StreamEntry) (i : ℕ) (e : StreamEntry) → HasEntryOf P s es → HasEntryOf P s (insert es i e)
 has_insert P s es i e h =
@@ -146,9 +149,10 @@ pub shut_insert : (es : List StreamEntry) (i : ℕ) (e : StreamEntry) → (e.sta
 shut_insert es i e f h =
     shut_between (take i es) e (drop i es) f (subst (λ (l : List StreamEntry). NoneClosed l) (sym (take-append-drop i es)) h)
 
-pub banded_insert : (es : List StreamEntry) (i : ℕ) (e : StreamEntry) → is_out_of_band e ≡ false → AreBanded es → AreBanded (insert es i e)
-banded_insert es i e f h =
-    banded_between (take i es) e (drop i es) f (subst (λ (l : List StreamEntry). AreBanded l) (sym (take-append-drop i es)) h)
+pub banded_insert : (s : ℕ) (es : List StreamEntry) (i : ℕ) (e : StreamEntry) → (e.id ≡ s → is_out_of_band e ≡ false) → AreBanded s es
+    → AreBanded s (insert es i e)
+banded_insert s es i e f h =
+    banded_between s (take i es) e (drop i es) f (subst (λ (l : List StreamEntry). AreBanded s l) (sym (take-append-drop i es)) h)
 
 openings_between : (s : ℕ) (xs : List StreamEntry) (e : StreamEntry) (ys : List StreamEntry) → HasOpening s (xs ++ e ∷ ys)
     → HasOpening s (xs ++ ys) ⊎ ((e.id ≡ s) × IsOpeningState e.state)
@@ -211,11 +215,11 @@ shut_unclosed (x ∷ xs) = by (not (is_closed_state x.state)) refl (shut_unclose
     by true e k = (is_not_closed x.state e, k)
     by false e k = k
 
-banded_unclosed : (es : List StreamEntry) → AreBanded es → AreBanded (unclosed es)
-banded_unclosed [] h = tt
-banded_unclosed (x ∷ xs) h = by (not (is_closed_state x.state)) (banded_unclosed xs h.1)
+banded_unclosed : (s : ℕ) (es : List StreamEntry) → AreBanded s es → AreBanded s (unclosed es)
+banded_unclosed s [] h = tt
+banded_unclosed s (x ∷ xs) h = by (not (is_closed_state x.state)) (banded_unclosed s xs h.1)
   where
-    by : (b : Bool) → AreBanded (unclosed xs) → AreBanded (cond b (x ∷ unclosed xs) (unclosed xs))
+    by : (b : Bool) → AreBanded s (unclosed xs) → AreBanded s (cond b (x ∷ unclosed xs) (unclosed xs))
     by true k = (h.0, k)
     by false k = k
 
@@ -233,7 +237,7 @@ kept_unclosed es = record {
   stands = λ s h. has_unclosed IsStanding (λ e k. k.0) s es h;
   outs = λ s h. has_unclosed IsOutStanding (λ e k. k.0.0) s es h;
   shut = λ h. shut_unclosed es;
-  banded = λ h. banded_unclosed es h;
+  banded = λ s h. banded_unclosed s es h;
   openings = λ s h. openings_unclosed s es h;
   ordered = λ h. ascend_unclosed es h;
 }
@@ -253,7 +257,7 @@ kept_expected None id es at = record {
   stands = λ s h. stands_insert s es (new_place id es) (new_entry id AwaitConfig None) h;
   outs = λ s h. has_insert IsOutStanding s es (new_place id es) (new_entry id AwaitConfig None) h;
   shut = λ h. shut_insert es (new_place id es) (new_entry id AwaitConfig None) (λ c. config_closed c) h;
-  banded = λ h. banded_insert es (new_place id es) (new_entry id AwaitConfig None) refl h;
+  banded = λ s h. banded_insert s es (new_place id es) (new_entry id AwaitConfig None) (λ is. refl) h;
   openings = λ s h. by s (openings_insert s es (new_place id es) (new_entry id AwaitConfig None) h);
   ordered = λ h. ascend_with (new_entry id AwaitConfig None) es h (none_missing id es at);
 }

@@ -18,7 +18,7 @@ use Rattle.rtc_run_laws.proofs.StandingEntries.{AreBanded, HasOutStanding, HasSt
 pub record TourGoes (met : Met) (es es' : List StreamEntry) : Type 0 where
   pub stands : (s : ℕ) → HasStanding s es → HasStanding s es' ⊎ TellsStreamClosed met s
   pub outs : (s : ℕ) → HasOutStanding s es → HasOutStanding s es' ⊎ TellsStreamClosed met s
-  pub banded : AreBanded es → AreBanded es'
+  pub banded : (s : ℕ) → AreBanded s es → AreBanded s es'
   pub openings : (s : ℕ) → HasOpening s es' → HasOpening s es
   pub tells_open : (s : ℕ) → TellsStreamOpen met s → HasStanding s es'
   pub tells_closed : (s : ℕ) → TellsStreamClosed met s → HasEntryOf (λ e. Unit {0}) s es
@@ -48,7 +48,7 @@ stopped : (met : Met) (e e' : StreamEntry) (es : List StreamEntry) → Goes met 
 stopped met e e' es k = record {
   stands = λ s h. by IsStanding k.stands s h;
   outs = λ s h. by IsOutStanding (out_goes met e e' k) s h;
-  banded = λ h. (k.band_is ∙ h.0, h.1);
+  banded = λ s h. ((λ is. k.band_is ∙ h.0 (sym k.id_is ∙ is)), h.1);
   openings = λ s h. opened s h;
   tells_open = λ s told. inl (open_stands s e' (k.tells_open s told));
   tells_closed = λ s told. inl (sym k.id_is ∙ (k.tells_closed s told).0, tt);
@@ -78,7 +78,7 @@ went_on : (met : Met) (e e' : StreamEntry) (es tail : List StreamEntry) → Goes
 went_on met e e' es tail k rest = record {
   stands = λ s h. by IsStanding k.stands rest.stands s h;
   outs = λ s h. by IsOutStanding (out_goes Nothing e e' k) rest.outs s h;
-  banded = λ h. (k.band_is ∙ h.0, rest.banded h.1);
+  banded = λ s h. ((λ is. k.band_is ∙ h.0 (sym k.id_is ∙ is)), rest.banded s h.1);
   openings = λ s h. opened s h;
   tells_open = λ s told. inr (rest.tells_open s told);
   tells_closed = λ s told. inr (rest.tells_closed s told);
@@ -133,7 +133,7 @@ module _ {S : Type 0} (m : AssociationMeaning S) where
       (record {
         stands = λ s x. absurd x;
         outs = λ s x. absurd x;
-        banded = λ x. tt;
+        banded = λ s x. tt;
         openings = λ s x. absurd x;
         tells_open = λ s told. absurd told;
         tells_closed = λ s told. absurd told;

@@ -31,7 +31,7 @@ pub record StreamsGo {S : Type 0} (met : Met) (p q : SctpStreams S) : Type 0 whe
   pub stands : (s : ℕ) → HasStanding s p.entries → HasStanding s q.entries ⊎ TellsStreamClosed met s
   pub outs : (s : ℕ) → HasOutStanding s p.entries → HasOutStanding s q.entries ⊎ TellsStreamClosed met s
   pub before : IsShutBefore p → IsShutBefore q
-  pub banded : AreBanded p.entries → AreBanded q.entries
+  pub banded : (s : ℕ) → AreBanded s p.entries → AreBanded s q.entries
   pub openings : (s : ℕ) → HasOpening s q.entries → HasOpening s p.entries
   pub ordered : Ascend p.entries → Ascend q.entries
   pub tells_open : (s : ℕ) → TellsStreamOpen met s → HasStanding s q.entries
@@ -64,7 +64,7 @@ go_on own met p b q silent h k = record {
   stands = λ s x. by IsStanding k.stands s (h.stands s x);
   outs = λ s x. by IsOutStanding k.outs s (h.outs s x);
   before = λ x. k.before (h.before x);
-  banded = λ x. k.banded (h.banded x);
+  banded = λ s x. k.banded s (h.banded s x);
   openings = λ s x. h.openings s (k.openings s x);
   ordered = λ x. k.ordered (h.ordered x);
   tells_open = k.tells_open;

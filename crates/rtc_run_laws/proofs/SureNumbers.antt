@@ -9,7 +9,7 @@ use Rattle.rtc_channels.specs.Channels.{AreRising, has_channel, is_of_stream, nu
 use Rattle.rtc_channels.specs.Holds.{all_cancelled, cancelled_if, is_unconfirmed}
 use Rattle.rtc_peer_laws.specs.RowsChanged.{RowsChanged}
 use Rattle.rtc_peer_laws.proofs.ChannelsOver.{over_rows}
-use Rattle.rtc_run_laws.proofs.ForeignUses.{has_without}
+use Rattle.rtc_run_laws.proofs.LostChannels.{has_without}
 use Rattle.rtc_run_laws.proofs.NumberedRows.{AreRowsOf, IsNumberSo, KnowsSide, Lasts, cancelled_one, cancelled_so, changed_so}
 use Rattle.rtc_run_laws.proofs.OwnedRows.{HasOver}
 use Rattle.rtc_run_laws.proofs.RowLemmas.{own_stream}
@@ -98,7 +98,7 @@ over_none s (row ∷ rows) none n h = by (is_of_stream s row.stream) refl none h
     by false e k (inl here) rest = true≢false (sym (own_stream s row.stream here.1) ∙ e)
     by false e k (inr here) rest = rest k here
 
-has_none : (f : Option ℕ → Bool → Type 0) (s : ℕ) (rows : List Channel) → over_rows s rows ≡ None → HasOver f s rows → ⊥
+pub has_none : (f : Option ℕ → Bool → Type 0) (s : ℕ) (rows : List Channel) → over_rows s rows ≡ None → HasOver f s rows → ⊥
 has_none f s [] none h = h
 has_none f s (row ∷ rows) none h = by (is_of_stream s row.stream) refl none h (λ e k. has_none f s rows e k)
   where
@@ -108,7 +108,7 @@ has_none f s (row ∷ rows) none h = by (is_of_stream s row.stream) refl none h 
     by false e k (inl here) rest = true≢false (sym (own_stream s row.stream here.0) ∙ e)
     by false e k (inr here) rest = rest k here
 
-shared : (s : ℕ) (row : Channel) (rows : List Channel) → row.stream ≡ Some s → IsUnshared row.stream (map numbered_stream rows) → over_rows s rows ≡ None
+pub shared : (s : ℕ) (row : Channel) (rows : List Channel) → row.stream ≡ Some s → IsUnshared row.stream (map numbered_stream rows) → over_rows s rows ≡ None
 shared s row rows is apart = subst (λ (o : Option ℕ). IsUnshared o (map numbered_stream rows)) is apart
 
 -- the row of a channel that is found over a stream

@@ -9,7 +9,7 @@ use Rattle.rtc_run_laws.specs.UsesOfRuns.{uses_written}
 
 abbrev use_of : (channel stream : ℕ) → (sent got : List (Bool × List ℕ)) → ChannelUse
 use_of channel stream sent got =
-    record { channel = channel; stream = Some stream; generation = 0; in_band = true; sent = sent; got = got; rolled_back = false }
+    record { channel = channel; stream = Some stream; generation = 0; in_band = true; negotiated = false; sent = sent; got = got; rolled_back = false }
 
 -- two channels, of which one has sent a text
 abbrev worked : List ChannelUse

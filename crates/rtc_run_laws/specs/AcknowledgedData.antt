@@ -19,7 +19,6 @@ use Rattle.rtc_run_history.specs.Runs.{Runs}
 use Rattle.rtc_run_history.specs.Sides.{other_side}
 use Rattle.rtc_run_laws.specs.ChannelUses.{ChannelUse}
 use Rattle.rtc_run_laws.specs.Delivered.{AreDelivering, AreDeliveringKept}
-use Rattle.rtc_run_laws.specs.InBandSteps.{AreInBandSteps}
 use Rattle.rtc_run_laws.specs.PlainPairs.{PlainPair, PlainPolled, plain_over}
 use Rattle.rtc_run_laws.specs.SideDrains.{IsSideDrained}
 use Rattle.rtc_run_laws.specs.SentMessages.{sent_over}
@@ -88,7 +87,7 @@ AreDeliveredOverByAmount draws drained readers p writers q sent =
     → bytes_buffered (plain_over draws) h.writer.stream q ≡ 0
     → x.got ≡ sent h.reader.stream x.generation
 
--- The same of what was sent over the channel of the writer.
+-- The same of what was sent over the channel of the writer, if neither channel was negotiated out-of-band.
 abbrev pub AreAllByAmount : {N : Type 0} → Draws N → (drained : Type 0) → (readers : List ChannelUse) → PlainPolled N
     → (writers : List ChannelUse) → PlainPolled N → Type 0
 AreAllByAmount draws drained readers p writers q =
@@ -97,13 +96,15 @@ AreAllByAmount draws drained readers p writers q =
     → Member y writers
     → drained
     → (h : AreDelivering x p y q)
+    → x.negotiated ≡ false
+    → y.negotiated ≡ false
     → ends_with_bytes y.sent ≡ true
     → bytes_buffered (plain_over draws) h.writer.stream q ≡ 0
     → x.got ≡ y.sent
 
 -- What a buffered amount of 0 says at both sides behind a run by these steps with these replies: that the side's own data is acknowledged,
--- and that the other side got all of it. The last asks that no step added a channel that is negotiated out-of-band, that the pair kept no
--- session description before, and that channel numbers are left.
+-- and that the other side got all of it. The last asks that neither channel was negotiated out-of-band, that the pair kept no session
+-- description before, and that channel numbers are left.
 pub record AcknowledgesData {N : Type 0} (draws : Draws N) (stun : List ℕ → Bool) (start : PlainPair N) (steps : List Step)
     (replies : List (Reply PlainMediaEvent)) (pair : PlainPair N) (run : Runs (plain_over draws) stun start steps replies pair)
     : Type 0 where
@@ -121,8 +122,7 @@ pub record AcknowledgesData {N : Type 0} (draws : Draws N) (stun : List ℕ → 
       (uses_in_run (plain_over draws) stun start steps replies pair run (other_side at)) (rtc_at (other_side at) pair)
       (sent_over (plain_over draws) stun start (other_side at) run.past pair
       (reached_by (plain_over draws) stun start run.past pair run.went))
-  pub all_got : start.sdps ≡ [] → AreInBandSteps steps
-      → HaveNumbersLeft pair → (at : Side)
+  pub all_got : start.sdps ≡ [] → HaveNumbersLeft pair → (at : Side)
       → AreAllByAmount draws (IsSideDrained at run.past)
       (uses_in_run (plain_over draws) stun start steps replies pair run at) (rtc_at at pair)
       (uses_in_run (plain_over draws) stun start steps replies pair run (other_side at)) (rtc_at (other_side at) pair)

@@ -1,6 +1,7 @@
 -- The channels that polls announced, and what was sent and got over each.
 use Rattle.std.specs.Prelude.{ℕ, ◌==◌, ◌++◌, ◌&&◌, if◌then◌else◌, not, Bool, true, false, List, [], ◌∷◌, Option, Some, None, is_some}
-use Rattle.rtc_channels.specs.Channels.{Channel, has_channel}
+use Rattle.std.specs.List.{list_any}
+use Rattle.rtc_channels.specs.Channels.{Channel, has_channel, has_channel_id}
 use Rattle.rtc_sctp_entries.specs.Entries.{config_or_fresh}
 use Rattle.rtc_peer_transport.specs.ChannelCalls.{config_under, stream_under}
 use Rattle.rtc_peer_transport.specs.declared.event.Event.{Event}
@@ -10,17 +11,23 @@ use Rattle.rtc_peer_core.specs.Meanings.{Meanings}
 use Rattle.rtc_run_history.specs.declared.shown.Shown.{Shown}
 use Rattle.rtc_run_history.specs.declared.shown.Shown.TheVariants as shows
 
--- A channel that a poll announced: the stream of its row at the peer as that poll left it, the generation of the stream, and whether it
--- was opened in-band (RFC 8832, section 6). With it go the messages that were sent over the channel since, and those that were got, each
--- with whether it is binary; and whether a rollback removed the channel since.
+-- A channel that a poll announced: the stream of its row at the peer as that poll left it, the generation of the stream, whether it was
+-- opened in-band (RFC 8832, section 6), and whether a stream was negotiated out-of-band for it (RFC 8831, section 6.4). With it go the
+-- messages that were sent over the channel since, and those that were got, each with whether it is binary; and whether a rollback removed
+-- the channel since.
 pub record ChannelUse : Type 0 where
   pub channel : ℕ
   pub stream : Option ℕ
   pub generation : ℕ
   pub in_band : Bool
+  pub negotiated : Bool
   pub sent : List (Bool × List ℕ)
   pub got : List (Bool × List ℕ)
   pub rolled_back : Bool
+
+-- whether a stream was negotiated out-of-band for a channel
+abbrev pub is_negotiated : (channel : ℕ) → List Channel → Bool
+is_negotiated channel rows = list_any (λ row. has_channel_id channel row && is_some row.negotiated) rows
 
 -- whether a channel is among the rows before a step, and not among those behind it
 abbrev pub loses_channel : (channel : ℕ) → (before after : List Channel) → Bool
@@ -57,6 +64,7 @@ module _ {I D S M E X T W N : Type 0} (m : Meanings I D S M E X T W N) where
     stream = stream_under channel p.core.channels;
     generation = generation_under (stream_under channel p.core.channels) p;
     in_band = not (is_some (config_or_fresh (config_under (stream_under channel p.core.channels) p.core.sctp)).negotiated);
+    negotiated = is_negotiated channel p.core.channels.rows;
     sent = [];
     got = [];
     rolled_back = false;

@@ -56,7 +56,7 @@ AreAllDeliveredOver drained readers p writers q sent =
     → has_unacknowledged h.writer.stream q.core.sctp.association.outbox.items ≡ false
     → x.got ≡ sent h.reader.stream x.generation
 
--- The same of what was sent over the channel of the writer.
+-- The same of what was sent over the channel of the writer, if neither channel was negotiated out-of-band.
 abbrev pub AreAllGot : {N : Type 0} → (drained : Type 0) → (readers : List ChannelUse) → PlainPolled N → (writers : List ChannelUse)
     → PlainPolled N → Type 0
 AreAllGot drained readers p writers q =
@@ -65,5 +65,7 @@ AreAllGot drained readers p writers q =
     → Member y writers
     → drained
     → (h : AreDelivering x p y q)
+    → x.negotiated ≡ false
+    → y.negotiated ≡ false
     → has_unacknowledged h.writer.stream q.core.sctp.association.outbox.items ≡ false
     → x.got ≡ y.sent

@@ -34,7 +34,8 @@ IsHandedOut x y =
 abbrev pub AreHandedOut : (readers writers : List ChannelUse) → Type 0
 AreHandedOut readers writers = (x y : ChannelUse) → Member x readers → Member y writers → IsHandedOut x y
 
--- If two channels were opened in-band over one generation of one stream, what one got is a prefix of what was sent over the other.
+-- If two channels were opened in-band over one generation of one stream, and none was negotiated out-of-band for either, what one got is a
+-- prefix of what was sent over the other.
 abbrev pub ArePrefixes : (readers writers : List ChannelUse) → Type 0
 ArePrefixes readers writers =
     (x y : ChannelUse)
@@ -42,6 +43,8 @@ ArePrefixes readers writers =
     → Member y writers
     → x.in_band ≡ true
     → y.in_band ≡ true
+    → x.negotiated ≡ false
+    → y.negotiated ≡ false
     → x.stream ≡ y.stream
     → x.generation ≡ y.generation
     → IsPrefix x.got y.sent
@@ -135,8 +138,8 @@ AreWhollyHandedOut draws readers p writers q =
 
 -- What in-band channels hand out in a run by these steps with these replies. Each is announced once, and so is a generation (`once`). What
 -- one side received is a prefix of what the other side sent to the generation (`over`), and of what it sent over its own channel
--- (`prefixes`), if no step added a channel that is negotiated out-of-band, the pair kept no session description before, and channel numbers
--- are left; else unless that channel was rolled back (`handed`). It is all of it once delivered (`all_got`, `delivered`, `delivered_over`).
+-- (`prefixes`), if neither was negotiated out-of-band, the pair kept no session description before, and channel numbers are left; else
+-- unless that channel was rolled back (`handed`). It is all of it once delivered (`all_got`, `delivered`, `delivered_over`).
 -- While channel numbers are left, a channel received nothing if the other side announced none over its generation (`silent`).
 pub record HandsOut {N : Type 0} (draws : Draws N) (stun : List ℕ → Bool) (start : PlainPair N) (steps : List Step)
     (replies : List (Reply PlainMediaEvent)) (pair : PlainPair N) (run : Runs (plain_over draws) stun start steps replies pair)
@@ -180,12 +183,10 @@ pub record HandsOut {N : Type 0} (draws : Draws N) (stun : List ℕ → Bool) (s
       (uses_in_run (plain_over draws) stun start steps replies pair run (other_side at)) (rtc_at (other_side at) pair)
       (sent_over (plain_over draws) stun start (other_side at) run.past pair
       (reached_by (plain_over draws) stun start run.past pair run.went))
-  pub prefixes : start.sdps ≡ [] → AreInBandSteps steps
-      → HaveNumbersLeft pair → (at : Side)
+  pub prefixes : start.sdps ≡ [] → HaveNumbersLeft pair → (at : Side)
       → ArePrefixes (uses_in_run (plain_over draws) stun start steps replies pair run at)
       (uses_in_run (plain_over draws) stun start steps replies pair run (other_side at))
-  pub all_got : start.sdps ≡ [] → AreInBandSteps steps
-      → HaveNumbersLeft pair → (at : Side)
+  pub all_got : start.sdps ≡ [] → HaveNumbersLeft pair → (at : Side)
       → AreAllGot (IsSideDrained at run.past)
       (uses_in_run (plain_over draws) stun start steps replies pair run at) (rtc_at at pair)
       (uses_in_run (plain_over draws) stun start steps replies pair run (other_side at)) (rtc_at (other_side at) pair)

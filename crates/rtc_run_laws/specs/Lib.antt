@@ -17,6 +17,7 @@ pub mod RestingPasts
 pub mod InBandSteps
 pub mod SettledPairs
 pub mod HandedOut
+pub mod PastUses
 pub mod AcknowledgedData
 pub mod StreamCompletions
 pub mod Unannounced

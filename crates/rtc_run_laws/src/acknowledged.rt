@@ -11,7 +11,6 @@ ghost use Rattle.rtc_run_history.specs.Runs.{Reached, Runs};
 ghost use Rattle.rtc_run_history.specs.Sides.{other_side};
 ghost use Rattle.rtc_run_laws.specs.AcknowledgedData.{AcknowledgesData, AreAcknowledged, AreDeliveredByAmount};
 ghost use Rattle.rtc_run_laws.specs.AcknowledgedData.{AreAllByAmount, AreDeliveredOverByAmount};
-ghost use Rattle.rtc_run_laws.specs.InBandSteps.{AreInBandSteps};
 ghost use Rattle.rtc_run_laws.specs.SideDrains.{IsSideDrained};
 ghost use Rattle.rtc_run_laws.specs.NewPairs.{IsNewPair};
 ghost use Rattle.rtc_run_laws.specs.PlainPairs.{PlainPair, plain_over};
@@ -27,8 +26,8 @@ use rtc_parts::Ids;
 ///
 /// If, besides, the other side announced a channel over the same generation, which is open, a poll of it returned a timeout since its last
 /// input, and neither side closed the generation, it received all that the writer ever sent to the generation. That is what was sent over
-/// the writer's channel, if no step added a channel that is negotiated out-of-band, the pair kept no session description at its start, and
-/// channel numbers are left; else if no rollback removed it.
+/// the writer's channel, if neither channel was negotiated out-of-band, the pair kept no session description at its start, and channel
+/// numbers are left; else if no rollback removed it.
 ///
 /// No step brings in a text or bytes of anybody.
 pub fn sent_messages_are_acknowledged<N: Ids>()
@@ -49,8 +48,7 @@ pub fn sent_messages_are_acknowledged<N: Ids>()
         (sent_over (plain_over N.ids) stun start (other_side at) past pair ran) }
     ensures all_got { (stun : List ℕ → Bool) (start pair : PlainPair N) (past : List (Entry PlainMediaEvent)) → IsNewPair N.ids start
         → are_native (steps_of past) ≡ true
-        → start.sdps ≡ [] → (ran : Reached (plain_over N.ids) stun start past pair) → AreInBandSteps (steps_of past)
-        → HaveNumbersLeft pair → (at : Side)
+        → start.sdps ≡ [] → (ran : Reached (plain_over N.ids) stun start past pair) → HaveNumbersLeft pair → (at : Side)
         → AreAllByAmount N.ids (IsSideDrained at past) (uses_of (plain_over N.ids) stun start at past pair ran) (rtc_at at pair)
         (uses_of (plain_over N.ids) stun start (other_side at) past pair ran) (rtc_at (other_side at) pair) }
     ensures ran { (stun : List ℕ → Bool) (start pair : PlainPair N) (steps : List Step) (replies : List (Reply PlainMediaEvent))

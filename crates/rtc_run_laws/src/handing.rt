@@ -15,7 +15,6 @@ ghost use Rattle.rtc_run_laws.specs.AnnouncedOnce.{AreAnnouncedOnce};
 ghost use Rattle.rtc_run_laws.specs.Delivered.{AreAllDelivered, AreAllDeliveredOver, AreAllGot};
 ghost use Rattle.rtc_run_laws.specs.HandedOut.{AreAllHandedOut, AreHandedOut, AreHandedOver, AreSentFirst, AreSentWhole};
 ghost use Rattle.rtc_run_laws.specs.HandedOut.{ArePrefixes, AreToldInOne, AreToldWhole, AreWhollyHandedOut, HandsOut};
-ghost use Rattle.rtc_run_laws.specs.InBandSteps.{AreInBandSteps};
 ghost use Rattle.rtc_run_laws.specs.SideDrains.{IsSideDrained};
 ghost use Rattle.rtc_run_laws.specs.SentMessages.{sent_over};
 ghost use Rattle.rtc_run_laws.specs.ToldMessages.{told_over};
@@ -35,10 +34,10 @@ use rtc_parts::Ids;
 ///   reader is open and its side was drained: a poll of it returned a timeout since its last input.
 /// - So it is if both channels stay open, all is acknowledged, and the reader has no whole message of the generation unread.
 ///
-/// Rollbacks may occur, if no step adds a channel that is negotiated out-of-band, the pair kept no session description at its start, and
-/// channel numbers are left. Else a rollback can remove a channel whose stream was negotiated out-of-band and which the other side opened
-/// in-band meanwhile. Its stream stays open, and may be given to another channel: what was received is then a prefix, or all, of what the
-/// other side sent to that generation by whatever channel.
+/// Rollbacks may occur, if neither channel was negotiated out-of-band, the pair kept no session description at its start, and channel
+/// numbers are left. Else a rollback can remove a channel whose stream was negotiated out-of-band and which the other side opened in-band
+/// meanwhile. Its stream stays open, and may be given to another channel: what was received is then a prefix, or all, of what the other
+/// side sent to that generation by whatever channel.
 ///
 /// No step brings in a text or bytes of anybody.
 pub fn channels_hand_out_prefixes<N: Ids>()
@@ -91,14 +90,12 @@ pub fn channels_hand_out_prefixes<N: Ids>()
         (sent_over (plain_over N.ids) stun start (other_side at) past pair ran) }
     ensures prefixes { (stun : List ℕ → Bool) (start pair : PlainPair N) (past : List (Entry PlainMediaEvent)) → IsNewPair N.ids start
         → are_native (steps_of past) ≡ true
-        → start.sdps ≡ [] → (ran : Reached (plain_over N.ids) stun start past pair) → AreInBandSteps (steps_of past)
-        → HaveNumbersLeft pair → (at : Side)
+        → start.sdps ≡ [] → (ran : Reached (plain_over N.ids) stun start past pair) → HaveNumbersLeft pair → (at : Side)
         → ArePrefixes (uses_of (plain_over N.ids) stun start at past pair ran)
         (uses_of (plain_over N.ids) stun start (other_side at) past pair ran) }
     ensures all_got { (stun : List ℕ → Bool) (start pair : PlainPair N) (past : List (Entry PlainMediaEvent)) → IsNewPair N.ids start
         → are_native (steps_of past) ≡ true
-        → start.sdps ≡ [] → (ran : Reached (plain_over N.ids) stun start past pair) → AreInBandSteps (steps_of past)
-        → HaveNumbersLeft pair → (at : Side)
+        → start.sdps ≡ [] → (ran : Reached (plain_over N.ids) stun start past pair) → HaveNumbersLeft pair → (at : Side)
         → AreAllGot (IsSideDrained at past) (uses_of (plain_over N.ids) stun start at past pair ran) (rtc_at at pair)
         (uses_of (plain_over N.ids) stun start (other_side at) past pair ran) (rtc_at (other_side at) pair) }
     ensures ran { (stun : List ℕ → Bool) (start pair : PlainPair N) (steps : List Step) (replies : List (Reply PlainMediaEvent))

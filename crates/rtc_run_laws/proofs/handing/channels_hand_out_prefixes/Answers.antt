@@ -76,12 +76,12 @@ returns-clause-delivered_over g c = λ stun start pair past new go ran at.
     run_delivered_over g.N.Ids.ids stun start new past pair go ran at
 
 pub returns-clause-prefixes : goal.returns-clause-prefixes
-returns-clause-prefixes g c = λ stun start pair past new go none ran steps numbers at.
-    run_prefixes g.N.Ids.ids stun start new past pair go ran none steps numbers at
+returns-clause-prefixes g c = λ stun start pair past new go none ran numbers at.
+    run_prefixes g.N.Ids.ids stun start new past pair go ran none numbers at
 
 pub returns-clause-all_got : goal.returns-clause-all_got
-returns-clause-all_got g c = λ stun start pair past new go none ran steps numbers at.
-    run_all_got g.N.Ids.ids stun start new past pair go ran none steps numbers at
+returns-clause-all_got g c = λ stun start pair past new go none ran numbers at.
+    run_all_got g.N.Ids.ids stun start new past pair go ran none numbers at
 
 pub returns-clause-ran : goal.returns-clause-ran
 returns-clause-ran g c = λ stun start pair steps replies new go run. run_hands_out g.N.Ids.ids stun start pair steps replies new go run
