@@ -1,5 +1,5 @@
 -- That the hub hands on what it hears, in each run of a room.
-use Rattle.std.proofs.Common.{◌≡◌, ◌≢◌, ◌⊎◌, ◌∙◌, ◌++◌, inl, inr, ℕ, true, false, List, [], ◌∷◌, Option, Some, None, refl, sym, ap, subst, append-nil}
+use Rattle.std.proofs.Common.{◌≡◌, ◌≢◌, ◌⊎◌, ◌∙◌, ◌++◌, inl, inr, ℕ, Bool, true, false, List, [], ◌∷◌, Option, Some, None, refl, sym, ap, subst, append-nil}
 use Rattle.std.specs.Prelude.{slice_get}
 use Rattle.std.specs.declared.alloc.Global.{Global}
 use Rattle.rtc_parts.specs.Among.{Member}
@@ -21,6 +21,7 @@ use Rattle.rtc_run_laws.specs.Unannounced.{HaveNumbersLeft, IsAnnouncedOver}
 use Rattle.rtc_run_laws.specs.UsesOfRuns.{reached_by, uses_of}
 use Rattle.rtc_run_laws.proofs.BandedUses.{IsInBandUse}
 use Rattle.rtc_run_laws.proofs.GotStretches.{GotStretch, pair_stretch}
+use Rattle.rtc_run_laws.proofs.OutPairs.{pair_out}
 use Rattle.rtc_run_laws.proofs.OwnBandRuns.{run_own_in_band}
 use Rattle.rtc_run_laws.proofs.RestedRuns.{run_delivered_over}
 use Rattle.rtc_run_laws.proofs.RunsTold.{PairTold, new_pair_told, pair_handed_over, pair_whole, reached_told}
@@ -160,8 +161,19 @@ module _ (alloc : Global) (past : List RoomEntry) (room : RoomState) (went : Roo
         (run_own_in_band counting is_ice_message ran.start new ran.made.numbered.sdps Right own pair native reached steps) line.other
     in_band (inr band) = band
 
+    -- else its stream is past the generation
     y_band : y.in_band ≡ true
-    y_band = in_band line.other_in_band
+    y_band = by y.in_band refl
+      where
+        by : (b : Bool) → y.in_band ≡ b → y.in_band ≡ true
+        by true e = e
+        by false e =
+            let stream = has_stream x line.hub_end in
+            in_band
+            (line.other_in_band
+            (pair_out counting pair (λ at. uses_of plain_parts is_ice_message ran.start at own pair reached)
+            (λ at. sent_over plain_parts is_ice_message ran.start at own pair reached) (λ at. told_over plain_parts is_ice_message ran.start at own pair reached)
+            told Left x y (x_there x line.hub_end) (x_band x line.hub_end) line.other e stream.0 stream.1 (line.stream_is ∙ stream.1) line.generation_is))
 
     -- what the member got is a prefix of what was taken
     pub got_prefix : IsPrefix y.got (taken_messages own)

@@ -9,7 +9,6 @@ use Rattle.rtc_plain_ice.specs.Messages.{is_ice_message}
 use Rattle.rtc_plain_media.specs.declared.plain_media_event.PlainMediaEvent.{PlainMediaEvent}
 use Rattle.rtc_peer_transport.specs.ChannelCalls.{config_under, open_stream_under, stream_under}
 use Rattle.rtc_peer_transport.specs.Closing.{ClosesPeer}
-use Rattle.rtc_peer_transport.specs.declared.event.Event.{Event}
 use Rattle.rtc_peer_transport.specs.declared.event.Event.TheVariants.{ChannelOpen}
 use Rattle.rtc_peer_transport.specs.declared.input.Input.TheVariants as given
 use Rattle.rtc_peer_polling.specs.Inputs.{HandlesInput}
@@ -50,9 +49,6 @@ none_some c h = cc
 
 some_is : (a b : ℕ) → Some a ≡ Some b → a ≡ b
 some_is a b h = cc
-
-use_none : (x : ChannelUse) → None ≡ Some x → ⊥
-use_none x h = cc
 
 use_is : (x y : ChannelUse) → Some x ≡ Some y → x ≡ y
 use_is x y h = cc

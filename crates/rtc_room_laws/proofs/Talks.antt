@@ -41,14 +41,14 @@ use Rattle.rtc_room_laws.proofs.UntoldOutcomes.{answer_untold, calls_untold, clo
 
 -- a use by its channel and its messages alone
 abbrev pub blank : ChannelUse → ChannelUse
-blank x = record { channel = x.channel; stream = None; generation = 0; in_band = false; sent = x.sent; got = x.got; rolled_back = false }
+blank x = record { channel = x.channel; stream = None; generation = 0; in_band = false; negotiated = false; sent = x.sent; got = x.got; rolled_back = false }
 
 abbrev pub blanks : List ChannelUse → List ChannelUse
 blanks uses = map blank uses
 
 -- a channel that was just announced
 abbrev pub blank_new : ℕ → ChannelUse
-blank_new id = record { channel = id; stream = None; generation = 0; in_band = false; sent = []; got = []; rolled_back = false }
+blank_new id = record { channel = id; stream = None; generation = 0; in_band = false; negotiated = false; sent = []; got = []; rolled_back = false }
 
 -- ---- by entries alone
 

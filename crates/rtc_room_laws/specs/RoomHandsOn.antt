@@ -18,6 +18,7 @@ use Rattle.rtc_run_history.specs.declared.step.Step.{Step}
 use Rattle.rtc_run_laws.specs.ChannelUses.{ChannelUse}
 use Rattle.rtc_run_laws.specs.Delivered.{KeepsStream}
 use Rattle.rtc_run_laws.specs.InBandSteps.{AreInBandStepsAt}
+use Rattle.rtc_run_laws.specs.PastUses.{IsPastUse}
 use Rattle.rtc_run_laws.specs.PlainPairs.{PlainPolled}
 use Rattle.rtc_run_laws.specs.SentMessages.{sent_over}
 use Rattle.rtc_run_laws.specs.SideDrains.{IsSideDrained}
@@ -82,11 +83,13 @@ pub record IsHubEnd (line : Option ℕ) (hub : List ChannelUse) (x : ChannelUse)
   pub first : first_use channel hub ≡ Some x
 
 -- Its two ends: the hub's, and the channel of the same stream and generation that the member's own peer announced. That was opened in-band
--- too, as is each channel if no step of this peer added one that is negotiated out-of-band.
-pub record AreLineEnds (line : Option ℕ) (steps : List Step) (hub member : List ChannelUse) (x y : ChannelUse) : Type 0 where
+-- too. This is asked only if the stream is past the generation at the member's peer, which is `own`, and only if a step of this peer added
+-- a channel that is negotiated out-of-band.
+pub record AreLineEnds (line : Option ℕ) (steps : List Step) (hub member : List ChannelUse) (own : PlainPolled ℕ) (x y : ChannelUse)
+    : Type 0 where
   pub hub_end : IsHubEnd line hub x
   pub other : Member y member
-  pub other_in_band : AreInBandStepsAt Right steps ⊎ (y.in_band ≡ true)
+  pub other_in_band : IsPastUse y own → AreInBandStepsAt Right steps ⊎ (y.in_band ≡ true)
   pub stream_is : y.stream ≡ x.stream
   pub generation_is : y.generation ≡ x.generation
 
@@ -112,7 +115,8 @@ IsHubEndOf alloc k past pair ran line x = IsHubEnd line (uses_at alloc k past pa
 abbrev pub AreLineEndsOf : (alloc : Global) (k : ℕ) (past : List RoomEntry) (pair : PlainPairState) → MemberRan alloc k past pair
     → Option ℕ → (x y : ChannelUse) → Type 0
 AreLineEndsOf alloc k past pair ran line x y =
-    AreLineEnds line (steps_of (performed_of k past)) (uses_at alloc k past pair ran Left) (uses_at alloc k past pair ran Right) x y
+    AreLineEnds line (steps_of (performed_of k past)) (uses_at alloc k past pair ran Left) (uses_at alloc k past pair ran Right) pair.right
+    x y
 
 -- both peers have the stream of a line still, and neither closed it; the member's end is open
 pub record KeepsLine (y : ChannelUse) (q : PlainPolled ℕ) (x : ChannelUse) (p : PlainPolled ℕ) : Type 0 where
