@@ -1,14 +1,13 @@
 -- A run of a fresh pair goes on by a step that is performed.
-use Rattle.std.proofs.Common.{◌≡◌, ◌+◌, ◌<◌, ◌^◌, ◌++◌, ℕ, Bool, List, [], ◌∷◌, Option, refl, sym, ap, subst, arith}
+use Rattle.std.proofs.Common.{◌≡◌, ◌<◌, ◌^◌, ℕ, Bool, List, ◌∷◌, Option, refl}
 use Rattle.rtc_peer_core.specs.Meanings.{Meanings, PartsLaws}
 use Rattle.rtc_run_history.specs.declared.step.Step.{Step}
 use Rattle.rtc_run_history.specs.declared.outcome.Outcome.{Outcome}
 use Rattle.rtc_run_history.specs.declared.table.Table.{Table}
-use Rattle.rtc_run_history.specs.Past.{Entry, MadeSdp}
+use Rattle.rtc_run_history.specs.Past.{Entry}
 use Rattle.rtc_run_history.specs.PairState.{PairState}
-use Rattle.rtc_run_history.specs.Performs.{Performs, Enters, sdps_behind}
-use Rattle.rtc_run_history.specs.Runs.{Reached, Went, EntersSoundly}
-use Rattle.rtc_run_history.specs.Sizes.{step_size}
+use Rattle.rtc_run_history.specs.Performs.{Performs, Enters}
+use Rattle.rtc_run_history.specs.Runs.{Went, EntersSoundly}
 use Rattle.rtc_run_history.specs.Fresh.{IsFresh}
 use Rattle.rtc_run_laws.proofs.StanceSteps.{pair_stance}
 use Rattle.rtc_run_laws.proofs.StandingSteps.{performs_stands}
@@ -37,33 +36,6 @@ module _ {I D S M E X T W N : Type 0} (m : Meanings I D S M E X T W N) (stun : L
           parts_sound m stun laws old last new enters,
         ),
       )
-
-  grown : (old new : PairState I D S M N) (step : Step) (outcome : Outcome E) (table : Option Table) → Performs m stun old step outcome table new → new.size < 2 ^ 32 → old.size < 2 ^ 32
-  grown old new step outcome table performs small = let grows : new.size ≡ old.size + step_size step = performs.size in omega (arith, grows)
-
-  entry_is : (entry : Entry E) (made : List MadeSdp) → entry.made ≡ made
-      → record { step = entry.step; outcome = entry.outcome; table = entry.table; made = made } ≡ entry
-  entry_is entry made is = ap (λ (l : List MadeSdp). record { step = entry.step; outcome = entry.outcome; table = entry.table; made = l }) (sym is)
-
-  -- the same by an entry
-  pub went_entered : (start old new : PairState I D S M N) (past : List (Entry E)) (entry : Entry E) → IsFresh m start
-      → Went (EntersSoundly m stun start) (λ fresh. fresh ≡ start) past old → Enters m stun old entry new → new.size < 2 ^ 32
-      → Went (EntersSoundly m stun start) (λ fresh. fresh ≡ start) (entry ∷ past) new
-  went_entered start old new past entry fresh went enters small =
-      subst (λ (e : Entry E). Went (EntersSoundly m stun start) (λ fresh. fresh ≡ start) (e ∷ past) new)
-      (entry_is entry (sdps_behind old.sdps new.sdps) enters.made)
-      (went_more start old new past entry.step entry.outcome entry.table fresh went enters.performs small)
-
-  -- and by many
-  pub went_along : (start old new : PairState I D S M N) (past more : List (Entry E)) → IsFresh m start
-      → Went (EntersSoundly m stun start) (λ fresh. fresh ≡ start) past old → Reached m stun old more new → new.size < 2 ^ 32
-      → Went (EntersSoundly m stun start) (λ fresh. fresh ≡ start) (more ++ past) new
-  went_along start old new past [] fresh went ran small =
-      subst (λ (pair : PairState I D S M N). Went (EntersSoundly m stun start) (λ fresh. fresh ≡ start) past pair) (sym ran) went
-  went_along start old new past (entry ∷ more) fresh went ran small =
-      went_entered start ran.0 new (more ++ past) entry fresh
-      (went_along start old ran.0 past more fresh went ran.1 (grown ran.0 new entry.step entry.outcome entry.table ran.2.performs small))
-      ran.2 small
 
   pub goes_on : (old new : PairState I D S M N) (step : Step) (outcome : Outcome E) (table : Option Table) → Performs m stun old step outcome table new
       → new.size < 2 ^ 32 → ExtendsRun m stun old step outcome table new

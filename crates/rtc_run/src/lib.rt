@@ -8,6 +8,7 @@ mod pair;
 mod peer_settings;
 mod performing;
 mod plain_pair;
+mod program_peers;
 mod running;
 
 pub use laws::{faultless_descriptions_pass, faults_are_counted};
@@ -15,5 +16,6 @@ pub use numbered_pair::make_numbered_pair;
 pub use pair::Pair;
 pub use peer_settings::PeerSettings;
 pub use plain_pair::{PlainPair, PlainPeer, make_pair};
+pub use program_peers::{add_address, program_config};
 pub use rtc_run_steps::{deliver_answer, deliver_offer};
 pub use running::run_pair;

@@ -1,7 +1,6 @@
 //! The pair that scripts are performed on.
-ghost use Rattle.std.specs.Prelude.{◌≡◌, ◌≤◌, [], true, false, IfOk, OnOk, Ok, None, length};
+ghost use Rattle.std.specs.Prelude.{◌≡◌, ◌≤◌, [], true, false, IfOk, None, length};
 ghost use Rattle.rtc_plain_ice.specs.Contents.{fresh_ice};
-ghost use Rattle.rtc_plain_ice.specs.PlainMeaning.{plain_ice};
 ghost use Rattle.rtc_plain_dtls.specs.Contents.{fresh_dtls};
 ghost use Rattle.rtc_assoc_state.specs.Contents.{fresh_contents};
 ghost use Rattle.rtc_plain_media.specs.MediaContents.{fresh_media};
@@ -12,13 +11,14 @@ ghost use Rattle.rtc_peer_core.specs.Stance.{stance_of};
 ghost use Rattle.rtc_run_history.specs.Fresh.{ArePeersFormed};
 ghost use Rattle.rtc_run_history.specs.Fresh.{IsFresh, IsJustBuilt};
 ghost use Rattle.rtc_peer_transport.specs.Connection.{no_transport};
-ghost use Rattle.rtc_run.specs.ProgramPair.{plain_parts, host_at, program_config, IsProgramPeer, IsProgramPair};
+ghost use Rattle.rtc_run.specs.ProgramPair.{plain_parts, host_at, IsProgramPeer, IsProgramPair};
 
+use crate::program_peers::{add_address, program_config};
 use crate::{Pair, PeerSettings};
 use rtc_assoc_end::PlainAssociation;
-use rtc_peer::{Candidate, Rtc, RtcConfig};
+use rtc_peer::{Rtc, RtcConfig};
 use rtc_plain::{CountIds, PlainDtls, PlainIce, PlainMedia};
-use rtc_wire::{Addr, Moment, Protocol};
+use rtc_wire::{Addr, Moment};
 use std::alloc::{AllocError, Global};
 
 /// A peer over parts in memory, which draws numbers by counting up.
@@ -26,27 +26,6 @@ pub type PlainPeer = Rtc<PlainIce, PlainDtls, PlainAssociation, PlainMedia, Coun
 
 /// A pair of such peers.
 pub type PlainPair = Pair<PlainIce, PlainDtls, PlainAssociation, PlainMedia, CountIds>;
-
-#[tactic(auto, using(rtc_peer_core::proofs::BuiltPeers::formats_formed))]
-fn make_config(alloc: Global, settings: PeerSettings, name: &str) -> Result<RtcConfig, AllocError>
-    requires { length name.now ≤ 1900 }
-    ensures value { IfOk result (λ config. config ≡ program_config settings name.now) }
-    ensures formed { IfOk result (λ config. AreFormedFormats (config_formats config)) }
-{
-    let mut cert = Vec::new(alloc);
-    cert.extend_from_slice(name.as_bytes())?;
-    let config = RtcConfig::new(alloc)?;
-    Ok(
-        config
-            .set_ice_lite(settings.lite)
-            .set_dtls_cert(cert)
-            .set_snap_enabled(settings.snap)
-            .set_sctp_max_buffered_amount(settings.max_buffered)
-            .set_sctp_max_message_size(settings.max_message_size)
-            .set_stats_interval(settings.stats_interval)
-            .set_polite(settings.polite),
-    )
-}
 
 fn build_peer(alloc: Global, config: RtcConfig, first: u64) -> Result<PlainPeer, AllocError>
     ensures built { IfOk result (λ rtc. Builds plain_parts alloc config 0 fresh_ice fresh_dtls fresh_contents fresh_media first rtc.core) }
@@ -67,18 +46,6 @@ fn build_peer(alloc: Global, config: RtcConfig, first: u64) -> Result<PlainPeer,
     )
 }
 
-// Gives a peer its address, which a fresh agent takes.
-fn add_address(alloc: Global, rtc: &mut PlainPeer, addr: Addr) -> Result<(), AllocError>
-    requires { rtc.old.core.ice.settings.candidates ≡ [] }
-    ensures added { OnOk result (plain_ice.local_added rtc.old.core.ice (host_at addr) (Ok true) rtc.new.core.ice) }
-    ensures others { rtc.new.core ≡ record rtc.old.core { ice = rtc.new.core.ice } }
-    ensures connection { rtc.new.transport ≡ rtc.old.transport }
-{
-    let candidate = Candidate::host(alloc, addr, Protocol::Udp)?;
-    rtc.add_local_candidate(candidate)?;
-    Ok(())
-}
-
 /// A peer with the certificate `name` and an address, whose numbers count up from `first`.
 pub fn make_peer(
     alloc: Global,
@@ -94,7 +61,7 @@ pub fn make_peer(
     ensures unused { IfOk result (λ rtc. rtc.core.sctp.entries ≡ []) }
     ensures formed { IfOk result (λ rtc. IsHostCandidate (host_at addr) → IsFormed (stance_of plain_parts rtc.core)) }
 {
-    let config = make_config(alloc, settings, name)?;
+    let config = program_config(alloc, settings, name)?;
     let mut rtc = build_peer(alloc, config, first)?;
     add_address(alloc, &mut rtc, addr)?;
     Ok(rtc)

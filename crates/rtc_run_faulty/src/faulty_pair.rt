@@ -1,7 +1,6 @@
 //! The pair that is run over parts that fail.
-ghost use Rattle.std.specs.Prelude.{◌≡◌, ◌≤◌, [], true, false, IfOk, OnOk, Ok, None, length};
+ghost use Rattle.std.specs.Prelude.{◌≡◌, ◌≤◌, [], true, false, IfOk, None, length};
 ghost use Rattle.rtc_plain_ice.specs.Contents.{fresh_ice};
-ghost use Rattle.rtc_plain_ice.specs.PlainMeaning.{plain_ice};
 ghost use Rattle.rtc_peer_core.specs.Built.{Builds};
 ghost use Rattle.rtc_peer_core.specs.Formats.{config_formats, AreFormedFormats};
 ghost use Rattle.rtc_peer_core.specs.Formed.{IsFormed, IsHostCandidate};
@@ -9,17 +8,17 @@ ghost use Rattle.rtc_peer_core.specs.Stance.{stance_of};
 ghost use Rattle.rtc_peer_transport.specs.Connection.{no_transport};
 ghost use Rattle.rtc_run_history.specs.Fresh.{ArePeersFormed, IsFresh, IsJustBuilt};
 ghost use Rattle.rtc_run_laws.specs.Drains.{AreUndriven};
-ghost use Rattle.rtc_run.specs.ProgramPair.{host_at, program_config};
+ghost use Rattle.rtc_run.specs.ProgramPair.{host_at};
 ghost use Rattle.rtc_run_faulty.specs.FaultyParts.{faulty_parts, fresh_faulty_dtls, fresh_faulty_association, fresh_faulty_media};
 ghost use Rattle.rtc_run_faulty.specs.FaultyPairs.{IsFaultyPeer, IsFaultyPair};
 
 use crate::{CallWatch, FailingCalls, PartWatches};
 use rtc_assoc_end::PlainAssociation;
 use rtc_faulty::{Counted, Faulty};
-use rtc_peer::{Candidate, Rtc, RtcConfig};
+use rtc_peer::{Rtc, RtcConfig};
 use rtc_plain::{CountIds, PlainDtls, PlainIce, PlainMedia};
-use rtc_run::{Pair, PeerSettings};
-use rtc_wire::{Addr, Moment, Protocol, Seq};
+use rtc_run::{Pair, PeerSettings, add_address, program_config};
+use rtc_wire::{Addr, Moment, Seq};
 use std::alloc::{AllocError, Global};
 
 /// A DTLS part in memory that fails at listed calls. All of its calls are counted, and so are those that reach the part inside.
@@ -36,27 +35,6 @@ pub type FaultyPeer = Rtc<PlainIce, FaultyDtls, FaultyAssociation, FaultyMedia, 
 
 /// A pair of such peers.
 pub type FaultyPair = Pair<PlainIce, FaultyDtls, FaultyAssociation, FaultyMedia, CountIds>;
-
-#[tactic(auto, using(rtc_peer_core::proofs::BuiltPeers::formats_formed))]
-fn make_config(alloc: Global, settings: PeerSettings, cert: &str) -> Result<RtcConfig, AllocError>
-    requires { length cert.now ≤ 1900 }
-    ensures value { IfOk result (λ config. config ≡ program_config settings cert.now) }
-    ensures formed { IfOk result (λ config. AreFormedFormats (config_formats config)) }
-{
-    let mut bytes = Vec::new(alloc);
-    bytes.extend_from_slice(cert.as_bytes())?;
-    let config = RtcConfig::new(alloc)?;
-    Ok(
-        config
-            .set_ice_lite(settings.lite)
-            .set_dtls_cert(bytes)
-            .set_snap_enabled(settings.snap)
-            .set_sctp_max_buffered_amount(settings.max_buffered)
-            .set_sctp_max_message_size(settings.max_message_size)
-            .set_stats_interval(settings.stats_interval)
-            .set_polite(settings.polite),
-    )
-}
 
 fn count_dtls(alloc: Global, failing: Seq<u64>, watch: &CallWatch) -> Result<FaultyDtls, AllocError>
     ensures { IfOk result (λ part. part ≡ fresh_faulty_dtls failing) }
@@ -122,18 +100,6 @@ fn build_peer(
     )
 }
 
-// Gives a peer its address, which a fresh agent takes.
-fn add_address(alloc: Global, rtc: &mut FaultyPeer, addr: Addr) -> Result<(), AllocError>
-    requires { rtc.old.core.ice.settings.candidates ≡ [] }
-    ensures added { OnOk result (plain_ice.local_added rtc.old.core.ice (host_at addr) (Ok true) rtc.new.core.ice) }
-    ensures others { rtc.new.core ≡ record rtc.old.core { ice = rtc.new.core.ice } }
-    ensures connection { rtc.new.transport ≡ rtc.old.transport }
-{
-    let candidate = Candidate::host(alloc, addr, Protocol::Udp)?;
-    rtc.add_local_candidate(candidate)?;
-    Ok(())
-}
-
 // A peer with a certificate and an address, whose numbers count up from `first`, and whose parts fail at these calls.
 fn make_peer(
     alloc: Global,
@@ -151,7 +117,7 @@ fn make_peer(
     ensures unused { IfOk result (λ rtc. rtc.core.sctp.entries ≡ []) }
     ensures formed { IfOk result (λ rtc. IsHostCandidate (host_at addr) → IsFormed (stance_of faulty_parts rtc.core)) }
 {
-    let config = make_config(alloc, settings, cert)?;
+    let config = program_config(alloc, settings, cert)?;
     let mut rtc = build_peer(alloc, config, first, failing, watches)?;
     add_address(alloc, &mut rtc, addr)?;
     Ok(rtc)
