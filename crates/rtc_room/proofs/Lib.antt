@@ -5,3 +5,4 @@ pub mod RoomScripts
 pub mod SmallRoomScripts
 pub mod RoomCounts
 pub mod JoinWords
+mod CompletedRooms

@@ -1,7 +1,8 @@
 -- What the program does and returns.
-use Rattle.std.specs.Prelude.{◌≡◌, ℕ, List, codes, Option}
+use Rattle.std.specs.Prelude.{◌≡◌, ◌≤◌, ◌^◌, ◌⊎◌, ℕ, List, length, codes, Option, Some, None}
 use Rattle.std.specs.Io.KnownBytes.{Appends}
 use Rattle.std.specs.declared.alloc.Global.{Global}
+use Rattle.rtc_io.specs.Faults.{Rose}
 use Rattle.rtc_io.specs.Programs.{Program, ReadsInput}
 use Rattle.rtc_run.specs.ProgramPair.{PlainPairState}
 use Rattle.rtc_room_laws.specs.RoomRuns.{RoomRuns}
@@ -42,3 +43,13 @@ pub record RunsRoomScript (alloc : Global) (left left' written written' : Option
   pub steps : List RoomStep
   pub read : ReadsInput left left' (λ bytes. IsRoomScript bytes steps)
   pub writes : WritesReport alloc steps written written'
+
+-- what is left of the input is known to be a script that is not too long
+abbrev pub TellsRoomScript : Option (List ℕ) → Type 0
+TellsRoomScript None = ⊥
+TellsRoomScript (Some bytes) = (length bytes ≤ 2 ^ 20) × ((steps : List RoomStep) × IsRoomScript bytes steps)
+
+-- Its steps are taken, unless memory runs out, if neither the source nor the sink fails.
+abbrev pub CompletesRoom : Option (List ℕ) → (faults faults' taken taken' status : ℕ) → Type 0
+CompletesRoom left faults faults' taken taken' status =
+    TellsRoomScript left → (Rose faults faults' → ⊥) → (Rose taken taken' → ⊥) → (status ≡ 0) ⊎ (status ≡ 6)

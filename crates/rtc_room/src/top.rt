@@ -7,6 +7,7 @@ ghost use Rattle.rtc_io.specs.Programs.{IsDue, IsTooLong, RefusesInput, fault_li
 ghost use Rattle.rtc_room_laws.specs.RoomSizes.{room_size};
 ghost use Rattle.rtc_room.specs.Asking.{asks_to_run_room};
 ghost use Rattle.rtc_room.specs.Answers.{IsRoomReport, RunsRoomScript, WritesReport, room_program};
+ghost use Rattle.rtc_room.specs.Answers.{CompletesRoom};
 
 use crate::{RoomScriptError, ask_to_run, read_script, write_room_report};
 use rtc_io::{OUT_OF_MEMORY, Sink, Source, USAGE, read_input, refuse_input, say};
@@ -61,6 +62,8 @@ pub fn room_main<R: Source, W: Sink>(
     ensures unread { asks_to_run_room (map (λ word. string_bytes word) words.now) ≡ false → input.new ≡ input.old }
     ensures asked { asks_to_run_room (map (λ word. string_bytes word) words.now) ≡ false → (result ≡ 2) ⊎ (result ≡ 5) }
     ensures statuses { (result ≢ 1) × (result < 8) }
+    ensures complete { asks_to_run_room (map (λ word. string_bytes word) words.now) ≡ true → CompletesRoom (R.left input.old)
+        (R.faults input.old) (R.faults input.new) (W.faults output.old) (W.faults output.new) result }
 {
     if !ask_to_run(words) {
         return say(output, b"usage: rtc_room run\n", USAGE);
